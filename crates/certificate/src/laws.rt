@@ -17,7 +17,7 @@ pub fn read_back(alloc: Global, certificate: &Certificate) -> Result<Certificate
     ensures same { IfOk result (λ again. again.lines ≡ certificate.now.lines) }
     ensures refused { OnErr result (0 < length certificate.now.lines) }
 {
-    let _well_formed = certificate.len();
+    let _fact = certificate.len();
     let mut text = Vec::new(alloc);
     write(certificate, &mut text)?;
     match read(alloc, text.as_slice()) {

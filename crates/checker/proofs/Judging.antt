@@ -44,12 +44,12 @@ pub record IsReady (history : History) (before : List Line) (named : List Bool) 
   pub is_given : IsReplyOf history.events line given
 
 -- the machine gives the reply: the line passes
-pub Progress-line : (history : History) → IsHistory history → (before : List Line) (named : List Bool) (latest : ℕ) (old : State)
+pub Progress-line : (history : History) (before : List Line) (named : List Bool) (latest : ℕ) (old : State)
     → Progress history before named latest old → (line : Line) (called : ℕ) (command : Command) (given : Reply)
     → IsReady history before named line called command given → (flags : List Bool) (place : ℕ) (new : State)
     → Step old (cpu_named line) command given new → flags ≡ set named called true → place ≡ max latest called
     → Progress history (before ++ line ∷ []) flags place new
-Progress-line history is_history before named latest old progress line called command given ready flags place new step is_flags is_place =
+Progress-line history before named latest old progress line called command given ready flags place new step is_flags is_place =
     let follows : Follows history before old line called new = record {
       command = command;
       is_called = ready.is_called;
@@ -62,19 +62,19 @@ Progress-line history is_history before named latest old progress line called co
     } in
     subst (λ (fs : List Bool). Progress history (before ++ line ∷ []) fs place new) (sym is_flags)
     (subst (λ (p : ℕ). Progress history (before ++ line ∷ []) (set named called true) p new) (sym is_place)
-    (Progress-push history (HasOnePlaces-from_history history is_history) before named latest old line called new progress follows))
+    (Progress-push history (HasOnePlaces-from_history history progress.is_history) before named latest old line called new progress follows))
 
 -- the machine doesn't: the line fails by its reply
-pub FailsBy-line : (history : History) → IsHistory history → (before : List Line) (named : List Bool) (latest : ℕ) (old : State)
+pub FailsBy-line : (history : History) (before : List Line) (named : List Bool) (latest : ℕ) (old : State)
     → Progress history before named latest old → (line : Line) (called : ℕ) (command : Command) (given : Reply)
     → IsReady history before named line called command given → ((next : State) → ¬ Step old (cpu_named line) command given next)
     → FailsBy reason.Reply history.events before old line
-FailsBy-line history is_history before named latest old progress line called command given ready refuses = (
+FailsBy-line history before named latest old progress line called command given ready refuses = (
   (called, command, ready.is_called),
   progress.unflagged called (cpu_named line) (number_named line) command ready.is_called ready.unset,
   ready.kind,
   ready.in_time,
-  IsRefused-from_step history.events (HasOnePlaces-from_history history is_history) old line called command given ready.is_called ready.is_given refuses,
+  IsRefused-from_step history.events (HasOnePlaces-from_history history progress.is_history) old line called command given ready.is_called ready.is_given refuses,
 )
 
 -- the flag that was read isn't set
@@ -82,16 +82,16 @@ unset_flag : (named : List Bool) (called : ℕ) (flag : Bool) → flag ≡ get_o
 unset_flag named called flag is_read unset = sym (subst (λ (b : Bool). b ≡ get_or named called b) unset is_read)
 
 -- a kept line of a finished call
-pub IsDue-kept : (replay : Replay) (history : History) → IsHistory history → (cpu number called : ℕ) (flag : Bool) (returned : ℕ) (told : Reply)
+pub IsDue-kept : (replay : Replay) (history : History) (cpu number called : ℕ) (flag : Bool) (returned : ℕ) (told : Reply)
     → (command : Command) × IsCalled history.events called cpu number command → flag ≡ get_or replay.named.items called flag → flag ≡ false
     → IsReturned history.events returned cpu number told → replay.latest ≤ returned
     → IsDue replay history (Keep cpu number) cpu called told
-IsDue-kept replay history is_history cpu number called flag returned told is_called is_read unset is_returned late = record {
+IsDue-kept replay history cpu number called flag returned told is_called is_read unset is_returned late = record {
   of_cpu = refl;
   is_called = is_called;
   unset = unset_flag replay.named.items called flag is_read unset;
   kind = (returned, told, is_returned);
-  in_time = λ before progress. not-IsTooLate-from_latest history (HasOnePlaces-from_history history is_history) before _ _ _ (Keep cpu number) returned told
+  in_time = λ before progress. not-IsTooLate-from_latest history (HasOnePlaces-from_history history progress.is_history) before _ _ _ (Keep cpu number) returned told
       progress is_returned late;
   is_given = (returned, is_returned);
 }

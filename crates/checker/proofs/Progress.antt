@@ -9,7 +9,7 @@ use Rattle.rmm_spec.specs.declared.event.Event.{Event}
 use Rattle.rmm_spec.specs.declared.event.Event.TheVariants.{Called}
 use Rattle.rmm_spec.specs.declared.line.Line.{Line}
 use Rattle.rmm_spec.specs.declared.reply.Reply.{Reply}
-use Rattle.rmm_spec.specs.HistoryText.{History}
+use Rattle.rmm_spec.specs.HistoryText.{History, IsHistory}
 use Rattle.rmm_spec.specs.State.{State, opening}
 use Rattle.rmm_spec.specs.Step.{Step}
 use Rattle.rmm_spec.specs.Run.{JournalEntry}
@@ -47,9 +47,10 @@ Passes-nil history = record {
   run = record { claimed = tt; run = refl };
 }
 
-pub Progress-nil : (history : History) (named : List Bool) → length named ≡ length history.events
+pub Progress-nil : (history : History) (named : List Bool) → IsHistory history → length named ≡ length history.events
     → ((place : ℕ) → get_or named place false ≡ false) → Progress history [] named 0 (opening history.config)
-Progress-nil history named counted unset = record {
+Progress-nil history named is_history counted unset = record {
+  is_history = is_history;
   passes = Passes-nil history;
   counted = counted;
   flagged = λ place cpu number command is set. absurd (both_ways _ (unset place) set);
@@ -202,6 +203,7 @@ module _ (history : History) (one : HasOnePlaces history.events) (lines : List L
   pub Progress-push : Progress history lines named latest old → Follows history lines old line called new
       → Progress history (lines ++ line ∷ []) (set named called true) (max latest called) new
   Progress-push progress follows = record {
+    is_history = progress.is_history;
     passes = Passes-push history lines old line called new progress.passes follows;
     counted = length-set named called true ∙ progress.counted;
     flagged = flagged_push progress follows;

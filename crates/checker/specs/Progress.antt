@@ -3,7 +3,7 @@ use Rattle.std.specs.Prelude.{◌≡◌, ℕ, ◌<◌, ◌≤◌, Bool, true, fa
 use Rattle.rmm_spec.specs.declared.command.Command.{Command}
 use Rattle.rmm_spec.specs.declared.event.Event.{Event}
 use Rattle.rmm_spec.specs.declared.line.Line.{Line}
-use Rattle.rmm_spec.specs.HistoryText.{History}
+use Rattle.rmm_spec.specs.HistoryText.{History, IsHistory}
 use Rattle.rmm_spec.specs.State.{State}
 use Rattle.rmm_spec.specs.Linearization.{IsCalled, IsFinished, IsNamed, cpu_named, number_named}
 use Rattle.rmm_spec.specs.FirstFault.{Passes}
@@ -16,6 +16,7 @@ IsCallOf events lines place =
 -- The lines pass and lead to the state. A flag at each call's place says whether a line names the call, and
 -- no line's call was made later than latest, which is the place of one of them, or 0 where there is none.
 pub record Progress (history : History) (lines : List Line) (named : List Bool) (latest : ℕ) (state : State) : Type 0 where
+  pub is_history : IsHistory history
   pub passes : Passes history lines state
   pub counted : length named ≡ length history.events
   pub flagged : (place cpu number : ℕ) (command : Command) → IsCalled history.events place cpu number command

@@ -42,7 +42,6 @@ pub(crate) fn judge_line(
     if failed.is_some() {
         return Ok(());
     }
-    history.well_formed();
     if let Some(reason) = replay.take_line(history, line)? {
         *failed = Some(Failure { step, reason });
     }
@@ -86,7 +85,6 @@ pub(crate) fn verdict_on(
     ensures offers { (order : List Line) → lines ≡ length order → AreJudged replay.now failed history.now.recorded order
         → AreOffersFor result replay.now.machine.offers }
 {
-    history.well_formed();
     match failed {
         Some(Failure { step, reason }) => Verdict::No { step, reason },
         None => verdict_at_end(replay, history, lines),

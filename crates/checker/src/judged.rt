@@ -29,7 +29,6 @@ pub fn judged_order(
     ensures judged { IfOk result (λ judged. JudgesOrder judged.verdict history.now.recorded certificate.now.lines) }
     ensures left { IfOk result (λ judged. IsLeftBy judged.verdict history.now.recorded certificate.now.lines (state_of judged.machine)) }
 {
-    history.well_formed();
     let mut replay = Replay::new(alloc, history)?;
     let verdict = judge_order(&mut replay, history, certificate)?;
     let Replay { machine, .. } = replay;

@@ -2,7 +2,6 @@
 
 ghost use Rattle.std.specs.Prelude.{◌≡◌, ◌≤◌, List, [], length, IfOk, OnErr};
 ghost use Rattle.rmm_spec.specs.declared.line.Line.{Line};
-ghost use Rattle.rmm_spec.specs.HistoryText.{IsHistory};
 ghost use Rattle.rmm_spec.specs.Judgement.{JudgesOrder};
 ghost use Rattle.spec_machine.specs.View.{state_of};
 ghost use Rattle.checker.specs.Judged.{IsLeftBy};
@@ -22,7 +21,6 @@ pub(crate) fn judge_order(
     history: &History,
     certificate: &Certificate,
 ) -> Result<Verdict, AllocError>
-    requires is_history { IsHistory history.now.recorded }
     requires fresh { IsReplayOf replay.old history.now.recorded [] }
     ensures judged { IfOk result (λ verdict. JudgesOrder verdict history.now.recorded certificate.now.lines) }
     ensures left { IfOk result (λ verdict. IsLeftBy verdict history.now.recorded certificate.now.lines (state_of replay.new.machine)) }
@@ -42,7 +40,6 @@ pub(crate) fn judge_order(
 
 /// The verdict on so many lines, which are all replayed.
 pub(crate) fn verdict_at_end(replay: &Replay, history: &History, lines: usize) -> Verdict
-    requires is_history { IsHistory history.now.recorded }
     requires counted { length replay.now.named.items ≡ length history.now.recorded.events }
     requires few { lines ≤ MOST_LINES }
     ensures judged { (order : List Line) → lines ≡ length order → IsReplayOf replay.now history.now.recorded order

@@ -7,7 +7,6 @@ ghost use Rattle.rmm_spec.specs.declared.line.Line.{Line};
 ghost use Rattle.rmi_view.specs.Seen.{command_seen, reply_seen};
 ghost use Rattle.certificate.specs.LineRef.{line_seen};
 ghost use Rattle.history.specs.Calls.{ArePlacesOf};
-ghost use Rattle.rmm_spec.specs.HistoryText.{IsHistory};
 ghost use Rattle.rmm_spec.specs.State.{State};
 ghost use Rattle.rmm_spec.specs.Step.{Step};
 ghost use Rattle.rmm_spec.specs.Linearization.{IsCalled, NamesCall, cpu_named, number_named};
@@ -41,6 +40,7 @@ impl Replay {
         ensures replay { IfOk result (λ replay. IsReplayOf replay history.now.recorded []) }
         ensures offers { IfOk result (λ replay. replay.machine.offers ≡ 0) }
     {
+        let _fact = history.well_formed();
         let machine = Machine::new(alloc, history.config())?;
         let named = vec![in alloc; false; history.len()]?;
         Ok(Replay {
@@ -58,7 +58,6 @@ impl Replay {
         history: &History,
         line: LineRef<'_>,
     ) -> Result<Option<Reason>, AllocError>
-        requires is_history { IsHistory history.now.recorded }
         requires counted { length self.old.named.items ≡ length history.now.recorded.events }
         ensures judged { IfOk result (λ why. JudgesLine why self.old self.new history.now.recorded (line_seen line.entry)) }
         ensures kept { IfOk result (λ why. IfSome why (λ reason. state_of self.new.machine ≡ state_of self.old.machine)) }
@@ -103,7 +102,6 @@ impl Replay {
         called: u32,
         reply: ReplyRef<'_>,
     ) -> Result<Option<Reason>, AllocError>
-        requires is_history { IsHistory history.now.recorded }
         requires counted { length self.old.named.items ≡ length history.now.recorded.events }
         requires is_called { (number : ℕ) × (command : Command) × IsCalled history.now.recorded.events called cpu number command }
         ensures judged { IfOk result (λ why. (line : Line) → IsDue self.old history.now.recorded line cpu called (reply_seen reply.entry)
@@ -148,7 +146,6 @@ impl Replay {
 
     /// The first call, in the order of the calls, that returned and that no line names, by its CPU and number.
     pub(crate) fn first_missing(&self, history: &History) -> Option<(u8, u32)>
-        requires is_history { IsHistory history.now.recorded }
         requires counted { length self.now.named.items ≡ length history.now.recorded.events }
         ensures { (lines : List Line) → IsReplayOf self.now history.now.recorded lines → MatchOption result
             (AreNamedBelow history.now.recorded.events lines (length history.now.recorded.events))
@@ -179,7 +176,6 @@ fn places_named(history: &History, line: &LineRef<'_>) -> Option<Places>
 
 /// The call that is made at a place, by its CPU and number, where one is made there and it has returned.
 fn finished_call_at(history: &History, place: usize) -> Option<(u8, u32)>
-    requires is_history { IsHistory history.now.recorded }
     requires within { place < length history.now.recorded.events }
     ensures { MatchOption result (HasNoFinishedCall history.now.recorded.events place) (λ call. IsFinishedCallAt history.now.recorded.events place call.0 call.1) }
 {

@@ -142,7 +142,7 @@ fn whole_table_in<H: Held>(held: &H, granule: Pa) -> Option<&Table>
 {
     match table_in(held, granule) {
         Some(table) => {
-            table.is_whole();
+            let _fact = table.is_whole();
             Some(table)
         }
         None => None,

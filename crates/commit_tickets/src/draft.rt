@@ -80,7 +80,7 @@ impl Draft {
     {
         self.answer = foresee(config, command, token.cpu, &token.place, hold);
         self.room = room_of(alloc, &self.answer).ok();
-        let _refused = token.mine.reserve().is_err();
+        let _ = token.mine.reserve();
     }
 
     /// The reply.

@@ -13,6 +13,7 @@ ghost use Rattle.command_core.specs.Seen.{place_of, known_cell};
 ghost use Rattle.command_core.specs.Settled.{is_settled};
 ghost use Rattle.command_core.specs.Sides.{side_of};
 ghost use Rattle.granule_lock.specs.HeldCells.{hold_cells};
+ghost use Rattle.commit_tickets.specs.Commits.{IsOfRun};
 ghost use Rattle.commit_tickets.specs.declared.fault.CommitFault.TheVariants.{Disagrees};
 ghost use Rattle.commit_tickets.specs.Drafts.{IsDecided, IsDraft, IsEnteredOn};
 ghost use Rattle.commit_tickets.specs.Faults.{DecidesTable, HasCause};
@@ -45,6 +46,7 @@ pub(crate) fn enter<S: Site>(
 ) -> Result<usize, CommitFault>
     requires settled { IsTrue (is_settled S.config (call_of command.now) (place_of token.old.place) (hold_cells hold.now)) }
     requires draft { IsDraft S.config command.now token.old (hold_cells hold.now) draft.old }
+    ensures of_run { IsOfRun S.config journal.old }
     ensures ticket { IfOk result (λ ticket. ticket ≡ length journal.old.entries) }
     ensures journal { OnOk result (HasGained token.old.cpu command.now (given_of draft.new.answer) journal.old journal.new) }
     ensures side { OnOk result (side_of journal.new.side ≡ side_changed (known_cell (hold_cells hold.now)) (side_of journal.old.side) (spec.change_of draft.new.answer)) }

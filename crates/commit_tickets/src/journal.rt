@@ -45,6 +45,8 @@ impl<S: Site> Model for Journal<S> {
 }
 
 impl<S: Site> Journal<S> {
+    ghost use Rattle.commit_tickets.specs.Commits.{IsOfRun};
+
     /// The machine's size.
     pub fn config(&self) -> Config
         ensures config { result ≡ self.now.config }
@@ -55,7 +57,8 @@ impl<S: Site> Journal<S> {
 
     /// How many commits there are, which is the next one's ticket.
     pub fn len(&self) -> usize
-        ensures { result ≡ length self.now.entries }
+        ensures count { result ≡ length self.now.entries }
+        ensures of_run { IsOfRun S.config self.now }
     {
         self.entries.len()
     }

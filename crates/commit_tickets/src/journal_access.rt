@@ -68,8 +68,6 @@ impl<S: Site> JournalAccess<S> for Journal<S> {
         command: &Command,
         draft: &mut Draft,
     ) -> Result<usize, CommitFault> {
-        let _size = Journal::config(self);
-        let _books = self.books();
         enter(alloc, self, token, hold, command, draft)
     }
 }

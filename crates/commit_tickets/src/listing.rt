@@ -2,6 +2,7 @@
 
 ghost use Rattle.std.specs.Prelude.{◌≡◌, ℕ, ◌≤◌, ◌↔◌, IsTrue, IfErr, OnOk, OnErr, Some, length, slice_get};
 ghost use Rattle.command_log.specs.Log.{logged_seen};
+ghost use Rattle.commit_tickets.specs.Commits.{IsOfRun};
 ghost use Rattle.commit_tickets.specs.Entries.{committed_of, entry_of};
 ghost use Rattle.commit_tickets.specs.Listed.{AreListed, commit_at, mine_of, numbers_of, unlisted_entries};
 
@@ -20,6 +21,7 @@ impl<S: Site> Journal<S> {
         requires { length tokens.now ≤ 8 }
         ensures listed { OnOk result (AreListed tokens.now self.now.entries) }
         ensures unlisted { OnErr result (AreListed tokens.now self.now.entries → ⊥) }
+        ensures of_run { IsOfRun S.config self.now }
         ensures compared { IfErr result (λ unlisted. unlisted_entries unlisted ≡ self.now.entries) }
     {
         if !self.is_listed_by(tokens) {
@@ -31,7 +33,8 @@ impl<S: Site> Journal<S> {
     // Whether the tokens list the entries.
     fn is_listed_by(&self, tokens: &[CpuToken<S>]) -> bool
         requires { length tokens.now ≤ 8 }
-        ensures { IsTrue result ↔ AreListed tokens.now self.now.entries }
+        ensures listed { IsTrue result ↔ AreListed tokens.now self.now.entries }
+        ensures of_run { IsOfRun S.config self.now }
     {
         let mut numbers = Numbers::new();
         for ticket in 0..self.len() {

@@ -81,7 +81,7 @@ impl CpuPass {
         ensures cpu { self.now.cpu < self.now.cpus }
         ensures stand { stand_from start self.now.events ≡ Some self.now.stand }
     {
-        let _cpu = self.cpu;
+        let _fact = self.cpu;
     }
 
     /// The pass of a CPU before its first call.
@@ -154,7 +154,7 @@ impl CpuPass {
         ensures full { OnErr result (self.new ≡ record self.old { is_stopped = true }) }
         ensures cause { OnErr result (WasFull (ruled_capacity queue.now) self.old.cpus self.old.cpu self.old.events self.old.heard) }
     {
-        reply_has_text(&reply);
+        let _fact = reply_has_text(&reply);
         let (cpu, number) = (self.cpu, self.next - 1);
         let event = Event::Returned { cpu, number, reply };
         match queue.push_as::<Records, R>(rt, &mut self.pass, event) {

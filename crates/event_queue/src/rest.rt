@@ -41,7 +41,7 @@ impl Recorder {
             unreachable!()
         };
         let drained = self.drain_to(rt, scribe, history, count);
-        history.well_formed();
+        let _fact = history.well_formed();
         self.compare_all(scribe, passes);
         drained
     }
@@ -133,6 +133,6 @@ fn recorded_by(pass: &CpuPass) -> usize
     ensures count { result ≡ length pass.now.events }
     ensures most { result < 2 ^ 33 }
 {
-    pass.well_formed();
+    let _fact = pass.well_formed();
     2 * pass.next_number() as usize - usize::from(pass.is_open())
 }

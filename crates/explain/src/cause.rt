@@ -9,7 +9,7 @@ ghost use Rattle.rmm_spec.specs.declared.verdict.Reason.TheVariants as reason;
 ghost use Rattle.rmm_spec.specs.declared.verdict.Verdict.TheVariants as verdict;
 ghost use Rattle.rmm_spec.specs.declared.reply.Reply.{Reply};
 ghost use Rattle.rmm_spec.specs.Linearization.{IsFinished, IsKnown, IsNamed, IsOfItsKind, IsReplyOf, IsReturned, IsTooLate, NamesCall, cpu_named, number_named};
-ghost use Rattle.rmm_spec.specs.HistoryText.{History as Recorded, IsHistory};
+ghost use Rattle.rmm_spec.specs.HistoryText.{History as Recorded};
 ghost use Rattle.rmm_spec.specs.FirstFault.{FirstFault, IsRefused, Passes};
 ghost use Rattle.rmm_spec.specs.Call.{call_of};
 ghost use Rattle.rmm_spec.specs.State.{State};
@@ -61,7 +61,7 @@ pub(crate) fn cause_of(
             Ok(order(history, certificate, index, line))
         }
         Reason::Reply => {
-            history.well_formed();
+            let _fact = history.well_formed();
             let (index, line) = failing_line(certificate, step);
             refused(alloc, history, certificate, machine, index, line)
         }
@@ -127,7 +127,7 @@ fn order(history: &History, certificate: &Certificate, index: usize, line: LineR
     ensures reason { reason_of result ≡ reason.Order }
     ensures cause { IsCause result history.now.recorded certificate.now.lines (index + 1) }
 {
-    history.well_formed();
+    let _fact = history.well_formed();
     let (cpu, number) = called_by(line);
     let returned = returned_at(history, cpu, number);
     let earlier = line_made_after(history, certificate, index, returned);
@@ -163,7 +163,6 @@ fn refused(
     index: usize,
     line: LineRef<'_>,
 ) -> Result<Cause, AllocError>
-    requires is_history { IsHistory history.now.recorded }
     requires is_line { slice_get certificate.now.lines index ≡ Some (line_seen line) }
     requires known { NamesCall history.now.recorded.events (line_seen line) }
     requires kind { IsOfItsKind history.now.recorded.events (line_seen line) }
@@ -176,16 +175,11 @@ fn refused(
     let call = named_call(history, cpu, number);
     let claimed = claimed_by(history, line);
     let specified = machine.outcome(call.cpu, &call.call.command);
-    let told = told_of(
-        alloc,
-        history,
-        certificate,
-        machine,
-        index,
-        &call,
-        &specified,
-        &claimed,
-    )?;
+    let replies = Replies {
+        specified: &specified,
+        claimed: &claimed,
+    };
+    let told = told_of(alloc, history, certificate, machine, index, &call, &replies)?;
     let farthest = farthest_end(machine, &specified);
     let Told {
         deciding,
@@ -206,6 +200,13 @@ fn refused(
     }))
 }
 
+// What the specification answers a line's call, and what the line claims.
+#[derive(Clone, Copy)]
+struct Replies<'a> {
+    specified: &'a Result<Accepted, Refusal>,
+    claimed: &'a Reply,
+}
+
 /// What is told of a refused line besides its replies.
 #[derive(Drop)]
 pub(crate) struct Told {
@@ -222,21 +223,28 @@ fn told_of(
     machine: &Machine,
     index: usize,
     call: &NamedCall,
-    specified: &Result<Accepted, Refusal>,
-    claimed: &Reply,
+    replies: &Replies<'_>,
 ) -> Result<Told, AllocError>
     requires within { index < length certificate.now.lines }
     requires left { Passes history.now.recorded (take index certificate.now.lines) (state_of machine.now) }
     requires told { IsTold history.now.recorded.events call.now }
-    requires specified { specified.now ≡ outcome (state_of machine.now) call.now.cpu (call_of call.now.call.command) }
-    requires refused { (next : State) → ¬ Step (state_of machine.now) call.now.cpu call.now.call.command claimed.now next }
-    ensures { IfOk result (IsToldOf history.now.recorded certificate.now.lines index (state_of machine.now) call.now specified.now claimed.now) }
+    requires specified { replies.now.specified.now ≡ outcome (state_of machine.now) call.now.cpu (call_of call.now.call.command) }
+    requires refused { (next : State) → ¬ Step (state_of machine.now) call.now.cpu call.now.call.command replies.now.claimed.now next }
+    ensures { IfOk result (IsToldOf history.now.recorded certificate.now.lines index (state_of machine.now) call.now replies.now.specified.now replies.now.claimed.now) }
 {
     let command = &call.call.command;
     let mut owners = Vec::new(alloc);
     machine.owner_report(&mut owners)?;
     let rows = owners.as_slice();
-    let decision = decision_of(alloc, machine, rows, call.cpu, command, specified, claimed)?;
+    let decision = decision_of(
+        alloc,
+        machine,
+        rows,
+        call.cpu,
+        command,
+        replies.specified,
+        replies.claimed,
+    )?;
     let steps = steps_of(alloc, history, certificate, machine, index, call, &decision)?;
     Ok(Told {
         deciding: decision.deciding,

@@ -70,8 +70,8 @@ fn failing_condition(
     ensures decision { IfOk result (λ d. (claimed : Claimed) → IsDecision (state_of machine.now) cpu command.now (outcome (state_of machine.now) cpu (call_of command.now)) claimed d.deciding d.watch) }
     ensures so { IfOk result (λ d. is_so (state_of machine.now) d.watch ≡ true) }
 {
-    conditions_decide();
-    words_are_asked();
+    let _fact = conditions_decide();
+    let _fact = words_are_asked();
     let found = failing_test(alloc, machine, cpu, &command.call())?;
     let Some(test) = found else { unreachable!() };
     Ok(condition_decision(machine, owners, test))

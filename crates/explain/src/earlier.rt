@@ -3,7 +3,6 @@
 ghost use Rattle.std.specs.Prelude.{◌≡◌, ◌<◌, ◌≤◌, ◌↔◌, length, take, IfNone, IfSome, IsTrue};
 ghost use Rattle.certificate.specs.LineRef.{line_seen};
 ghost use Rattle.explain.specs.Told.{HasLine, IsMadeAfter, IsLineFor, Names, NamesAt};
-ghost use Rattle.rmm_spec.specs.HistoryText.{IsHistory};
 ghost use Rattle.rmm_spec.specs.Linearization.{IsNamed, cpu_named, number_named};
 
 use certificate::{Certificate, LineRef};
@@ -62,7 +61,6 @@ pub(crate) fn line_made_after(
     index: usize,
     returned: u32,
 ) -> usize
-    requires is_history { IsHistory history.now.recorded }
     requires within { index ≤ length certificate.now.lines }
     requires late { HasLine (take index certificate.now.lines) (IsMadeAfter history.now.recorded.events returned) }
     ensures before { result < index }
@@ -78,9 +76,9 @@ pub(crate) fn line_made_after(
 
 // Whether the call of a line was made behind the place.
 fn is_made_after(history: &History, line: LineRef<'_>, returned: u32) -> bool
-    requires { IsHistory history.now.recorded }
     ensures { IsTrue result ↔ IsMadeAfter history.now.recorded.events returned (line_seen line.entry) }
 {
+    let _fact = history.well_formed();
     let (cpu, number) = called_by(line);
     match history.places_of(cpu, number) {
         Some(places) => places.called > returned,

@@ -36,7 +36,6 @@ pub(crate) fn late_commit(
     ensures { IfOk result (λ found. MatchOption found (HasNoLate history.now.recorded.events certificate.now.lines index call.now test (state_of machine.now))
         (IsLate history.now.recorded.events certificate.now.lines index call.now test (state_of machine.now))) }
 {
-    history.well_formed();
     let Some(places) = history.places_of(call.cpu, call.number) else {
         unreachable!()
     };
@@ -86,10 +85,10 @@ fn takes(
     call: &NamedCall,
     places: Places,
 ) -> Result<bool, AllocError>
-    requires is_history { IsHistory history.now.recorded }
     requires places { ArePlacesOf history.now.recorded.events call.now.cpu call.now.number places }
     ensures { IfOk result (λ taken. Moves history.now.recorded.events call.now.cpu call.now.number (line_seen line.entry) (state_of machine.old) taken (state_of machine.new)) }
 {
+    let _fact = history.well_formed();
     let (cpu, number) = called_by(line);
     let Some(other) = history.places_of(cpu, number) else {
         return Ok(false);

@@ -5,7 +5,6 @@ ghost use Rattle.certificate.specs.LineRef.{line_seen};
 ghost use Rattle.history.specs.Calls.{ArePlacesOf};
 ghost use Rattle.rmi_view.specs.Seen.{reply_seen};
 ghost use Rattle.rmm_spec.specs.FirstFault.{Passes};
-ghost use Rattle.rmm_spec.specs.HistoryText.{IsHistory};
 ghost use Rattle.rmm_spec.specs.Linearization.{IsOfItsKind, IsReplyOf, cpu_named, number_named};
 ghost use Rattle.explain.specs.Told.{IsPassing};
 ghost use Rattle.spec_machine.specs.View.{state_of};
@@ -24,12 +23,12 @@ pub(crate) fn take_line(
     certificate: &Certificate,
     i: usize,
 ) -> Result<(), AllocError>
-    requires is_history { IsHistory history.now.recorded }
     requires passing { IsPassing history.now.recorded certificate.now.lines i }
     requires before { Passes history.now.recorded (take i certificate.now.lines) (state_of machine.old) }
     requires within { i < length certificate.now.lines }
     ensures { OnOk result (Passes history.now.recorded (take (i + 1) certificate.now.lines) (state_of machine.new)) }
 {
+    let _fact = history.well_formed();
     let line = certificate.line(i);
     let (cpu, number) = called_by(line);
     let Some(places) = history.places_of(cpu, number) else {

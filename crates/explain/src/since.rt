@@ -3,7 +3,6 @@
 ghost use Rattle.std.specs.Prelude.{◌≡◌, ◌+◌, ◌<◌, ◌≤◌, true, length, take, IfNone, IfOk, IfSome};
 ghost use Rattle.rmm_spec.specs.FirstFault.{Passes};
 ghost use Rattle.rmm_spec.specs.State.{State};
-ghost use Rattle.rmm_spec.specs.HistoryText.{IsHistory};
 ghost use Rattle.explain.specs.Track as spec;
 ghost use Rattle.explain.specs.Track.{IsTrack};
 ghost use Rattle.explain.specs.Watch.{IsEarlier, IsSince, is_so};
@@ -31,8 +30,7 @@ pub(crate) fn since_of(
     requires now { (last : State) × Passes history.now.recorded (take index certificate.now.lines) last × (is_so last watch.now ≡ true) }
     ensures { IfOk result (IsSince history.now.recorded certificate.now.lines index watch.now) }
 {
-    history.well_formed();
-    let _lines = certificate.len();
+    let _fact = certificate.len();
     let mut machine = Machine::new(alloc, history.config())?;
     let mut track = no_track();
     for i in 0..index {
@@ -51,12 +49,12 @@ fn since_from(
     watch: &Watch,
     track: &Track,
 ) -> Since
-    requires is_history { IsHistory history.now.recorded }
     requires within { index ≤ length certificate.now.lines }
     requires now { (last : State) × Passes history.now.recorded (take index certificate.now.lines) last × (is_so last watch.now ≡ true) }
     requires track { IsTrack history.now.recorded certificate.now.lines watch.now (index + 1) track.now }
     ensures { IsSince history.now.recorded certificate.now.lines index watch.now result }
 {
+    let _fact = history.well_formed();
     let made = step_if_any(history, certificate, index, track.turn.since);
     let set = step_if_any(history, certificate, index, track.kept.set);
     since_told(made, set, track.turn.was_there)

@@ -20,7 +20,6 @@ pub(crate) fn unfinished_calls(
 ) -> Result<Vec<UnfinishedCall>, AllocError>
     ensures { IfOk result (λ calls. AreUnfinished history.now.recorded.events certificate.now.lines (length history.now.recorded.events) calls.items) }
 {
-    history.well_formed();
     let mut calls = Vec::new(alloc);
     for place in 0..history.len() {
         let Some((cpu, number)) = history.called_at(place) else {
@@ -46,7 +45,7 @@ fn unfinished_call(
     requires unfinished { ¬ IsFinished history.now.recorded.events cpu number }
     ensures { IsUnfinished history.now.recorded.events certificate.now.lines place result }
 {
-    history.well_formed();
+    let _fact = history.well_formed();
     UnfinishedCall {
         call: named_call(history, cpu, number),
         step: line_if_any(certificate, cpu, number),

@@ -76,7 +76,7 @@ fn write_front(
     for fold in extent.folds {
         write_fold(page, *fold)?;
     }
-    page.consists_of_pieces();
+    let _fact = page.consists_of_pieces();
     Ok(marks)
 }
 

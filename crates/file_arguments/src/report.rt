@@ -30,6 +30,12 @@ const USAGE: &str = "rmmexplain [--html FILE [--around N]] HISTORY CERT
        rmmexplain --json|--format gcc|--granule ADDRESS|--rows HISTORY CERT
        rmmexplain --scenario FILE";
 
+const PAGE_HELP: &str = "Write the report to FILE, as a web page with a diagram";
+
+const FORMAT_HELP: &str = "Print the report as a line FILE:LINE: error: .. [NAME: gcc]";
+
+const GRANULE_HELP: &str = "Print each step that changed the granule or names it";
+
 /// Reads what is asked after the program's name: one output at most with `HISTORY CERT`, or `--scenario FILE`. A path that begins
 /// with a dash stands after `--`. `version` is the text that `--version` prints after the name.
 pub fn report_asked<'a>(
@@ -56,25 +62,10 @@ rmmexplain --scenario FILE\n\n\
 For more information, try '--help'.\n";
 
     fn command(alloc: Global, version: &'a str) -> Result<Command<'a>, AllocError> {
-        let page = option_named(
-            alloc,
-            "html",
-            "FILE",
-            "Write the report to FILE, as a web page with a diagram",
-        );
+        let page = option_named(alloc, "html", "FILE", PAGE_HELP);
         let json = flag_named(alloc, "json", "Print the report as one JSON object");
-        let format = option_named(
-            alloc,
-            "format",
-            "NAME",
-            "Print the report as a line FILE:LINE: error: .. [NAME: gcc]",
-        );
-        let granule = option_named(
-            alloc,
-            "granule",
-            "ADDRESS",
-            "Print each step that changed the granule or names it",
-        );
+        let format = option_named(alloc, "format", "NAME", FORMAT_HELP);
+        let granule = option_named(alloc, "granule", "ADDRESS", GRANULE_HELP);
         let rows = flag_named(alloc, "rows", "Print how often each condition refused");
         let scenario = option_named(
             alloc,

@@ -77,6 +77,7 @@ module _ (history : History) where
       let eight = is_front.ranks in
       let within : cpu < length front.ranks = omega (arith, inside, eight) in
       record {
+        is_history = is_front.is_history;
         nexts = length-set front.nexts cpu next ∙ is_front.nexts;
         ranks = length-set front.ranks cpu (least_of next) ∙ is_front.ranks;
         each = λ other found machine at.
@@ -95,6 +96,7 @@ module _ (history : History) where
   pub IsFront-beyond : (front : Front) (cpu count : ℕ) → IsFront history front → history.config.cpus ≤ cpu
       → IsFront history (record front { counts = set front.counts cpu count })
   IsFront-beyond front cpu count is_front past = record {
+    is_history = is_front.is_history;
     nexts = is_front.nexts;
     ranks = is_front.ranks;
     each = λ other found within before.

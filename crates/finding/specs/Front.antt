@@ -1,6 +1,6 @@
 -- How far an order has come on each CPU.
 use Rattle.std.specs.Prelude.{◌≡◌, ℕ, ◌<◌, List, Option, Some, length, slice_get, slice_index}
-use Rattle.rmm_spec.specs.HistoryText.{History}
+use Rattle.rmm_spec.specs.HistoryText.{History, IsHistory}
 use Rattle.finding.specs.Choice.{IsNextOf, least_of}
 use Rattle.finding.specs.declared.choice.Choice.{Choice}
 use Rattle.finding.specs.declared.front.Front.{Front}
@@ -10,8 +10,9 @@ pub record IsNextAt (history : History) (counts ranks : List ℕ) (cpu : ℕ) (n
   pub known : IsNextOf history counts cpu next
   pub rank : slice_index ranks cpu ≡ least_of next
 
--- each CPU's is
+-- each CPU's is, in a history that keeps to the grammar
 pub record IsFront (history : History) (front : Front) : Type 0 where
+  pub is_history : IsHistory history
   pub nexts : length front.nexts ≡ 8
   pub ranks : length front.ranks ≡ 8
   pub each : (cpu : ℕ) (next : Option Choice) → cpu < history.config.cpus → slice_get front.nexts cpu ≡ Some next

@@ -69,7 +69,6 @@ fn leads_to(
     requires { IsBegun history.now.recorded one.now }
     ensures { IfOk result (λ leads. IsTrue leads → IsLost history.now.recorded one.now → IsLost history.now.recorded other.now) }
 {
-    history.well_formed();
     if !lacks_few(one, other) {
         return Ok(false);
     }
@@ -108,7 +107,6 @@ fn takes_next(
     ensures begun { OnOk result (IsBegun history.now.recorded begun.new) }
     ensures grown { IfOk result (λ takes. IsTrue takes → IsLost history.now.recorded begun.old → IsLost history.now.recorded begun.new) }
 {
-    history.well_formed();
     let Some(first) = begun.front.first_at(history, 0) else {
         return Ok(false);
     };

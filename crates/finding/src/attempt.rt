@@ -36,7 +36,6 @@ pub(crate) fn attempt(
     ensures tried { (lines : List Line) → MayTry history.now.recorded lines (state_of machine.now) choice above → IsTriedNext history.now.recorded lines choice result }
     ensures line { IfSome result (λ frame. (claimed : Reply) × (frame.line ≡ line.Unfinished choice.cpu choice.number claimed)) }
 {
-    history.well_formed();
     let Some(command) = history.command_at(choice.places.called as usize) else {
         unreachable!()
     };
@@ -69,7 +68,7 @@ fn only_claim(choice: Choice, reply: Reply) -> Frame
     ensures above { result.above ≡ None }
     ensures has_text { IsReply reply }
 {
-    reply_has_text(&reply);
+    let _fact = reply_has_text(&reply);
     Frame {
         line: Line::Unfinished {
             cpu: choice.cpu,
@@ -92,7 +91,7 @@ fn one_end(choice: Choice, top: u64) -> Frame
     let mut words = ArrayVec::new();
     words.push(top);
     let reply = Reply::Ok(words);
-    reply_has_text(&reply);
+    let _fact = reply_has_text(&reply);
     Frame {
         line: Line::Unfinished {
             cpu: choice.cpu,

@@ -34,7 +34,6 @@ impl Begun {
         ensures begun { IfOk result (IsBegun history.now.recorded) }
         ensures lost { IfOk result (λ begun. IsLost history.now.recorded begun → LeadsNowhere history.now.recorded []) }
     {
-        history.well_formed();
         let machine = Machine::new(alloc, history.config())?;
         Ok(Begun {
             front: Front::new(history),
@@ -75,7 +74,6 @@ impl Begun {
             (IsGrown history.now.recorded line.now self.old self.new)
             (Stays history.now.recorded line.now self.old self.new)) }
     {
-        history.well_formed();
         let given = offer(offers, &mut self.machine, history, choice, line)?;
         if given {
             self.front.set(history, choice.cpu, choice.number + 1);

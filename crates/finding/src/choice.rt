@@ -45,7 +45,7 @@ pub(crate) fn next_of(history: &History, counts: &[u32; 8], cpu: u8) -> Option<C
     requires { cpu < history.now.recorded.config.cpus }
     ensures { IsNextOf history.now.recorded counts.now cpu result }
 {
-    let _few = cpus_of(history);
+    let _fact = cpus_of(history);
     let number = counts[cpu as usize];
     let Some(places) = history.places_of(cpu, number) else {
         return None;
@@ -62,7 +62,6 @@ pub(crate) fn next_of(history: &History, counts: &[u32; 8], cpu: u8) -> Option<C
 fn is_refusal(history: &History, cpu: u8, number: u32, places: Places) -> bool
     requires { ArePlacesOf history.now.recorded.events cpu number places }
 {
-    history.well_formed();
     let Some(returned) = places.returned else {
         return false;
     };

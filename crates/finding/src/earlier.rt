@@ -128,7 +128,6 @@ fn last_given(
 fn gives(history: &History, machine: &Machine, choice: Choice) -> bool
     requires { ArePlacesOf history.now.recorded.events choice.cpu choice.number choice.places }
 {
-    history.well_formed();
     let Some(returned) = choice.places.returned else {
         return false;
     };
@@ -198,7 +197,6 @@ fn shares_word(history: &History, one: Choice, other: Choice) -> bool
 fn words_of(history: &History, choice: Choice) -> &[u64]
     requires { ArePlacesOf history.now.recorded.events choice.cpu choice.number choice.places }
 {
-    history.well_formed();
     match history.command_at(choice.places.called as usize) {
         Some(command) => command.words,
         None => &[],

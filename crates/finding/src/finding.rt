@@ -41,7 +41,6 @@ pub enum Found {
 pub fn find(alloc: Global, history: &History, limit: u64) -> Result<Found, AllocError>
     ensures { IfOk result (IsFound history.now.recorded limit) }
 {
-    history.well_formed();
     let mut search = Search::new(alloc, history)?;
     let progress = search_at_first(&mut search, alloc, history, limit / 2)?;
     match progress {
@@ -55,7 +54,6 @@ pub fn find(alloc: Global, history: &History, limit: u64) -> Result<Found, Alloc
 fn find_guessed(alloc: Global, history: &History, limit: u64) -> Result<Found, AllocError>
     ensures { IfOk result (IsFound history.now.recorded limit) }
 {
-    history.well_formed();
     let soon = limit / 2;
     let mut search = guessed(alloc, history, soon)?;
     let progress = search_until(&mut search, alloc, history, soon)?;
@@ -102,7 +100,6 @@ fn find_forward(
     requires { IsSearch history.now.recorded search }
     ensures { IfOk result (IsFound history.now.recorded limit) }
 {
-    history.well_formed();
     let mut search = search;
     let near = offers_near(history, search.offers.count(), TO_DECIDE, limit);
     let found = forward(alloc, &mut search.offers, history, near)?;
@@ -132,7 +129,6 @@ fn find_rest(
     requires { IsSearch history.now.recorded search }
     ensures { IfOk result (IsFound history.now.recorded limit) }
 {
-    history.well_formed();
     let mut search = search;
     let progress = search_until(&mut search, alloc, history, limit)?;
     match progress {
@@ -192,7 +188,6 @@ fn search_at_first(
     requires { IsSearch history.now.recorded search.old }
     ensures { IfOk result (λ progress. IsSearched progress history.now.recorded 0 search.new) }
 {
-    history.well_formed();
     'going: while search.offers.count() < limit && search.kept.len() < FIRST_KEPT {
         match search.step(alloc, history)? {
             Progress::Going => {}
@@ -212,7 +207,6 @@ fn search_until(
     requires { IsSearch history.now.recorded search.old }
     ensures { IfOk result (λ progress. IsSearched progress history.now.recorded limit search.new) }
 {
-    history.well_formed();
     'going: while search.offers.count() < limit {
         match search.step(alloc, history)? {
             Progress::Going => {}

@@ -29,7 +29,6 @@ pub(crate) fn forward(
 ) -> Result<Survey, AllocError>
     ensures { IfOk result (IsSurvey history.now.recorded) }
 {
-    history.well_formed();
     let opening = Begun::opening(alloc, history)?;
     let mut kept = Vec::new(alloc);
     kept.push(opening)?;

@@ -27,6 +27,7 @@ impl Front {
         ensures counts { result.counts ≡ 0 ∷ 0 ∷ 0 ∷ 0 ∷ 0 ∷ 0 ∷ 0 ∷ 0 ∷ [] }
         ensures front { IsFront history.now.recorded result }
     {
+        let _fact = history.well_formed();
         let counts = [0; 8];
         let mut nexts = [None; 8];
         let mut ranks = [NOWHERE; 8];
@@ -70,7 +71,6 @@ impl Front {
         ensures next { IfSome result (IsNextCall history.now.recorded self.now.counts from) }
         ensures least { IsLeast history.now.recorded.events self.now.counts from history.now.recorded.config.cpus (least_of result) }
     {
-        history.well_formed();
         let mut first = 0;
         let mut least = NOWHERE;
         for cpu in 0..cpus_of(history) {
@@ -97,7 +97,7 @@ impl Front {
         ensures next { IsNextOf history.now.recorded self.now.counts cpu result }
         ensures rank { slice_index self.now.ranks cpu ≡ least_of result }
     {
-        let _few = cpus_of(history);
+        let _fact = cpus_of(history);
         self.nexts[cpu as usize]
     }
 }

@@ -48,7 +48,6 @@ pub(crate) fn order_of(
 ) -> Result<Certificate, AllocError>
     ensures { IfOk result (λ certificate. (state : State) × Passes history.now.recorded certificate.lines state) }
 {
-    history.well_formed();
     let search = led(alloc, history, order.cpus.as_slice(), limit)?;
     search.certificate(alloc, history)
 }
@@ -57,7 +56,6 @@ pub(crate) fn order_of(
 fn led(alloc: Global, history: &History, cpus: &[u8], limit: u64) -> Result<Search, AllocError>
     ensures { IfOk result (IsSearch history.now.recorded) }
 {
-    history.well_formed();
     let mut search = Search::new(alloc, history)?;
     'lines: for cpu in cpus {
         if search.offers.count() >= limit {
@@ -84,7 +82,6 @@ fn ended(
     requires { IsSearch history.now.recorded search }
     ensures { IfOk result (λ found. IfSome found (λ certificate. IsLinearization history.now.recorded certificate.lines)) }
 {
-    history.well_formed();
     let mut search = search;
     if search.offers.count() >= limit {
         return Ok(None);

@@ -27,7 +27,6 @@ pub fn longest_order(
 
 /// How many lines the longest order has that a search of so many offers begins.
 fn greatest_length(alloc: Global, history: &History, limit: u64) -> Result<usize, AllocError> {
-    history.well_formed();
     let mut search = Search::new(alloc, history)?;
     let mut most = 0;
     'going: while search.offers.count() < limit {
@@ -50,7 +49,6 @@ fn go_until(
     requires { IsSearch history.now.recorded search.old }
     ensures { OnOk result (IsSearch history.now.recorded search.new) }
 {
-    history.well_formed();
     'going: while search.offers.count() < limit {
         if search.len() == most {
             return Ok(());

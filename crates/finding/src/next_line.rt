@@ -34,7 +34,6 @@ pub(crate) fn next_line(history: &History, begun: &Begun, first: Choice, left: L
     requires returned { rank_of first < 1000000 }
     ensures { IsNextLine history.now.recorded begun.now left result }
 {
-    history.well_formed();
     let Some(choice) = begun.front.first_at(history, left.from) else {
         return NextLine::None;
     };
@@ -63,7 +62,6 @@ fn pending_line(history: &History, begun: &Begun, choice: Choice, left: Left) ->
     requires soon { IsSoon history.now.recorded begun.now choice }
     ensures { IsNextLine history.now.recorded begun.now left result }
 {
-    history.well_formed();
     let above = above_for(choice, left);
     match attempt(history, &begun.machine, choice, above) {
         None => NextLine::Passed(behind(choice)),

@@ -36,7 +36,7 @@ pub(crate) fn offer(
     ensures kept { IfOk result (λ given. given ≡ false → state_of machine.new ≡ state_of machine.old) }
     ensures counted { offers.new.count ≡ one_more offers.old.count }
 {
-    history.well_formed();
+    let _fact = history.well_formed();
     let Some(command) = history.command_at(choice.places.called as usize) else {
         unreachable!()
     };
@@ -53,7 +53,6 @@ fn reply_of<'a>(history: &'a History, choice: Choice, line: &'a Line) -> ReplyRe
     requires kind { IsOfItsKind history.now.recorded.events line.now }
     ensures { IsReplyOf history.now.recorded.events line.now (reply_seen result) }
 {
-    history.well_formed();
     match line {
         Line::Keep { .. } => recorded(history, choice),
         Line::Unfinished { reply, .. } => ReplyRef::of(reply),
@@ -66,7 +65,6 @@ fn recorded<'a>(history: &'a History, choice: Choice) -> ReplyRef<'a>
     requires finished { IsFinished history.now.recorded.events choice.cpu choice.number }
     ensures { (place : ℕ) × IsReturned history.now.recorded.events place choice.cpu choice.number (reply_seen result) }
 {
-    history.well_formed();
     let Some(returned) = choice.places.returned else {
         unreachable!()
     };

@@ -44,7 +44,6 @@ fn is_refused(history: &History, machine: &Machine, choice: Choice) -> bool
     requires { ArePlacesOf history.now.recorded.events choice.cpu choice.number choice.places }
     ensures { IsTrue result → IsRefusedHere history.now.recorded (state_of machine.now) choice }
 {
-    history.well_formed();
     let Some(returned) = choice.places.returned else {
         return false;
     };

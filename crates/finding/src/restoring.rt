@@ -51,7 +51,6 @@ pub(crate) fn restored(
     ensures machine { IfOk result (λ s. Reaches history.now.recorded (lines_of frames.now) (state_of s.machine)) }
     ensures checkpoint { IfOk result (λ s. IfSome s.checkpoint (IsCheckpoint history.now.recorded frames.now)) }
 {
-    history.well_formed();
     let start = start_of(alloc, history, checkpoint)?;
     let middle = max(start.lines, frames.len().saturating_sub(NEAR));
     let behind = replayed(history, frames, middle, start)?;
@@ -105,7 +104,7 @@ pub(crate) fn replayed(
     ensures stands { IfOk result (λ made. IfSome made (IsCheckpoint history.now.recorded frames.now)) }
     ensures lines { IfOk result (λ made. IfSome made (λ c. c.lines ≡ to)) }
 {
-    history.well_formed();
+    let _fact = history.well_formed();
     let first = from.lines;
     let mut machine = from.machine;
     for at in first..to {
@@ -163,7 +162,7 @@ fn machine_behind(
     requires reached { (state : State) × Reaches history.now.recorded (lines_of frames.now) state }
     ensures { IfOk result (λ machine. Reaches history.now.recorded (lines_of frames.now) (state_of machine)) }
 {
-    history.well_formed();
+    let _fact = history.well_formed();
     let certificate = certificate_of(alloc, frames)?;
     let judged = judged_order(alloc, history, &certificate)?;
     Ok(judged.machine)

@@ -118,7 +118,6 @@ impl Round {
         ensures taken { OnOk result (RoundLost history.now.recorded self.new → (lines : List Line) → Holds history.now.recorded begun.now lines
             → LeadsNowhere history.now.recorded (lines ++ line.now ∷ [])) }
     {
-        history.well_formed();
         let mut longer = begun.copy(alloc)?;
         let given = longer.grow(offers, history, choice, line)?;
         if given {
@@ -175,7 +174,6 @@ impl Round {
         ensures covers { OnOk result (Covers history.now.recorded self.old self.new) }
         ensures taken { IfOk result (λ all. IsTrue all → RoundLost history.now.recorded self.new → IsLost history.now.recorded begun.now) }
     {
-        history.well_formed();
         let Some(first) = begun.front.first_at(history, 0) else {
             return Ok(false);
         };
@@ -207,7 +205,6 @@ impl Round {
         ensures round { IfOk result (λ deeper. IfSome deeper (IsRound history.now.recorded)) }
         ensures covers { IfOk result (λ deeper. IfSome deeper (Covers history.now.recorded self)) }
     {
-        history.well_formed();
         let Round {
             place,
             lacking,
@@ -255,7 +252,6 @@ pub(crate) fn next_orders(
     ensures begun { IfOk result (λ orders. IfSome orders (λ next. AllBegun history.now.recorded next.items)) }
     ensures covers { IfOk result (λ orders. IfSome orders (λ next. AllLost history.now.recorded next.items → AllLost history.now.recorded kept.items)) }
 {
-    history.well_formed();
     let mut round = sorted(alloc, history, kept, place)?;
     'depths: for _depth in 0..DEPTH {
         if round.lacking.is_empty() {

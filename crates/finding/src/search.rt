@@ -78,7 +78,6 @@ impl Search {
     pub(crate) fn new(alloc: Global, history: &History) -> Result<Search, AllocError>
         ensures { IfOk result (IsSearch history.now.recorded) }
     {
-        history.well_formed();
         let machine = Machine::new(alloc, history.config())?;
         Ok(Search {
             frames: Vec::new(alloc),
@@ -111,7 +110,6 @@ impl Search {
         requires { IsSearch history.now.recorded self.now }
         ensures { IfOk result (λ certificate. certificate.lines ≡ lines_of self.now.frames.items) }
     {
-        history.well_formed();
         certificate_of(alloc, &self.frames)
     }
 
@@ -150,7 +148,6 @@ impl Search {
         requires some { 0 < length self.old.frames.items }
         ensures { Continues result history.now.recorded self.old self.new }
     {
-        history.well_formed();
         self.drop_last(history);
         Progress::Going
     }
@@ -181,7 +178,6 @@ impl Search {
         requires { IsSearch history.now.recorded self.old }
         ensures { OnOk result (IsStanding history.now.recorded self.old self.new) }
     {
-        history.well_formed();
         let standing = restored(alloc, history, &self.frames, self.checkpoint.take())?;
         self.machine = standing.machine;
         self.checkpoint = standing.checkpoint;
@@ -221,7 +217,6 @@ impl Search {
         requires few { self.old.offers.count < 2 ^ 64 - 1 }
         ensures { IfOk result (λ progress. Continues progress history.now.recorded self.old self.new) }
     {
-        history.well_formed();
         let Some(first) = self.front.first_at(history, 0) else {
             return Ok(Progress::Whole);
         };
@@ -250,7 +245,6 @@ impl Search {
         requires few { self.old.offers.count < 2 ^ 64 - 1 }
         ensures { IfOk result (λ progress. Continues progress history.now.recorded self.old self.new) }
     {
-        history.well_formed();
         let Some(choice) = self.next_choice(history, first) else {
             return self.leave(alloc, history, first);
         };
@@ -302,7 +296,6 @@ impl Search {
         requires few { self.old.offers.count < 2 ^ 64 - 1 }
         ensures { IfOk result (λ progress. Continues progress history.now.recorded self.old self.new) }
     {
-        history.well_formed();
         if self.kept.has(&self.front.counts, &self.machine) {
             return Ok(self.take_back(history));
         }
@@ -328,7 +321,6 @@ impl Search {
         requires nowhere { LeadsNowhere history.now.recorded (lines_of self.old.frames.items) }
         ensures { IfOk result (λ progress. Continues progress history.now.recorded self.old self.new) }
     {
-        history.well_formed();
         if self.finds_earlier(alloc, history, first)? {
             return Ok(self.go_back(history));
         }
@@ -350,7 +342,6 @@ impl Search {
         ensures checkpoint { OnOk result (IfSome self.new.checkpoint (IsCheckpoint history.now.recorded self.old.frames.items)) }
         ensures some { IfOk result (λ found. IsTrue found → 0 < length self.new.frames.items) }
     {
-        history.well_formed();
         if rank(&choice) < self.moved {
             return Ok(false);
         }
@@ -368,7 +359,6 @@ impl Search {
         requires nowhere { LeadsNowhere history.now.recorded (lines_of self.old.frames.items) }
         ensures { Continues result history.now.recorded self.old self.new }
     {
-        history.well_formed();
         if self.frames.is_empty() {
             return Progress::Exhausted;
         }
@@ -385,7 +375,6 @@ impl Search {
         requires some { 0 < length self.old.frames.items }
         ensures { IsShorter history.now.recorded self.old result self.new }
     {
-        history.well_formed();
         let Some(held) = self.frames.pop() else {
             unreachable!()
         };
@@ -411,7 +400,6 @@ impl Search {
         ensures returned { IfSome result (λ choice. IsFinished history.now.recorded.events choice.cpu choice.number) }
         ensures soon { IfSome result (λ choice. ReturnBehind history.now.recorded.events (lines_of self.now.frames.items) choice.places.called) }
     {
-        history.well_formed();
         let Some(earlier) = self.earlier else {
             return None;
         };
@@ -448,7 +436,6 @@ impl Search {
         requires few { self.old.offers.count < 2 ^ 64 - 1 }
         ensures { OnOk result (GoesOn history.now.recorded self.old self.new) }
     {
-        history.well_formed();
         let from = self.left_from(history);
         let _given = self.offer_kept(alloc, history, choice, from)?;
         self.earlier = None;
@@ -485,7 +472,6 @@ impl Search {
         requires few { self.old.offers.count < 2 ^ 64 - 1 }
         ensures { IfOk result (IsOffered history.now.recorded choice self.old self.new) }
     {
-        history.well_formed();
         let before = self.mark(alloc)?;
         let line = Line::Keep {
             cpu: choice.cpu,
@@ -518,7 +504,6 @@ impl Search {
         requires fresh { IsTrue self.old.fresh }
         ensures { OnOk result (GoesOn history.now.recorded self.old self.new) }
     {
-        history.well_formed();
         let before = self.mark(alloc)?;
         let frame = HeldFrame::keep(alloc, choice.cpu, choice.number, u32::MAX, before)?;
         self.push(history, choice, frame)
@@ -576,7 +561,6 @@ impl Search {
         requires few { self.old.offers.count < 2 ^ 64 - 1 }
         ensures { OnOk result (GoesOn history.now.recorded self.old self.new) }
     {
-        history.well_formed();
         let given = self.offer_kept(alloc, history, choice, rank(&choice) + 1)?;
         if given {
             return Ok(());
@@ -603,7 +587,6 @@ impl Search {
         requires few { self.old.offers.count < 2 ^ 64 - 1 }
         ensures { OnOk result (GoesOn history.now.recorded self.old self.new) }
     {
-        history.well_formed();
         let above = self.above_for(choice);
         let Some(mut frame) = attempt(history, &self.machine, choice, above) else {
             self.pass(choice);

@@ -28,7 +28,7 @@ fn push_next(
     requires so_far { text.old.items ++ map_from number (drop number names.now) ≡ map_from 0 names.now }
     ensures { OnOk result (text.new.items ++ map_from (number + 1) (drop (number + 1) names.now) ≡ map_from 0 names.now) }
 {
-    let _few = names.len();
+    let _fact = names.len();
     let address = names.address(number);
     push_line(alloc, text, address, 4096 * number as u64)
 }

@@ -102,7 +102,7 @@ impl Names {
     fn few(&self)
         ensures { (address n : ℕ) → number_in self.now address ≡ Some n → n < granule_limit Large }
     {
-        let _addresses = &self.addresses;
+        let _fact = &self.addresses;
     }
 
     /// The number of an address.
@@ -207,7 +207,7 @@ impl Names {
         requires { granules ≤ MOST_NAMES }
         ensures { result ≡ called self.now granules role word }
     {
-        self.few();
+        let _fact = self.few();
         match role {
             Role::Granule => match self.number(word) {
                 Some(number) => 4096 * number,

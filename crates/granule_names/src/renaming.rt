@@ -29,7 +29,7 @@ pub fn renamed_slot<'w>(
     ensures few { HasFewWords (moment_seen result.moment) }
     ensures happened { IsHappened (happened_seen slot.entry) → IsHappened (happened_seen result) }
 {
-    let _few = names.len();
+    let _fact = names.len();
     let moment = renamed_moment(names, granules, words, last, slot.moment);
     HappenedRef {
         line: slot.line,

@@ -121,8 +121,8 @@ impl Beginning {
     pub(crate) fn well_begun(&self)
         ensures { (line : ℕ) → IsBadLine InHistories self.now line → newlines self.now < line }
     {
-        let _no_newline = self.line.bytes();
-        let _well_formed = next_number(&self.history);
+        let _fact = self.line.bytes();
+        let _fact = next_number(&self.history);
     }
 
     /// The history of the text, where it ends here.
@@ -131,12 +131,12 @@ impl Beginning {
         ensures fault { IfErr result (IsFaultOf self) }
         ensures no_memory { result ≢ Err NoMemory }
     {
-        let _no_newline = self.line.bytes();
+        let _fact = self.line.bytes();
         let Beginning { history, line, .. } = self;
         let Some(history) = history else {
             return Err(HistoryFault::BadLine(1));
         };
-        history.well_formed();
+        let _fact = history.well_formed();
         if !line.is_empty() {
             return Err(HistoryFault::BadLine(history.len() as u64 + 2));
         }
@@ -180,7 +180,7 @@ fn next_number(history: &Option<History>) -> u64
     match history {
         None => 1,
         Some(history) => {
-            history.well_formed();
+            let _fact = history.well_formed();
             history.len() as u64 + 2
         }
     }

@@ -88,7 +88,7 @@ impl History {
     pub fn new(alloc: Global, config: Config) -> History
         ensures { result.recorded ≡ record { config = config; events = [] } }
     {
-        let _in_limits = config.cpus();
+        let _fact = config.cpus();
         History {
             config,
             entries: Vec::new(alloc),
@@ -144,7 +144,7 @@ impl History {
         ensures few { entry.HasFewWords (event_seen result) }
         ensures counts { AreCounts counts.new (take (place + 1) self.now.recorded.events) }
     {
-        self.well_formed();
+        let _fact = self.well_formed();
         counted_event(&self.words, self.entries[place], counts)
     }
 
@@ -195,7 +195,7 @@ impl History {
     pub fn well_formed(&self)
         ensures { IsHistory self.now.recorded }
     {
-        let _entries = &self.entries;
+        let _fact = &self.entries;
     }
 
     /// Whether an event may be recorded next. Room for its line is asked apart from this.
@@ -280,7 +280,7 @@ impl History {
     pub fn has_returned(&self, cpu: u8, number: u32) -> bool
         ensures { IsTrue result ↔ IsFinished self.now.recorded.events cpu number }
     {
-        self.well_formed();
+        let _fact = self.well_formed();
         match self.places_of(cpu, number) {
             Some(places) => places.returned.is_some(),
             None => false,
@@ -292,7 +292,7 @@ impl History {
         ensures some { IfSome result (IsCallOf self.now.recorded.events cpu number) }
         ensures none { IfNone result (¬ IsKnown self.now.recorded.events cpu number) }
     {
-        self.well_formed();
+        let _fact = self.well_formed();
         let Places { called, returned } = self.places_of(cpu, number)?;
         let Some(command) = self.command_at(called as usize) else {
             unreachable!()
@@ -353,7 +353,7 @@ fn has_text(event: &Event) -> bool
     match event {
         Event::Called { command, .. } => rmi_codec::has_text(command),
         Event::Returned { reply, .. } => {
-            reply_has_text(reply);
+            let _fact = reply_has_text(reply);
             true
         }
     }

@@ -16,7 +16,7 @@ use std::alloc::{AllocError, Global};
 pub fn read_back(alloc: Global, history: &History) -> Result<History, AllocError>
     ensures { IfOk result (λ again. again.recorded ≡ history.now.recorded) }
 {
-    history.well_formed();
+    let _fact = history.well_formed();
     let mut text = Vec::new(alloc);
     write(history, &mut text)?;
     match read(alloc, text.as_slice()) {

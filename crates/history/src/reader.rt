@@ -57,7 +57,7 @@ impl Reader {
         }
         match self.beginning.take(piece) {
             Ok(()) => {
-                self.beginning.well_begun();
+                let _fact = self.beginning.well_begun();
                 Ok(())
             }
             Err(fault) => {

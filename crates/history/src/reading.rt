@@ -72,7 +72,7 @@ fn read_event(history: &mut History, words: &mut [u64; 10], line: &[u8]) -> Resu
     ensures fault { IfErr result (λ fault. (more : List ℕ) → IsFaultOf (history_text history.old.recorded ++ (line.now ++ 10 ∷ more)) fault) }
     ensures memory { result ≡ Err NoMemory → EndsWithEvent (history_text history.old.recorded ++ (line.now ++ 10 ∷ [])) }
 {
-    history.well_formed();
+    let _fact = history.well_formed();
     let bad_line = HistoryFault::BadLine(history.len() as u64 + 2);
     if !history.has_room() {
         return Err(bad_line);

@@ -11,7 +11,7 @@ use crate::page::Markup;
 pub fn escaped_plain(bytes: &[u8])
     ensures { list_all is_plain (escaped bytes.now) ≡ true }
 {
-    let _bytes = bytes;
+    let _fact = bytes;
 }
 
 /// Law: the angle brackets and quotes of a page are those of its own pieces, in their order.

@@ -91,6 +91,6 @@ impl<M: Markup> Page<M> {
     pub fn consists_of_pieces(&self)
         ensures { IsWritten M.text self.now.bytes }
     {
-        let _bytes = &self.bytes;
+        let _fact = &self.bytes;
     }
 }

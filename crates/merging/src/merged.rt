@@ -96,7 +96,7 @@ fn front_of(table: &EventTable) -> Front
     ensures stamps { result.stamps ≡ length (known_front table.now.slots) }
     ensures returns { AreReturns result.returns (known_front table.now.slots) }
 {
-    table.well_formed();
+    let _fact = table.well_formed();
     let mut returns = [0; 8];
     for stamp in 0..table.len() {
         let Some(slot) = table.slot(stamp) else {
@@ -143,8 +143,8 @@ fn check_front(
     ensures fault { IfErr result (IsFaultOf config.cpus table.now.slots (events_named naming.now config.granules (known_front table.now.slots))) }
     ensures no_hole { (stamp : ℕ) → result ≢ Err (MergeFault.Hole stamp) }
 {
-    table.well_formed();
-    let _most = table.len();
+    let _fact = table.well_formed();
+    let _fact = table.len();
     let count = config.cpus();
     let granules = config.granules();
     let mut walk = Walk {

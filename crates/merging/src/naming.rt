@@ -36,7 +36,7 @@ pub fn names_known(alloc: Global, table: &EventTable, limits: Limits) -> Result<
     ensures names { IfOk result (λ names. names ≡ names_of limits.memory (known_front table.now.slots)) }
     ensures fault { IfErr result (IsUnnamed limits (known_front table.now.slots)) }
 {
-    table.well_formed();
+    let _fact = table.well_formed();
     let mut names = Names::new(alloc);
     let mut lasts = Lasts::new();
     for stamp in 0..table.len() {

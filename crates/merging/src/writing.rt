@@ -66,7 +66,7 @@ impl Run {
         ensures fault { IfErr result (IsCut (history_text (history_of self.now)) (certificate_text (lines_merged self.now.events))
             (outputs history.old history.new certificate.old certificate.new)) }
     {
-        let _in_limits = self.config.cpus();
+        let _fact = self.config.cpus();
         let Ok(()) = write_header(history, line, self.config) else {
             return Err(WriteFault::History);
         };
@@ -93,8 +93,8 @@ impl Run {
             (outputs history.old history.new certificate.old certificate.new)) }
     {
         let table = &self.table;
-        table.well_formed();
-        let _most = table.len();
+        let _fact = table.well_formed();
+        let _fact = table.len();
         let mut cpus = idle_cpus();
         let mut lasts = Lasts::new();
         for stamp in 0..self.front.stamps {

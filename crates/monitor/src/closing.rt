@@ -47,7 +47,7 @@ impl<S: Site> Monitor<S> {
             → Disagree self.config tokens.items (unlisted_entries unlisted)) }
         ensures short { IfErr result (λ fault. fault ≡ NoMemory → IsShort history tokens.items passes.items) }
     {
-        let _cpus = self.config.cpus();
+        let _fact = self.config.cpus();
         let Monitor {
             journal,
             recorder,
@@ -60,8 +60,6 @@ impl<S: Site> Monitor<S> {
         let tokens = tokens.as_mut_slice();
         let Ordered { mut journal, order } = journal.into_inner();
         journal.audit(tokens);
-        let _size = journal.config();
-        let _books = journal.books();
         if let Err(unlisted) = journal.compare(tokens) {
             return Err(CloseFault::Disagrees(unlisted));
         }

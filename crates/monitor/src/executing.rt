@@ -1,9 +1,9 @@
 //! A CPU executes a command.
 
-ghost use Rattle.std.specs.Prelude.{◌≡◌, ◌≤◌, ◌↔◌, true, false, [], IsTrue, IfOk, IfErr, OnErr, Err};
+ghost use Rattle.std.specs.Prelude.{◌≡◌, ◌≤◌, ◌↔◌, true, false, List, IsTrue, IfOk, IfErr, OnErr, Err};
 ghost use Rattle.rmm_spec.specs.CommandText.{IsCommand};
 ghost use Rattle.command_core.specs.Seen.{place_of};
-ghost use Rattle.granule_lock.specs.HeldCells.{freed_cells, hold_cells};
+ghost use Rattle.rmm_spec.specs.Local.{HeldCell};
 ghost use Rattle.event_queue.specs.Stages as stages;
 ghost use Rattle.monitor.specs.Causes.{HadCause, FaultHadCause};
 ghost use Rattle.monitor.specs.Executed.{ArePaired, Leaves, FullAtSomeMoment, HasCalled, HasCommitted, HasFailed, IsPastSeen, committed, returned, unreturned};
@@ -53,9 +53,7 @@ impl<S: Site> Monitor<S> {
         if self.recorder.call(rt, pass, recorded).is_err() {
             return Err(Refused::Full);
         }
-        let mut hold = Hold::new();
-        let committed = self.commit_locked(rt, alloc, token, pass, &mut hold, gate, &command);
-        hold.end();
+        let committed = self.commit_locked(rt, alloc, token, pass, gate, &command);
         match committed {
             Ok(done) => self.record_return(rt, token, pass, done),
             Err(fault) => {
@@ -73,15 +71,12 @@ impl<S: Site> Monitor<S> {
         alloc: Global,
         token: &mut CpuToken<S>,
         pass: &mut CpuPass,
-        hold: &mut Hold,
         gate: &G,
         command: &Command,
     ) -> Result<Done, CommitFault>
         requires queue { pass.old.queue ≡ self.now.queue }
         requires called { HasCalled token.old command.now pass.old }
-        requires unlocked { hold_cells hold.old ≡ [] }
-        ensures unlocked { hold_cells hold.new ≡ [] }
-        ensures held { WereHeld self.now.config command.now token.old (place_of token.new.place) (freed_cells hold.new) result }
+        ensures held { (cells : List HeldCell) × WereHeld self.now.config command.now token.old (place_of token.new.place) cells result }
         ensures done { IfOk result (λ done. HasCommitted token.old command.now done token.new) }
         ensures pass { IfOk result (λ done. pass.new ≡ committed pass.old done.reply) }
         ensures told { IfOk result (λ done. token.old.seen ≤ done.ticket) }
@@ -89,16 +84,18 @@ impl<S: Site> Monitor<S> {
         ensures kept { OnErr result (pass.new ≡ pass.old) }
         ensures cause { IfErr result (λ fault. HadCause self.now.config fault command.now token.old) }
     {
+        let mut hold = Hold::new();
         let place = token.place();
-        lock_for(rt, &self.granules, &self.config, &place, command, hold);
+        lock_for(rt, &self.granules, &self.config, &place, command, &mut hold);
         gate.pass(token.cpu(), command);
         let mut journal = LockedJournal {
             rt,
             monitor: self,
             pass,
         };
-        let done = commit(alloc, &mut journal, token, hold, command);
-        free_all(rt, &self.granules, hold);
+        let done = commit(alloc, &mut journal, token, &mut hold, command);
+        free_all(rt, &self.granules, &mut hold);
+        hold.end();
         done
     }
 

@@ -50,6 +50,6 @@ fn line_of(history: &History, entry: Logged<'_, u8>, number: u32) -> Line
         return Line::Keep { cpu, number };
     }
     let reply = entry.reply.to_reply();
-    reply_has_text(&reply);
+    let _fact = reply_has_text(&reply);
     Line::Unfinished { cpu, number, reply }
 }

@@ -4,6 +4,7 @@ ghost use Rattle.std.specs.Prelude.{◌≡◌};
 ghost use Rattle.monitor.specs.Ordered.{IsInStep};
 
 use crate::monitor::Monitor;
+use crate::ordered::HeldCommand;
 use commit_tickets::{CommitFault, CpuToken, Draft, JournalAccess, Site};
 use event_queue::CpuPass;
 use granule_lock::Hold;
@@ -48,7 +49,8 @@ impl<'a, S: Site, R: Wait> JournalAccess<S> for LockedJournal<'a, S, R> {
         let mut locked = monitor.journal.enter(self.rt);
         let ordered = &mut **locked;
         let recorder = &monitor.recorder;
-        let entered = ordered.enter(alloc, recorder, self.pass, token, hold, command, draft);
+        let held = HeldCommand { command, hold };
+        let entered = ordered.enter(alloc, recorder, self.pass, token, &held, draft);
         drop(locked);
         monitor.journal.leave();
         entered

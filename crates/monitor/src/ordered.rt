@@ -36,6 +36,13 @@ impl<S: Site> Model for Ordered<S> {
     ghost invariant = { λ o. (o.order.queue ≡ S.queue) × (o.order.entries ≡ o.journal.entries) };
 }
 
+/// A command, and what its CPU holds for it.
+#[derive(Drop)]
+pub(crate) struct HeldCommand<'a> {
+    pub(crate) command: &'a Command,
+    pub(crate) hold: &'a Hold,
+}
+
 impl<S: Site> Ordered<S> {
     /// Enters a draft by the token and the pass of its CPU. Where it comes to stand in the journal, the pass has committed its call
     /// with the draft's reply.
@@ -45,19 +52,19 @@ impl<S: Site> Ordered<S> {
         recorder: &Recorder,
         pass: &mut CpuPass,
         token: &mut CpuToken<S>,
-        hold: &Hold,
-        command: &Command,
+        held: &HeldCommand<'_>,
         draft: &mut Draft,
     ) -> Result<usize, CommitFault>
         requires queue { (recorder.now.queue ≡ S.queue) × (pass.old.queue ≡ recorder.now.queue) }
-        requires called { (pass.old.cpu ≡ token.old.cpu) × (pass.old.stage ≡ stages.Open command.now) }
-        requires settled { IsTrue (is_settled S.config (call_of command.now) (place_of token.old.place) (hold_cells hold.now)) }
-        requires draft { IsDraft S.config command.now token.old (hold_cells hold.now) draft.old }
+        requires called { (pass.old.cpu ≡ token.old.cpu) × (pass.old.stage ≡ stages.Open held.now.command.now) }
+        requires settled { IsTrue (is_settled S.config (call_of held.now.command.now) (place_of token.old.place) (hold_cells held.now.hold.now)) }
+        requires draft { IsDraft S.config held.now.command.now token.old (hold_cells held.now.hold.now) draft.old }
         ensures entry { HasJournals (λ before after. (before ≡ self.old) × (after ≡ self.new)) (λ before after.
-            IsEntry S.config command.now before after token.old token.new (hold_cells hold.now) draft.new result) }
+            IsEntry S.config held.now.command.now before after token.old token.new (hold_cells held.now.hold.now) draft.new result) }
         ensures committed { OnOk result (pass.new ≡ record pass.old { stage = stages.Committed (given_of draft.new.answer) }) }
         ensures kept { OnErr result (pass.new ≡ pass.old) }
     {
+        let (hold, command) = (held.hold, held.command);
         let entered = self.journal.enter(alloc, token, hold, command, draft);
         if entered.is_ok() {
             recorder.commit(&mut self.order, pass, draft.reply());

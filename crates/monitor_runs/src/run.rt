@@ -5,7 +5,7 @@ ghost use Rattle.rmm_spec.specs.Scenario.{IsScenario};
 ghost use Rattle.run_texts.specs.declared.fault.RunFault.TheVariants.{Disagrees};
 ghost use Rattle.monitor_runs.specs.ThreadRun.{IsThreadRun, IsPrinted, MayDisagree};
 
-use crate::working::{Ended, work_all};
+use crate::working::{Ended, Waiting, work_all};
 use certificate::Certificate;
 use granule_state::Config;
 use history::History;
@@ -62,9 +62,12 @@ fn recorded<S: Site + Send + Sync, R: Threads + Wait + Sync>(
     let programs = copied_programs(alloc, scenario.programs())?;
     let (monitor, tokens, passes, scribe) = Monitor::<S>::new(alloc, blank, config, queue)?;
     let history = History::new(alloc, config);
-    let ended = work_all(
-        rt, alloc, &monitor, scenario, tokens, passes, programs, scribe, history,
-    )?;
+    let waiting = Waiting {
+        tokens,
+        passes,
+        programs,
+    };
+    let ended = work_all(rt, alloc, &monitor, scenario, waiting, scribe, history)?;
     let Ended {
         tokens,
         passes,

@@ -19,6 +19,14 @@ use std::sync::atomic::{AtomicU64, Ordering};
 use std::thread;
 use std::thread::{Promise, PromisedHandle, Threads};
 
+/// The CPUs before their first commands: their tokens, their passes and their programs.
+#[derive(Drop)]
+pub(crate) struct Waiting<S: Site> {
+    pub(crate) tokens: Vec<CpuToken<S>>,
+    pub(crate) passes: Vec<CpuPass>,
+    pub(crate) programs: Vec<Vec<Command>>,
+}
+
 /// What is left when all CPUs have ended.
 #[derive(Drop)]
 pub(crate) struct Ended<S: Site> {
@@ -46,14 +54,13 @@ pub(crate) fn work_all<S: Site + Send + Sync, R: Threads + Wait + Sync>(
     alloc: Global,
     monitor: &Monitor<S>,
     scenario: &Scenario,
-    tokens: Vec<CpuToken<S>>,
-    passes: Vec<CpuPass>,
-    programs: Vec<Vec<Command>>,
+    waiting: Waiting<S>,
     scribe: ScribePass,
     history: History,
 ) -> Result<Ended<S>, RunFault>
     requires limits { IsScenario scenario.now }
-    requires waiting { AreWaiting monitor.now scenario.now.programs tokens.items passes.items programs.items × (length tokens.items ≡ monitor.now.config.cpus) }
+    requires waiting { AreWaiting monitor.now scenario.now.programs waiting.tokens.items waiting.passes.items waiting.programs.items
+        × (length waiting.tokens.items ≡ monitor.now.config.cpus) }
     requires drained { CanDrain monitor.now.queue scribe history.recorded }
     ensures { MatchResult result (λ ended. HasEnded monitor.now scenario.now.programs history.recorded.config
         ended.tokens.items ended.passes.items ended.scribe ended.history.recorded) (λ fault. fault ≢ Disagrees) }
@@ -65,15 +72,16 @@ pub(crate) fn work_all<S: Site + Send + Sync, R: Threads + Wait + Sync>(
         rt,
         |scope| -> Result<Ended<S>, RunFault>
             requires { IsScenario scenario.now × CanDrain monitor.now.queue scribe history.recorded
-                × AreWaiting monitor.now scenario.now.programs tokens.items passes.items programs.items × (length tokens.items ≡ monitor.now.config.cpus) }
+                × AreWaiting monitor.now scenario.now.programs waiting.tokens.items waiting.passes.items waiting.programs.items
+                × (length waiting.tokens.items ≡ monitor.now.config.cpus) }
             ensures { MatchResult result (λ ended. HasEnded monitor.entry.now scenario.entry.now.programs history.recorded.config
                 ended.tokens.items ended.passes.items ended.scribe ended.history.recorded) (λ fault. fault ≢ Disagrees) }
         {
-            let (mut tokens, mut passes, mut programs) = (tokens, passes, programs);
+            let mut waiting = waiting;
             let cpus = monitor.config().cpus();
             let mut workers = Vec::with_capacity(alloc, usize::from(cpus))?;
             for _cpu in 0..cpus {
-                let cpu = last_cpu(monitor, scenario, &mut tokens, &mut passes, &mut programs);
+                let cpu = last_cpu(monitor, scenario, &mut waiting);
                 let promise = Works {
                     monitor,
                     cpu: cpu.token.cpu(),
@@ -101,20 +109,18 @@ pub(crate) fn work_all<S: Site + Send + Sync, R: Threads + Wait + Sync>(
 fn last_cpu<S: Site>(
     _monitor: &Monitor<S>,
     _scenario: &Scenario,
-    tokens: &mut Vec<CpuToken<S>>,
-    passes: &mut Vec<CpuPass>,
-    programs: &mut Vec<Vec<Command>>,
+    waiting: &mut Waiting<S>,
 ) -> Cpu<S>
     requires limits { IsScenario _scenario.now }
-    requires waiting { AreWaiting _monitor.now _scenario.now.programs tokens.old.items passes.old.items programs.old.items }
-    requires some { 0 < length tokens.old.items }
-    ensures last { IsLast _monitor.now _scenario.now.programs tokens.new.items passes.new.items programs.new.items
+    requires waiting { AreWaiting _monitor.now _scenario.now.programs waiting.old.tokens.items waiting.old.passes.items waiting.old.programs.items }
+    requires some { 0 < length waiting.old.tokens.items }
+    ensures last { IsLast _monitor.now _scenario.now.programs waiting.new.tokens.items waiting.new.passes.items waiting.new.programs.items
         result.token result.pass result.program.items }
-    ensures count { length tokens.old.items ≡ length tokens.new.items + 1 }
+    ensures count { length waiting.old.tokens.items ≡ length waiting.new.tokens.items + 1 }
 {
-    let token = last_of(tokens);
-    let pass = last_of(passes);
-    let program = last_of(programs);
+    let token = last_of(&mut waiting.tokens);
+    let pass = last_of(&mut waiting.passes);
+    let program = last_of(&mut waiting.programs);
     Cpu {
         token,
         pass,

@@ -83,7 +83,7 @@ impl Reader {
         ensures read { IfOk result (λ table. (text : List ℕ) → HasRead self text → IsTableOf text table) }
         ensures fault { IfErr result (λ fault. (text : List ℕ) → HasRead self text → IsFaultOf text fault) }
     {
-        let _no_newline = self.line.bytes();
+        let _fact = self.line.bytes();
         let Reader { table, line, .. } = self;
         if !line.is_empty() {
             return Err(EventsFault::BadLine(number_after(&table)));

@@ -97,7 +97,7 @@ impl EventTable {
     pub fn well_formed(&self)
         ensures { (stamp : ℕ) (slot : Happened) → slot_at self.now.slots stamp ≡ Some slot → IsHappened slot }
     {
-        let _slots = &self.slots;
+        let _fact = &self.slots;
     }
 
     /// Puts the next line's event at its stamp, where none is known. Where memory is refused, nothing is put.

@@ -87,48 +87,53 @@ fn push_run<S: Site, R: Wait>(
     requires granules { config ≡ S.config }
     requires queue { (queue.queue ≡ S.queue) × (queue.cpus ≡ config.cpus) }
 {
-    let (monitor, mut tokens, mut passes, mut scribe) = Monitor::<S>::new(
-        alloc, blank, config, queue,
-    )?;
-    let mut history = History::new(alloc, config);
-    take_steps(
+    let (monitor, mut tokens, mut passes, scribe) = Monitor::<S>::new(alloc, blank, config, queue)?;
+    let mut drained = Drained {
+        scribe,
+        history: History::new(alloc, config),
+    };
+    let answers = take_steps(
         rt,
         alloc,
         &monitor,
         tokens.as_mut_slice(),
         passes.as_mut_slice(),
-        &mut scribe,
-        &mut history,
+        &mut drained,
         steps,
-        out,
     )?;
-    push_closed(rt, alloc, monitor, tokens, passes, scribe, history, out)
+    out.extend_from_slice(answers.as_slice())?;
+    push_closed(rt, alloc, monitor, tokens, passes, drained, out)
 }
 
-// Takes the steps, and appends a line for each answer.
+// The history so far, and the pass by which it is drained into.
+#[derive(Drop)]
+struct Drained {
+    scribe: ScribePass,
+    history: History,
+}
+
+// Takes the steps, and returns a line for each answer.
 fn take_steps<S: Site, R: Wait>(
     rt: &R,
     alloc: Global,
     monitor: &Monitor<S>,
     tokens: &mut [CpuToken<S>],
     passes: &mut [CpuPass],
-    scribe: &mut ScribePass,
-    history: &mut History,
+    drained: &mut Drained,
     steps: &[Step],
-    out: &mut Vec<u8>,
-) -> Result<(), Fault>
+) -> Result<Vec<u8>, Fault>
     requires cpus { AreCpus monitor.now tokens.old passes.old }
-    requires drain { CanDrain monitor.now.queue scribe.old history.old.recorded }
+    requires drain { CanDrain monitor.now.queue drained.old.scribe drained.old.history.recorded }
     ensures cpus { AreCpus monitor.now tokens.new passes.new }
-    ensures drain { CanDrain monitor.now.queue scribe.new history.new.recorded }
-    ensures config { history.new.recorded.config ≡ history.old.recorded.config }
+    ensures drain { CanDrain monitor.now.queue drained.new.scribe drained.new.history.recorded }
+    ensures config { drained.new.history.recorded.config ≡ drained.old.history.recorded.config }
 {
+    let mut answers = Vec::new(alloc);
     for step in steps {
-        take_step(
-            rt, alloc, monitor, tokens, passes, scribe, history, *step, out,
-        )?;
+        let lines = take_step(rt, alloc, monitor, tokens, passes, drained, *step)?;
+        answers.extend_from_slice(lines.as_slice())?;
     }
-    Ok(())
+    Ok(answers)
 }
 
 fn take_step<S: Site, R: Wait>(
@@ -137,24 +142,22 @@ fn take_step<S: Site, R: Wait>(
     monitor: &Monitor<S>,
     tokens: &mut [CpuToken<S>],
     passes: &mut [CpuPass],
-    scribe: &mut ScribePass,
-    history: &mut History,
+    drained: &mut Drained,
     step: Step,
-    out: &mut Vec<u8>,
-) -> Result<(), Fault>
+) -> Result<Vec<u8>, Fault>
     requires cpus { AreCpus monitor.now tokens.old passes.old }
-    requires drain { CanDrain monitor.now.queue scribe.old history.old.recorded }
+    requires drain { CanDrain monitor.now.queue drained.old.scribe drained.old.history.recorded }
     ensures cpus { AreCpus monitor.now tokens.new passes.new }
-    ensures drain { CanDrain monitor.now.queue scribe.new history.new.recorded }
-    ensures config { history.new.recorded.config ≡ history.old.recorded.config }
+    ensures drain { CanDrain monitor.now.queue drained.new.scribe drained.new.history.recorded }
+    ensures config { drained.new.history.recorded.config ≡ drained.old.history.recorded.config }
 {
     let Step::Execute(cpu, text) = step else {
-        return drain(rt, monitor, scribe, history, out);
+        return drain(rt, alloc, monitor, drained);
     };
-    execute(rt, alloc, monitor, tokens, passes, cpu, text, out)
+    execute(rt, alloc, monitor, tokens, passes, cpu, text)
 }
 
-// A CPU executes a command, and the same once more where memory is refused.
+// A CPU executes a command, and the same once more where memory is refused. Returns a line for each answer.
 fn execute<S: Site, R: Wait>(
     rt: &R,
     alloc: Global,
@@ -163,8 +166,7 @@ fn execute<S: Site, R: Wait>(
     passes: &mut [CpuPass],
     cpu: u8,
     text: &str,
-    out: &mut Vec<u8>,
-) -> Result<(), Fault>
+) -> Result<Vec<u8>, Fault>
     requires { AreCpus monitor.now tokens.old passes.old }
     ensures { AreCpus monitor.now tokens.new passes.new }
 {
@@ -172,31 +174,15 @@ fn execute<S: Site, R: Wait>(
     if cpu >= usize::from(monitor.config().cpus()) {
         return Err(Fault::Wrong("no such CPU"));
     }
-    if !tell(rt, alloc, monitor, tokens, passes, cpu, text, out)? {
-        return Ok(());
-    }
-    tell(rt, alloc, monitor, tokens, passes, cpu, text, out)?;
-    Ok(())
-}
-
-// Appends a line of what a CPU is answered. Whether that is a refusal of memory.
-fn tell<S: Site, R: Wait>(
-    rt: &R,
-    alloc: Global,
-    monitor: &Monitor<S>,
-    tokens: &mut [CpuToken<S>],
-    passes: &mut [CpuPass],
-    cpu: usize,
-    text: &str,
-    out: &mut Vec<u8>,
-) -> Result<bool, Fault>
-    requires cpus { AreCpus monitor.now tokens.old passes.old }
-    requires cpu { cpu < monitor.now.config.cpus }
-    ensures { AreCpus monitor.now tokens.new passes.new }
-{
+    let mut lines = Vec::new(alloc);
     let answer = ask(rt, alloc, monitor, tokens, passes, cpu, text)?;
-    push_answer(&answer, out)?;
-    Ok(matches!(answer, Err(Refused::NoMemory)))
+    push_answer(&answer, &mut lines)?;
+    if !matches!(answer, Err(Refused::NoMemory)) {
+        return Ok(lines);
+    }
+    let answer = ask(rt, alloc, monitor, tokens, passes, cpu, text)?;
+    push_answer(&answer, &mut lines)?;
+    Ok(lines)
 }
 
 // What a CPU is answered.
@@ -243,25 +229,26 @@ fn push_done(done: &Done, out: &mut Vec<u8>) -> Result<(), AllocError> {
     Ok(out.push(b'\n')?)
 }
 
-// Drains, and once more where memory is refused. Appends a line of how many events were taken.
+// Drains, and once more where memory is refused. Returns a line of how many events were taken.
 fn drain<S: Site, R: Wait>(
     rt: &R,
+    alloc: Global,
     monitor: &Monitor<S>,
-    scribe: &mut ScribePass,
-    history: &mut History,
-    out: &mut Vec<u8>,
-) -> Result<(), Fault>
-    requires { CanDrain monitor.now.queue scribe.old history.old.recorded }
-    ensures drain { CanDrain monitor.now.queue scribe.new history.new.recorded }
-    ensures config { history.new.recorded.config ≡ history.old.recorded.config }
+    drained: &mut Drained,
+) -> Result<Vec<u8>, Fault>
+    requires { CanDrain monitor.now.queue drained.old.scribe drained.old.history.recorded }
+    ensures drain { CanDrain monitor.now.queue drained.new.scribe drained.new.history.recorded }
+    ensures config { drained.new.history.recorded.config ≡ drained.old.history.recorded.config }
 {
-    let taken = match monitor.drain(rt, scribe, history) {
+    let taken = match monitor.drain(rt, &mut drained.scribe, &mut drained.history) {
         Ok(taken) => taken,
-        Err(_) => monitor.drain(rt, scribe, history)?,
+        Err(_) => monitor.drain(rt, &mut drained.scribe, &mut drained.history)?,
     };
-    out.extend_from_slice(b"drained ")?;
-    push_decimal(out, taken as u64)?;
-    Ok(out.push(b'\n')?)
+    let mut line = Vec::new(alloc);
+    line.extend_from_slice(b"drained ")?;
+    push_decimal(&mut line, taken as u64)?;
+    line.push(b'\n')?;
+    Ok(line)
 }
 
 // Closes the run, and appends its texts and the verdict's line.
@@ -271,17 +258,17 @@ fn push_closed<S: Site, R: Wait>(
     monitor: Monitor<S>,
     tokens: Vec<CpuToken<S>>,
     passes: Vec<CpuPass>,
-    scribe: ScribePass,
-    history: History,
+    drained: Drained,
     out: &mut Vec<u8>,
 ) -> Result<(), Fault>
     requires cpus { AreCpus monitor tokens.items passes.items }
-    requires drain { CanDrain monitor.queue scribe history.recorded }
-    requires config { history.recorded.config ≡ monitor.config }
+    requires drain { CanDrain monitor.queue drained.scribe drained.history.recorded }
+    requires config { drained.history.recorded.config ≡ monitor.config }
 {
     if !fit_a_history(&passes) {
         return Err(Fault::Wrong("more events than a history has"));
     }
+    let Drained { scribe, history } = drained;
     let (recorded, order) = monitor.close(rt, alloc, tokens, passes, scribe, history)?;
     let mut history = Vec::new(alloc);
     history::write(&recorded, &mut history)?;

@@ -10,16 +10,14 @@ use rmm_spec::{Command, Reply};
 fn are_words(words: &[u64])
     ensures { AreWords words.now }
 {
-    for word in words {
-        let _in_range = *word;
-    }
+    let _fact = words;
 }
 
 /// Whether a command has a text: whether it has as many words as its function takes.
 pub fn has_text(command: &Command) -> bool
     ensures { IsTrue result ↔ IsCommand command.now }
 {
-    are_words(command.words.as_slice());
+    let _fact = are_words(command.words.as_slice());
     command.words.len() == words_of(command.function)
 }
 
@@ -30,7 +28,7 @@ pub fn reply_has_text(reply: &Reply)
     match reply {
         Reply::Ok(words) => are_words(words.as_slice()),
         Reply::Err(status, index) => {
-            let _in_range = (*status, *index);
+            let _fact = (*status, *index);
         }
         Reply::Misplaced => {}
     }

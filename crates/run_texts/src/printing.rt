@@ -26,8 +26,8 @@ pub fn print_run(
     ensures valid { IfOk result (λ judged. (judged ≡ Yes (length certificate.now.lines)) ↔ IsLinearization history.now.recorded certificate.now.lines) }
     ensures err { OnErr result (out.new.items ≡ out.old.items) }
 {
-    history.well_formed();
-    let _well_formed = certificate.len();
+    let _fact = history.well_formed();
+    let _fact = certificate.len();
     let mut text = Vec::new(alloc);
     history::write(history, &mut text)?;
     let mut lines = Vec::new(alloc);

@@ -107,11 +107,8 @@ turns = ['2']",
     )
 }
 
-#[test]
-fn keys_and_kinds(rt: HostRuntime) -> Result<(), Fail> {
-    all_have_their_faults(
-        &rt,
-        "2
+// Keys that are missing or unknown, and values of another kind.
+const KEYS_AND_KINDS: &str = "2
 # no keys
 
 2
@@ -223,15 +220,15 @@ queue = 1e3
 \"granules\" = 4
 'cpus' = 1
 programs = [[]] # none
-turns = []",
-    )
-}
+turns = []";
 
 #[test]
-fn by_the_grammar_of_toml(rt: HostRuntime) -> Result<(), Fail> {
-    all_have_their_faults(
-        &rt,
-        "1
+fn keys_and_kinds(rt: HostRuntime) -> Result<(), Fail> {
+    all_have_their_faults(&rt, KEYS_AND_KINDS)
+}
+
+// What the grammar of TOML takes or refuses.
+const GRAMMAR_OF_TOML: &str = "1
 granules = 4
 granules = 4
 cpus = 1
@@ -307,8 +304,11 @@ cpus = +1
 programs = [
     # two commands
     ['''c4000151 1000''', \"c4000152\\u00201000\"],
-]",
-    )?;
+]";
+
+#[test]
+fn by_the_grammar_of_toml(rt: HostRuntime) -> Result<(), Fail> {
+    all_have_their_faults(&rt, GRAMMAR_OF_TOML)?;
     let marked = b"\xef\xbb\xbfgranules = 4\r\ncpus = 1\r\nprograms = [[]]\r\n";
     assert_eq!(rt; fault_number(&rt, marked), 0);
     assert_eq!(rt; fault_number(&rt, &marked[1..]), 1);
@@ -319,11 +319,8 @@ programs = [
     Ok(())
 }
 
-#[test]
-fn ranges(rt: HostRuntime) -> Result<(), Fail> {
-    all_have_their_faults(
-        &rt,
-        "0
+// The ends of each range.
+const RANGES: &str = "0
 granules = 1
 cpus = 1
 programs = [[]]
@@ -389,8 +386,11 @@ limit = 0
 granules = 1
 cpus = 1
 programs = [[]]
-limit = 10000001",
-    )
+limit = 10000001";
+
+#[test]
+fn ranges(rt: HostRuntime) -> Result<(), Fail> {
+    all_have_their_faults(&rt, RANGES)
 }
 
 #[test]

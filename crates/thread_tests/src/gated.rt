@@ -137,19 +137,26 @@ fn ask_second<S: Site, R: Wait>(
     Some(answer?.1)
 }
 
+/// CPU 0 and CPU 1.
+#[derive(Drop)]
+struct Cpus<S: Site> {
+    first: Cpu<S>,
+    second: Cpu<S>,
+}
+
 /// Both CPUs on threads of their own: CPU 1 is asked once CPU 0 is held up.
 fn ask_both<S: Site + Send + Sync, R: Threads + Wait + Sync>(
     rt: &R,
     alloc: Global,
     monitor: &Monitor<S>,
     gate: &Turnstile,
-    first: Cpu<S>,
-    second: Cpu<S>,
+    cpus: Cpus<S>,
     pair: Pair,
     answered: &AtomicBool,
 ) -> (Option<Answer>, Option<Answer>)
-    requires { ArePaired monitor.now first.token first.pass × ArePaired monitor.now second.token second.pass }
+    requires { ArePaired monitor.now cpus.first.token cpus.first.pass × ArePaired monitor.now cpus.second.token cpus.second.pass }
 {
+    let Cpus { first, second } = cpus;
     thread::join(
         rt,
         || -> Option<Answer>
@@ -187,8 +194,7 @@ fn ask_apart<S: Site + Send + Sync, R: Threads + Wait + Sync>(
         alloc,
         &monitor,
         &gate,
-        first,
-        second,
+        Cpus { first, second },
         pair,
         &gate.is_open,
     );
@@ -319,8 +325,7 @@ fn delegate_same<S: Site + Send + Sync, R: Threads + Wait + Sync>(
                 alloc,
                 &monitor,
                 &gate,
-                first,
-                second,
+                Cpus { first, second },
                 Pair::OneGranule,
                 &answered,
             )

@@ -190,8 +190,8 @@ fn push_judged(
     verdict_text(&verdict, out)
 }
 
-/// Closes the run, and appends its certificate and the verdict's line.
-fn close<S: Site, R: Wait>(
+/// Closes the run, and returns what it recorded and committed.
+fn closed<S: Site, R: Wait>(
     rt: &R,
     alloc: Global,
     monitor: Monitor<S>,
@@ -199,8 +199,7 @@ fn close<S: Site, R: Wait>(
     passes: Vec<CpuPass>,
     scribe: ScribePass,
     history: History,
-    out: &mut Vec<u8>,
-) -> Result<(), Fail>
+) -> Result<(History, Certificate), Fail>
     requires cpus { AreCpus monitor tokens.items passes.items }
     requires drain { CanDrain monitor.queue scribe history.recorded }
     requires config { history.recorded.config ≡ monitor.config }
@@ -208,8 +207,7 @@ fn close<S: Site, R: Wait>(
     if !fit_a_history(&passes) {
         return Err("a history with room for the rest".into());
     }
-    let (recorded, order) = monitor.close(rt, alloc, tokens, passes, scribe, history)?;
-    Ok(push_judged(alloc, &recorded, &order, out)?)
+    Ok(monitor.close(rt, alloc, tokens, passes, scribe, history)?)
 }
 
 /// Appends what two CPUs are told and have seen, and then the certificate and the verdict's line.
@@ -236,7 +234,8 @@ fn run_two<S: Site + Send + Sync, R: Threads + Wait + Sync>(
     let (first, second) = tell_in_turn(rt, alloc, &monitor, first, second, is_apart, out)?;
     let (tokens, passes) = parted(alloc, &monitor, first, second)?;
     let history = History::new(alloc, config);
-    close(rt, alloc, monitor, tokens, passes, scribe, history, out)
+    let (recorded, order) = closed(rt, alloc, monitor, tokens, passes, scribe, history)?;
+    Ok(push_judged(alloc, &recorded, &order, out)?)
 }
 
 /// What the run of two CPUs appends.

@@ -33,7 +33,7 @@ impl World {
         ensures only_recorded { OnErr result (Records (world_of self.old) cpu) }
         ensures only_short { OnErr result (IsShort (event_room self.old) (commit_room self.old) (world_of self.old) cpu) }
     {
-        self.history.well_formed();
+        let _fact = self.history.well_formed();
         let Some(command) = self.cpus.next_command(cpu) else {
             self.cpus.set_waits(cpu, None);
             return Ok(Turned::Idle);

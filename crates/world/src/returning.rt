@@ -41,7 +41,7 @@ impl World {
         ensures only_recorded { OnErr result (Records (world_of self.old) cpu) }
         ensures only_short { OnErr result (IsShort (event_room self.old) (commit_room self.old) (world_of self.old) cpu) }
     {
-        self.history.well_formed();
+        let _fact = self.history.well_formed();
         let event = Event::Returned { cpu, number, reply };
         let Ok(()) = self.history.push(event) else {
             return Err(AllocError);

@@ -19,7 +19,7 @@ ghost use Rattle.world.specs.Stepped.{IsAnswered, MakesStep};
 use crate::cells::Cells;
 use crate::cpus::Cpus;
 use crate::lent::{give_back, lend};
-use command_core::{CpuPlace, Held, Side, applied_decisions_are_local, apply, decide, room};
+use command_core::{CpuPlace, Held, Side, applied_decisions_are_local, apply, decide, room_for};
 use granule_state::Config;
 use rmm_spec::{Command, Reply};
 use std::alloc::{AllocError, Global};
@@ -45,12 +45,12 @@ fn step_on<H: Held>(
         ≡ hold_of (H.cells held.old) (side_of side.old) (place_of place.old)) }
     ensures only { OnErr result (MakesTable config.now cpu command.now (hold_of (H.cells held.old) (side_of side.old) (place_of place.old))) }
 {
-    applied_decisions_are_local();
+    let _fact = applied_decisions_are_local();
     let (reply, change) = decide(config, command, cpu, place, held, side);
     if !is_accepted(&reply) {
         return Ok(reply);
     }
-    let Ok(room) = room(alloc, side, &change) else {
+    let Ok(room) = room_for(alloc, &change) else {
         return Err(AllocError);
     };
     apply(held, side, place, change, room);

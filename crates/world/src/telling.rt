@@ -39,7 +39,7 @@ impl World {
         ensures lines { IfOk result (λ certificate. certificate.lines ≡ certificate_of (world_of self.now)) }
         ensures refused { OnErr result (0 < length (world_of self.now).journal) }
     {
-        self.history.well_formed();
+        let _fact = self.history.well_formed();
         let mut lines = Certificate::new(alloc);
         for place in 0..self.journal.len() {
             let commit = self.journal.commit(place);
@@ -64,10 +64,10 @@ impl World {
         ensures still { StandsStill (world_of self.now)
             → ∥ WaitsBehindStopped (world_of self.now) (Wants (blocking (world_of self.now))) ∥₁ }
     {
-        every_run_is_certified();
-        no_wait_cycle();
-        stuck_behind_stopped();
-        let _kept = &self.history;
+        let _fact = every_run_is_certified();
+        let _fact = no_wait_cycle();
+        let _fact = stuck_behind_stopped();
+        let _fact = &self.history;
     }
 }
 

@@ -36,7 +36,7 @@ fn print_played(
     ensures err { OnErr result (out.new.items ≡ out.old.items) }
 {
     let world = played(alloc, scenario)?;
-    every_run_is_certified();
+    let _fact = every_run_is_certified();
     let history = world.history(alloc)?;
     let certificate = world.certificate(alloc)?;
     print_run(alloc, &history, &certificate, out)

@@ -10,4 +10,4 @@ returns-in-None-clause-judged c = λ order counted all.
     let history = c.args.history.now.recorded in
     let named = rw c.in-None.is at c.first_missing.ensures order all in
     subst (Accepts history order) (sym counted)
-    (Accepts-from_Passes history c.requires.is_history (HasOnePlaces-from_history history c.requires.is_history) order _ all.passes named)
+    (Accepts-from_Passes history all.is_history (HasOnePlaces-from_history history all.is_history) order _ all.passes named)

@@ -43,7 +43,7 @@ invariant_of-token-3 g c =
       ticket,
       length-map entries entry_of,
       ap (λ (j : JournalView). length j.entries) c.journal.view_is,
-      c.len.ensures,
+      c.len.ensures.count,
       c.if-len-token.false,
     ) in
     let next : c.len-2.result ≡ c.len-ticket.result + 1 = omega (

@@ -14,5 +14,5 @@ refused-requires-clause-refuses c =
     let found = c.failing_line-index-in-Reply in
     let left = c.requires.left in
     let same : left.0 ≡ found.result.0 = omega (arith, left.1, found.ensures.counted) in
-    refused-there history c.well_formed-in-Reply.ensures lines c.args.step found.result.0 (line_seen found.result.1) s
+    refused-there history c.well_formed-fact.ensures lines c.args.step found.result.0 (line_seen found.result.1) s
     (rw c.in-Reply.is at c.requires.fault) found.ensures.counted found.ensures.is_line (subst (λ (i : ℕ). Passes history (take i lines) s) same left.2)

@@ -21,7 +21,7 @@ returns-clause-decision c claimed =
     let s = state_of c.args.machine.now in
     let first = rw c.call.ensures at (some_found c.in_ok-found.found _ _ c.in-Some.test c.in_ok-found.ensures c.in-Some.is) in
     let command = c.args.command.now in
-    let each = c.words_are_asked.ensures command.function command.words.items c.args.cpu (rec_inside s c.args.cpu) in
+    let each = c.words_are_asked-fact.ensures command.function command.words.items c.args.cpu (rec_inside s c.args.cpu) in
     IsDecision-condition s c.args.cpu c.args.command.now claimed c.in-Some.test c.condition_decision.result.deciding c.condition_decision.result.watch
     (IsFailing-first s c.args.cpu c.args.command.now first.0 c.in-Some.test first.1)
     (first-has s _ first.0 c.in-Some.test (IsOfWords command.words.items) each first.1) c.condition_decision.ensures

@@ -16,7 +16,7 @@ returns-then-not-overlap c =
     let line = line_seen c.args.line in
     let call = c.args.call.now in
     let other = rw (c.called_by-cpu.ensures.cpu, c.called_by-cpu.ensures.number) at c.in-Some.ensures.some in
-    let test = c.if-not-overlap.ensures h call.cpu call.number (cpu_named line) (number_named line) c.requires.is_history c.requires.places other in
+    let test = c.if-not-overlap.ensures h call.cpu call.number (cpu_named line) (number_named line) c.well_formed-fact.ensures c.requires.places other in
     not_taken h.events call.cpu call.number line (state_of c.args.machine.now) (λ next takes. let bad : false ≡ true = test.1 takes.overlaps in cc)
 
 pub returns-then-not-is_of_its_kind : goal.returns-then-not-is_of_its_kind
@@ -39,10 +39,10 @@ returns c =
     let line = line_seen c.args.line in
     let call = c.args.call.now in
     let other = rw (c.called_by-cpu.ensures.cpu, c.called_by-cpu.ensures.number) at c.in-Some.ensures.some in
-    let overlaps = (c.if-not-overlap.ensures h call.cpu call.number (cpu_named line) (number_named line) c.requires.is_history c.requires.places other).0 refl in
+    let overlaps = (c.if-not-overlap.ensures h call.cpu call.number (cpu_named line) (number_named line) c.well_formed-fact.ensures c.requires.places other).0 refl in
     let kind = (c.if-not-is_of_its_kind.ensures h.events other).0 refl in
     let command = command_seen c.in-Some-command_at.command in
     let is_called = told_at_call h.events c.in-Some.other.called (cpu_named line) (number_named line) command other.called c.in-Some-command_at.ensures.some in
-    moves_ok h c.requires.is_history call.cpu call.number line c.in-Some.other.called command (reply_seen c.claimed_reply-reply.result)
+    moves_ok h c.well_formed-fact.ensures call.cpu call.number line c.in-Some.other.called command (reply_seen c.claimed_reply-reply.result)
     (state_of c.args.machine.now) (state_of c.offer_seen.new.self) c.offer_seen.result overlaps kind is_called c.claimed_reply-reply.ensures
     (rw c.called_by-cpu.ensures.cpu at c.offer_seen.ensures.step) c.offer_seen.ensures.kept (rw c.called_by-cpu.ensures.cpu at c.offer_seen.ensures.only)

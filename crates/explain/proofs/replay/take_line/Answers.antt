@@ -9,7 +9,7 @@ use Rattle.explain.proofs.replay.take_line.Goals as goal
 
 pub claimed_reply-reply-requires-clause-kind : goal.claimed_reply-reply-requires-clause-kind
 claimed_reply-reply-requires-clause-kind c =
-    line_of_its_kind c.args.history.now.recorded c.requires.is_history c.args.certificate.now.lines c.args.i (line_seen c.line-line.result) c.line-line.ensures
+    line_of_its_kind c.args.history.now.recorded c.well_formed-fact.ensures c.args.certificate.now.lines c.args.i (line_seen c.line-line.result) c.line-line.ensures
     c.requires.passing (state_of c.args.machine.now) c.requires.before
 
 pub unreachable-requires-then-not-given : goal.unreachable-requires-then-not-given
@@ -19,7 +19,7 @@ unreachable-requires-then-not-given c =
     let made = rw (c.called_by-cpu.ensures.cpu, c.called_by-cpu.ensures.number) at c.in-Some.ensures.some.called in
     let is_called = told_at_call events c.in-Some.places.called (cpu_named line) (number_named line) (command_seen c.in-Some-command_at.command) made c.in-Some-command_at.ensures.some in
     let refuses = c.in_ok-given.ensures.only c.if-not-given.true in
-    not-refused c.args.history.now.recorded c.requires.is_history c.args.certificate.now.lines c.args.i line c.line-line.ensures c.requires.passing
+    not-refused c.args.history.now.recorded c.well_formed-fact.ensures c.args.certificate.now.lines c.args.i line c.line-line.ensures c.requires.passing
     (state_of c.args.machine.now) c.requires.before c.in-Some.places.called (command_seen c.in-Some-command_at.command) (reply_seen c.claimed_reply-reply.result)
     is_called c.claimed_reply-reply.ensures (rw c.called_by-cpu.ensures.cpu at refuses)
 
@@ -30,6 +30,6 @@ returns c =
     let made = rw (c.called_by-cpu.ensures.cpu, c.called_by-cpu.ensures.number) at c.in-Some.ensures.some.called in
     let is_called = told_at_call events c.in-Some.places.called (cpu_named line) (number_named line) (command_seen c.in-Some-command_at.command) made c.in-Some-command_at.ensures.some in
     let step = c.in_ok-given.ensures.step c.if-not-given.false in
-    Passes-taken c.args.history.now.recorded c.requires.is_history c.args.certificate.now.lines c.args.i line c.line-line.ensures c.requires.passing
+    Passes-taken c.args.history.now.recorded c.well_formed-fact.ensures c.args.certificate.now.lines c.args.i line c.line-line.ensures c.requires.passing
     (state_of c.args.machine.now) c.requires.before c.in-Some.places.called (command_seen c.in-Some-command_at.command) (reply_seen c.claimed_reply-reply.result)
     _ is_called c.claimed_reply-reply.ensures (rw c.called_by-cpu.ensures.cpu at step)

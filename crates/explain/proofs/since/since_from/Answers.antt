@@ -7,7 +7,7 @@ use Rattle.explain.proofs.since.since_from.Goals as goal
 pub step_if_any-made-requires-clause-before : goal.step_if_any-made-requires-clause-before
 step_if_any-made-requires-clause-before c =
     let now = c.requires.now in
-    since-within c.args.history.now.recorded c.requires.is_history c.args.certificate.now.lines c.args.index c.args.watch.now now.0 now.1 now.2
+    since-within c.args.history.now.recorded c.well_formed-fact.ensures c.args.certificate.now.lines c.args.index c.args.watch.now now.0 now.1 now.2
     c.args.track.now c.requires.track
 
 pub step_if_any-made-requires-clause-passing : goal.step_if_any-made-requires-clause-passing
@@ -25,7 +25,7 @@ returns c =
     let lines = c.args.certificate.now.lines in
     let now = c.requires.now in
     subst (IsSince h lines c.args.index c.args.watch.now) (sym c.since_told.ensures)
-    (IsSince-told h c.requires.is_history lines c.args.index c.args.watch.now now.0 now.1 now.2 c.args.track.now c.requires.track
+    (IsSince-told h c.well_formed-fact.ensures lines c.args.index c.args.watch.now now.0 now.1 now.2 c.args.track.now c.requires.track
     c.step_if_any-made.result c.step_if_any-set.result
     (record { some = c.step_if_any-made.ensures.some; none = c.step_if_any-made.ensures.none })
     (record { some = c.step_if_any-set.ensures.some; none = c.step_if_any-set.ensures.none }))

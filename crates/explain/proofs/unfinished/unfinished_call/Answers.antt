@@ -10,7 +10,7 @@ returns c =
     let named = c.named_call.ensures in
     let made = named.told.called in
     let here = rw (named.cpu, named.number) at made.2 in
-    let one = HasOnePlaces-from_history c.args.history.now.recorded c.well_formed-2.ensures in
+    let one = HasOnePlaces-from_history c.args.history.now.recorded c.well_formed-fact.ensures in
     let same = one.one_call made.0 c.args.place c.args.cpu c.args.number c.named_call.result.call.command c.requires.made.0 here c.requires.made.1 in
     record {
       told = named.told;

@@ -12,6 +12,6 @@ returns c =
     let reached = c.requires.reached in
     let machine = c.in_ok-judged.judged.machine in
     Reaches-machine history lines reached.0 (state_of machine) reached.1
-    (Passes-left history (HasOnePlaces-from_history history c.well_formed-2.ensures) lines reached.0 (state_of machine) reached.1.passes
+    (Passes-left history (HasOnePlaces-from_history history c.well_formed-fact.ensures) lines reached.0 (state_of machine) reached.1.passes
     c.in_ok-judged.judged.verdict (rw c.in_ok-certificate.ensures at c.in_ok-judged.ensures.judged)
     (rw c.in_ok-certificate.ensures at c.in_ok-judged.ensures.left))

@@ -21,7 +21,7 @@ loop-at-preserved c =
     let within : c.loop-at.at < length frames = omega (arith, c.loop-at-test.true, c.requires.within) in
     let there = slice_get_read frames _ c.loop-at.at frame refl within c.index-frames-at.is in
     let given = rw c.line.ensures at (c.in_ok-is_given.ensures c.if-not-branch.false) in
-    Reaches-replayed history c.well_formed-2.ensures frames c.requires.frames c.requires.reached c.loop-at.at frame within there
+    Reaches-replayed history c.well_formed-fact.ensures frames c.requires.frames c.requires.reached c.loop-at.at frame within there
     (state_of c.loop-at.machine) (state_of c.is_given.new.machine) c.loop-at.invariant given.0
     given.1
 

@@ -7,7 +7,7 @@ pub returns-in-Ok : goal.returns-in-Ok
 returns-in-Ok c =
     let recorded = c.args.history.now.recorded in
     let written : IsHistoryText c.as_slice.result.now recorded = record {
-      is_history = c.well_formed-2.ensures;
+      is_history = c.well_formed-fact.ensures;
       is_text = c.as_slice.ensures.value ∙ c.in_ok-write.ensures.ok ∙ ap (λ front. front ++ history_text recorded) c.new-text.ensures.items;
     } in
     same_history c.as_slice.result.now c.in-Ok.again.recorded recorded c.in-Ok.ensures.found written
@@ -16,7 +16,7 @@ pub unreachable-requires : goal.unreachable-requires
 unreachable-requires c =
     let recorded = c.args.history.now.recorded in
     let written : IsHistoryText c.as_slice.result.now recorded = record {
-      is_history = c.well_formed-2.ensures;
+      is_history = c.well_formed-fact.ensures;
       is_text = c.as_slice.ensures.value ∙ c.in_ok-write.ensures.ok ∙ ap (λ front. front ++ history_text recorded) c.new-text.ensures.items;
     } in
     let bad = rw c.in-Err-BadLine.field-0-is at c.in-Err-BadLine.ensures.fault in

@@ -34,8 +34,8 @@ step_told-requires-clause-small c =
       c.loop-stamp-test.true,
       c.requires,
       length-known_front c.args.table.now.slots,
-      c.len-most.ensures.len,
-      c.len-most.ensures.most,
+      c.len-fact.ensures.len,
+      c.len-fact.ensures.most,
     ) in
     record { stands = AreFew-walked _ c.loop-stamp.stamp _ walked.stands below; events = walked.few_events; lines = walked.few_lines }
 

@@ -21,7 +21,7 @@ returns-in_default-clause-returns c =
 pub count_return-requires-clause-room : goal.count_return-requires-clause-room
 count_return-requires-clause-room c =
     let front = known_front c.args.table.now.slots in
-    let below = (c.well_formed-2.ensures c.loop-stamp.stamp (happened_seen c.in-Some.slot) (sym c.in-Some.ensures.seen)).cpu in
+    let below = (c.well_formed-fact.ensures c.loop-stamp.stamp (happened_seen c.in-Some.slot) (sym c.in-Some.ensures.seen)).cpu in
     omega (
       arith,
       c.loop-stamp.invariant.are.each c.in-Some.slot.cpu below,
@@ -35,7 +35,7 @@ pub loop-stamp-preserved : goal.loop-stamp-preserved
 loop-stamp-preserved c =
     let front = known_front c.args.table.now.slots in
     let slot = happened_seen c.in-Some.slot in
-    let below = (c.well_formed-2.ensures c.loop-stamp.stamp slot (sym c.in-Some.ensures.seen)).cpu in
+    let below = (c.well_formed-fact.ensures c.loop-stamp.stamp slot (sym c.in-Some.ensures.seen)).cpu in
     let is : slice_get front c.loop-stamp.stamp ≡ Some slot =
     known_front-some c.args.table.now.slots c.loop-stamp.stamp slot c.loop-stamp.invariant.within (sym c.in-Some.ensures.seen) in
     let within = slice_get_within front c.loop-stamp.stamp slot is in

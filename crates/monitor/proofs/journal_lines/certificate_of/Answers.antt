@@ -44,5 +44,5 @@ returns-clause-written g c =
       length-map (numbered entries) entry_for,
       ap length (entries-numbered_from (λ _. 0) entries),
       c.loop-ticket-test.false,
-      c.len-ticket-end.ensures,
+      c.len-ticket-end.ensures.count,
     ))

@@ -5,4 +5,5 @@ use Rattle.refused_runs.proofs.monitored.take_steps.Given as goal
 
 abbrev pub invariant-loop-step : goal.invariant-loop-step
 invariant-loop-step g l =
-    AreCpus l.monitor l.tokens l.passes × CanDrain l.monitor.queue l.scribe l.history.recorded × (l.history.recorded.config ≡ l.fn.history.recorded.config)
+    AreCpus l.monitor l.tokens l.passes × CanDrain l.monitor.queue l.drained.scribe l.drained.history.recorded
+    × (l.drained.history.recorded.config ≡ l.fn.drained.history.recorded.config)

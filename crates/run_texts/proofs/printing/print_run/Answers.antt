@@ -21,5 +21,5 @@ returns-clause-valid c =
     let history = c.in_ok-write.ensures.ok ∙ ap (λ xs. xs ++ history_text c.args.history.now.recorded) c.new-text.ensures.items in
     let lines = c.in_ok-write-2.ensures.ok ∙ ap (λ xs. xs ++ certificate_text c.args.certificate.now.lines) c.new-lines.ensures.items in
     c.in_ok-verdict.ensures.valid c.args.history.now.recorded c.args.certificate.now.lines
-    (record { is_history = c.well_formed-2.ensures; is_text = c.as_slice.ensures.value ∙ history })
-    (record { is_certificate = c.len-well_formed.ensures.well_formed; is_text = c.as_slice-2.ensures.value ∙ lines })
+    (record { is_history = c.well_formed-fact.ensures; is_text = c.as_slice.ensures.value ∙ history })
+    (record { is_certificate = c.len-fact.ensures.well_formed; is_text = c.as_slice-2.ensures.value ∙ lines })

@@ -15,7 +15,7 @@ returns-clause-printed c =
     let played = c.in_ok-world.ensures.played in
     let opening = opening_world config programs in
     let moves = moves_of_turns opening played.plays.turns w (TurnAll-exact opening played.plays.turns w played.plays.run) in
-    let certified = c.every_run_is_certified.ensures.certified config programs moves.0 w moves.1 in
+    let certified = c.every_run_is_certified-fact.ensures.certified config programs moves.0 w moves.1 in
     IsPrinted-from scenario w c.in_ok-history.history.recorded c.in_ok-certificate.certificate.lines
     c.args.out.now.items c.print_run.new.out.items c.print_run.result c.in_ok-world.ensures.one played certified.linearization
     c.in_ok-history.ensures.recorded c.in_ok-certificate.ensures.lines c.print_run.ensures.text c.print_run.ensures.valid

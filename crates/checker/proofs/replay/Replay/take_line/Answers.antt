@@ -17,7 +17,7 @@ due_kept c =
     let reply = reply_seen c.in-Some-reply_at.reply in
     let places = rw keep.is at c.in-Some.ensures.some in
     let has_returned = rw c.in-Some-returned.is at places.returned in
-    IsDue-kept c.args.self.now history c.requires.is_history keep.cpu keep.number c.in-Some.places.called c.index.result.now returned reply
+    IsDue-kept c.args.self.now history keep.cpu keep.number c.in-Some.places.called c.index.result.now returned reply
     places.called c.index.ensures c.if-index.false
     (told_at_return history.events returned keep.cpu keep.number reply has_returned c.in-Some-reply_at.ensures.some) c.if-returned-self.false
 

@@ -24,7 +24,7 @@ returns-then-given-clause-judged c = λ line due before is_replay.
     let old = c.args.self.now in
     let ready = IsReady-from_due old c.args.history.now.recorded line c.args.cpu c.args.called (reply_seen c.args.reply) due before is_replay (command_seen c.in-Some.command) c.in-Some.ensures.some in
     let commits = rw c.if-given.true at c.in_ok-given.ensures.given in
-    Progress-line c.args.history.now.recorded c.requires.is_history before old.named.items old.latest (state_of old.machine) is_replay
+    Progress-line c.args.history.now.recorded before old.named.items old.latest (state_of old.machine) is_replay
     line c.args.called (command_seen c.in-Some.command) (reply_seen c.args.reply) ready _ _ _
     (subst (λ (x : ℕ). Step (state_of old.machine) x (command_seen c.in-Some.command) (reply_seen c.args.reply) (state_of c.commit.new.self.machine)) (sym due.of_cpu) commits.step) commits.named commits.latest
 
@@ -33,7 +33,7 @@ returns-else-given-clause-judged c = λ line due before is_replay.
     let old = c.args.self.now in
     let ready = IsReady-from_due old c.args.history.now.recorded line c.args.cpu c.args.called (reply_seen c.args.reply) due before is_replay (command_seen c.in-Some.command) c.in-Some.ensures.some in
     let refuses = rw c.if-given.false at c.in_ok-given.ensures.given in
-    FailsBy-line c.args.history.now.recorded c.requires.is_history before old.named.items old.latest (state_of old.machine) is_replay
+    FailsBy-line c.args.history.now.recorded before old.named.items old.latest (state_of old.machine) is_replay
     line c.args.called (command_seen c.in-Some.command) (reply_seen c.args.reply) ready
     (λ next step. refuses next (subst (λ (x : ℕ). Step (state_of old.machine) x (command_seen c.in-Some.command) (reply_seen c.args.reply) next) due.of_cpu step))
 

@@ -12,7 +12,7 @@ returns-clause-whole g c =
     let same = ap (λ (h : History). h.events) drained.history in
     let cpus = ap (λ (h : History). h.config.cpus) drained.history ∙ c.requires.can.same_cpus ∙ sym c.requires.count in
     on_ok_weaker c.drain_to-drained.result
-    (λ reached. are_whole _ _ (subst (λ n. AllByRecursion (IsEvent n) c.drain_to-drained.new.history.recorded.events) cpus c.well_formed-2.ensures.events)
+    (λ reached. are_whole _ _ (subst (λ n. AllByRecursion (IsEvent n) c.drain_to-drained.new.history.recorded.events) cpus c.well_formed-fact.ensures.events)
     (subst (AreBegun c.args.passes.now) (sym same) c.compare_all.ensures.begun) (omega (arith, c.in-Some.ensures.some.0, reached))) drained.reached
 
 pub returns-clause-short : goal.returns-clause-short
@@ -20,7 +20,7 @@ returns-clause-short g c =
     let drained = c.drain_to-drained.ensures in
     let same = ap (λ (h : History). h.events) drained.history in
     let cpus = ap (λ (h : History). h.config.cpus) drained.history ∙ c.requires.can.same_cpus ∙ sym c.requires.count in
-    let most = at_most_recorded _ _ (subst (λ n. AllByRecursion (IsEvent n) c.drain_to-drained.new.history.recorded.events) cpus c.well_formed-2.ensures.events)
+    let most = at_most_recorded _ _ (subst (λ n. AllByRecursion (IsEvent n) c.drain_to-drained.new.history.recorded.events) cpus c.well_formed-fact.ensures.events)
     (subst (AreBegun c.args.passes.now) (sym same) c.compare_all.ensures.begun) in
     let rest = drained.taken.0 in
     let longer = ap length (same ∙ ap (λ (s : ScribeView). s.events) drained.taken.1) in

@@ -18,6 +18,7 @@ loop-cpu-preserved c =
 
 pub returns-clause-front : goal.returns-clause-front
 returns-clause-front c = record {
+  is_history = c.well_formed-fact.ensures;
   nexts = c.loop-cpu.invariant.nexts;
   ranks = c.loop-cpu.invariant.ranks;
   each = λ cpu next within at.

@@ -18,7 +18,7 @@ take_back-requires-clause-nowhere c =
 pub try_next-requires-clause-is_search : goal.try_next-requires-clause-is_search
 try_next-requires-clause-is_search c =
     let is_search = c.requires.is_search in
-    IsSearch-tried c.args.history.now.recorded c.well_formed-2.ensures c.args.self.now _ is_search refl refl is_search.machine is_search.tried is_search.kept
+    IsSearch-tried c.args.history.now.recorded c.requires.is_search.front.is_history c.args.self.now _ is_search refl refl is_search.machine is_search.tried is_search.kept
     is_search.checkpoint
 
 pub returns : goal.returns
@@ -26,4 +26,4 @@ returns c =
     let history = c.args.history.now.recorded in
     let search = c.args.self.now in
     IfOk-weaker c.try_next.result _ _
-    (Continues-stale history search c.try_next.new.self (few_frames history c.well_formed-2.ensures search c.requires.is_search) c.requires.fresh) c.try_next.ensures
+    (Continues-stale history search c.try_next.new.self (few_frames history c.requires.is_search.front.is_history search c.requires.is_search) c.requires.fresh) c.try_next.ensures

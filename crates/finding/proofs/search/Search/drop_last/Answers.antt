@@ -20,7 +20,7 @@ returns c =
     let same : frames.len ≡ length frames.items = omega (arith, frames.ok.0) in
     let frame = c.into_frame-frame.result in
     let items = c.in-Some.ensures.items ∙ ap (λ (f : Frame). frames.items ++ f ∷ []) (sym c.into_frame-frame.ensures) in
-    IsShorter-drop history c.well_formed-2.ensures search _ c.requires.is_search frame _ items refl refl
+    IsShorter-drop history c.requires.is_search.front.is_history search _ c.requires.is_search frame _ items refl refl
     (rw (← c.name_of-cpu.ensures.cpu, ← c.name_of-cpu.ensures.number) c.set.ensures.counts) refl refl c.put_back-self.ensures c.set.ensures.front refl
     (subst (λ n. IfSome c.still_at.result (λ (point : Checkpoint). point.lines ≤ n)) same (rw c.len.ensures at c.still_at.ensures.within))
     (rw c.take.ensures.value at c.still_at.ensures.same) refl refl

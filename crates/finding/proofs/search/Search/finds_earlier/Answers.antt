@@ -7,5 +7,5 @@ earlier_place-requires-clause-reached c = rw c.deref.ensures.value (AreReached-s
 
 pub overflow_add-self : goal.overflow_add-self
 overflow_add-self c =
-    let small = rank_of_next c.args.history.now.recorded c.well_formed-2.ensures c.args.self.now.front.counts 0 c.args.choice c.requires.next in
+    let small = rank_of_next c.args.history.now.recorded c.requires.is_search.front.is_history c.args.self.now.front.counts 0 c.args.choice c.requires.next in
     omega (arith, small, c.rank-2.ensures.rank)

@@ -6,14 +6,14 @@ use Rattle.finding.proofs.search.Search.offer_kept.Goals as goal
 
 pub push-requires-clause-number : goal.push-requires-clause-number
 push-requires-clause-number c =
-    number_of_next c.args.history.now.recorded c.well_formed-2.ensures c.args.self.now.front.counts 0 c.args.choice c.requires.next
+    number_of_next c.args.history.now.recorded c.requires.is_search.front.is_history c.args.self.now.front.counts 0 c.args.choice c.requires.next
 
 pub returns-then-given : goal.returns-then-given
 returns-then-given c =
     let history = c.args.history.now.recorded in
     let search = c.args.self.now in
     let longer = rw c.in_ok-frame.ensures at c.in_ok-push.ensures in (
-      IsSearch-kept history c.well_formed-2.ensures search c.requires.is_search c.requires.stands c.args.choice c.push.new.self c.requires.next c.requires.returned
+      IsSearch-kept history c.requires.is_search.front.is_history search c.requires.is_search c.requires.stands c.args.choice c.push.new.self c.requires.next c.requires.returned
           c.requires.soon c.offer.new.machine (rw c.if-given.true at c.in_ok-given.ensures.given) _ refl c.requires.resumes c.in_ok-before.ensures c.offer.new.offers longer,
       Moves-offered search c.push.new.self c.requires.few (longer.offers ∙ c.in_ok-given.ensures.counted),
     )

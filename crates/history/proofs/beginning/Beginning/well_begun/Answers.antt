@@ -4,4 +4,4 @@ use Rattle.history.proofs.beginning.Beginning.well_begun.Goals as goal
 pub returns : goal.returns
 returns c =
     rw (← c.self.view_is) (λ line bad.
-    well_begun c.self.inside.history c.self.inside.line line c.next_number-well_formed.ensures.well_formed c.bytes-no_newline.ensures.no_newline bad)
+    well_begun c.self.inside.history c.self.inside.line line c.next_number-fact.ensures.well_formed c.bytes-fact.ensures.no_newline bad)

@@ -48,8 +48,8 @@ write_told-requires-clause-few_calls g c =
       c.loop-stamp-test.true,
       c.self.invariant.stamps,
       length-known_front c.self.inside.table.slots,
-      c.len-most.ensures.len,
-      c.len-most.ensures.most,
+      c.len-fact.ensures.len,
+      c.len-fact.ensures.most,
     ) in
     AreFew-walked c.args.self.now.events c.loop-stamp.stamp _ c.loop-stamp.invariant.stands below
 

@@ -6,7 +6,7 @@ use Rattle.merging.proofs.run.Run.write_texts.Goals as goal
 pub returns-clause-history : goal.returns-clause-history
 returns-clause-history g c =
     on_ok_weaker c.write_lines.result
-    (λ lines. GrowsByHistory-written c.args.self.now _ _ _ (rw (← c.self.view_is) c.cpus-in_limits.ensures.limits)
+    (λ lines. GrowsByHistory-written c.args.self.now _ _ _ (rw (← c.self.view_is) c.cpus-fact.ensures.limits)
     (rw (← c.self.view_is) c.self.invariant.can_merge) (rw (← c.self.view_is) c.in-Ok.ensures.ok) lines)
     c.write_lines.ensures.history
 

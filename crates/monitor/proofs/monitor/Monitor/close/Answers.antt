@@ -1,5 +1,6 @@
 use Rattle.monitor.proofs.Common.{◌≡◌, ◌<◌, ◌≤◌, List, length, slice_get, sym, ap, ◌∙◌, subst, arith, inr, Result, Ok, Err, IfErr, Event, JournalEntry, AreInOrder, JournalView, MonitorView, AreListed}
-use Rattle.rmm_spec.specs.HistoryText.{History}
+use Rattle.rmm_spec.specs.HistoryText.{Config, History}
+use Rattle.commit_tickets.specs.Commits.{IsOfRun}
 use Rattle.commit_tickets.specs.Listed.{unlisted_entries}
 use Rattle.commit_tickets.proofs.Lists.{listed-below}
 use Rattle.monitor.specs.Closed.{IsShort, count_committed}
@@ -16,10 +17,11 @@ drain_rest-requires-clause-passes g c cpu pass at =
 
 pub returns-in-Err-clause-cause : goal.returns-in-Err-clause-cause
 returns-in-Err-clause-cause g c unlisted is =
-    let same_size = sym c.config-size.ensures.config ∙ c.config-size.ensures.site ∙ sym c.self.invariant.1 ∙ ap (λ (m : MonitorView). m.config) c.self.view_is in
+    let same_size = sym c.self.invariant.1 ∙ ap (λ (m : MonitorView). m.config) c.self.view_is in
+    let of_run = subst (λ (config : Config). IsOfRun config c.audit.new.self) same_size c.in-Err.ensures.of_run in
     let counted = ap (λ (j : JournalView). length j.entries) c.audit.ensures.journal ∙ c.audit.ensures.counted ∙ ap count_committed c.as_mut_slice-tokens.ensures.value in
     let same_unlisted : c.in-Err.unlisted ≡ unlisted = cc in
-    disagree c.args.self.config c.audit.new.self _ same_size c.books-books.ensures c.args.tokens.items c.audit.new.tokens (c.audit.ensures.tokens ∙ c.as_mut_slice-tokens.ensures.value)
+    disagree c.args.self.config c.audit.new.self of_run c.args.tokens.items c.audit.new.tokens (c.audit.ensures.tokens ∙ c.as_mut_slice-tokens.ensures.value)
     (unlisted_entries unlisted) (ap unlisted_entries (sym same_unlisted) ∙ c.in-Err.ensures.compared) counted c.in-Err.ensures.unlisted
 
 pub certificate_of-requires-clause-few : goal.certificate_of-requires-clause-few
@@ -35,7 +37,7 @@ certificate_of-requires-clause-few g c =
 
 pub certificate_of-requires-clause-cpus : goal.certificate_of-requires-clause-cpus
 certificate_of-requires-clause-cpus g c =
-    let most : length c.args.tokens.items ≤ 8 = omega (arith, c.requires.cpus.count, c.cpus-cpus.ensures.limits.most_cpus, ap (λ (m : MonitorView). m.config.cpus) c.self.view_is) in
+    let most : length c.args.tokens.items ≤ 8 = omega (arith, c.requires.cpus.count, c.cpus-fact.ensures.limits.most_cpus, ap (λ (m : MonitorView). m.config.cpus) c.self.view_is) in
     listed-below c.args.tokens.items c.audit.new.self.entries 8 most
     (subst (λ ts. AreListed ts c.audit.new.self.entries) (c.audit.ensures.tokens ∙ c.as_mut_slice-tokens.ensures.value) c.in_default.ensures.listed)
 
@@ -45,10 +47,11 @@ returns-clause-whole g c cpu pass at =
 
 pub returns-clause-certificate : goal.returns-clause-certificate
 returns-clause-certificate g c =
-    let same_size = sym c.config-size.ensures.config ∙ c.config-size.ensures.site ∙ sym c.self.invariant.1 ∙ ap (λ (m : MonitorView). m.config) c.self.view_is in
+    let same_size = sym c.self.invariant.1 ∙ ap (λ (m : MonitorView). m.config) c.self.view_is in
+    let of_run = subst (λ (config : Config). IsOfRun config c.audit.new.self) same_size c.in_default.ensures.of_run in
     let entries = c.journal.invariant.1 ∙ ap (λ (j : JournalView). j.entries) (sym c.audit.ensures.journal) in
     let events = ap (λ (h : History). h.events) (sym c.in_ok-drain_rest.ensures.history) in
-    closed c.args.self.config c.audit.new.self _ same_size c.books-books.ensures c.args.tokens.items c.audit.new.tokens
+    closed c.args.self.config c.audit.new.self of_run c.args.tokens.items c.audit.new.tokens
     (c.audit.ensures.tokens ∙ c.as_mut_slice-tokens.ensures.value) c.drain_rest.new.history.recorded.events _
     (subst (λ (y : List Event × List JournalEntry). AreInOrder y.0 y.1) (λ i. (events i, entries i)) c.keeps_real_time.ensures.ordered)
     c.in_default.ensures.listed c.in_ok-certificate.ensures.written

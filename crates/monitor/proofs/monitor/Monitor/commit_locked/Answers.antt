@@ -21,11 +21,11 @@ free_all-requires g c =
     c.commit-done.new.hold (taken g c) c.commit-done.result c.commit-done.ensures.holds)
 
 pub returns-clause-held : goal.returns-clause-held
-returns-clause-held g c =
-    subst (λ cells. WereHeld c.args.self.now.config c.args.command.now c.args.token.now (place_of c.commit-done.new.token.place) cells c.commit-done.result)
-    (sym c.free_all.ensures.freed)
-    (were-held c.args.self.now.config g.S.Site.config (is_site g c.before) c.args.command.now _ _ c.args.token.now _ c.lock_for.new.hold
-    c.commit-done.new.hold (taken g c.before) c.commit-done.result c.commit-done.ensures.holds)
+returns-clause-held g c = (
+  hold_cells c.commit-done.new.hold,
+  were-held c.args.self.now.config g.S.Site.config (is_site g c.before) c.args.command.now _ _ c.args.token.now _ c.lock_for.new.hold
+      c.commit-done.new.hold (taken g c.before) c.commit-done.result c.commit-done.ensures.holds,
+)
 
 pub returns-clause-cause : goal.returns-clause-cause
 returns-clause-cause g c =

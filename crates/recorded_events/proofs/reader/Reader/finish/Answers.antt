@@ -10,5 +10,5 @@ pub returns-then-not-is_empty-clause-fault : goal.returns-then-not-is_empty-clau
 returns-then-not-is_empty-clause-fault c =
     rw c.number_after.ensures (λ text read.
     subst (λ t. IsBadLine InRecordings t (number_after c.args.self.table)) (sym read.is_text)
-    (cut_off c.args.self.table read.lines c.args.self.line read.are_read c.bytes-no_newline.ensures.no_newline
+    (cut_off c.args.self.table read.lines c.args.self.line read.are_read c.bytes-fact.ensures.no_newline
     (λ none. false≢true (sym c.if-not-is_empty.true ∙ c.is_empty.ensures.1 none))))

@@ -30,13 +30,13 @@ returns-in_default-clause-turned c =
 pub push-requires-clause-follows : goal.push-requires-clause-follows
 unfolding world_of world_from
 push-requires-clause-follows c =
-    (call-follows c.args.self.now c.args.cpu c.args.number c.well_formed-2.ensures.config c.requires.cpu c.copied_command.result c.requires.between
+    (call-follows c.args.self.now c.args.cpu c.args.number c.well_formed-fact.ensures.config c.requires.cpu c.copied_command.result c.requires.between
     (sym c.next_command.ensures ∙ c.in-Some.is ∙ ap Some (sym c.copied_command.ensures))).0
 
 pub push-requires-clause-line : goal.push-requires-clause-line
 unfolding world_of world_from
 push-requires-clause-line c =
-    (call-follows c.args.self.now c.args.cpu c.args.number c.well_formed-2.ensures.config c.requires.cpu c.copied_command.result c.requires.between
+    (call-follows c.args.self.now c.args.cpu c.args.number c.well_formed-fact.ensures.config c.requires.cpu c.copied_command.result c.requires.between
     (sym c.next_command.ensures ∙ c.in-Some.is ∙ ap Some (sym c.copied_command.ensures))).1
 
 pub returns-in_default-push-clause-only_recorded : goal.returns-in_default-push-clause-only_recorded

@@ -25,14 +25,14 @@ push-requires-clause-is_line c =
     let s = c.args.self.now in
     subst IsLine (sym c.line_for.ensures)
     (line-reached s.history.recorded.config (world_of s) (views_of s.cpus).waits s.kept.reached c.loop-place.place
-    (commitment_of (logged_seen c.commit-commit.result)) c.well_formed-2.ensures.config c.commit-commit.ensures.commit)
+    (commitment_of (logged_seen c.commit-commit.result)) c.well_formed-fact.ensures.config c.commit-commit.ensures.commit)
 
 pub push-requires-clause-room : goal.push-requires-clause-room
 unfolding world_of world_from
 push-requires-clause-room c =
     let s = c.args.self.now in
     room-reached s.history.recorded.config (world_of s) (views_of s.cpus).waits s.kept.reached c.loop-place.place c.loop-place.lines.lines
-    c.well_formed-2.ensures.config (omega (arith, c.loop-place-test.true, c.len-place-end.ensures)) c.loop-place.invariant
+    c.well_formed-fact.ensures.config (omega (arith, c.loop-place-test.true, c.len-place-end.ensures)) c.loop-place.invariant
 
 pub loop-place-preserved : goal.loop-place-preserved
 loop-place-preserved c =

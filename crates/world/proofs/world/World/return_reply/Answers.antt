@@ -13,13 +13,13 @@ use Rattle.world.proofs.world.World.return_reply.Goals as goal
 pub push-requires-clause-follows : goal.push-requires-clause-follows
 unfolding world_of world_from
 push-requires-clause-follows c =
-    (return-follows c.args.self.now c.args.cpu c.args.number c.well_formed-2.ensures.config c.requires.cpu c.requires.decided.0 c.args.reply
+    (return-follows c.args.self.now c.args.cpu c.args.number c.well_formed-fact.ensures.config c.requires.cpu c.requires.decided.0 c.args.reply
     c.requires.decided.1 c.requires.none).0
 
 pub push-requires-clause-line : goal.push-requires-clause-line
 unfolding world_of world_from
 push-requires-clause-line c =
-    (return-follows c.args.self.now c.args.cpu c.args.number c.well_formed-2.ensures.config c.requires.cpu c.requires.decided.0 c.args.reply
+    (return-follows c.args.self.now c.args.cpu c.args.number c.well_formed-fact.ensures.config c.requires.cpu c.requires.decided.0 c.args.reply
     c.requires.decided.1 c.requires.none).1
 
 pub returns-in_default-clause-only_recorded : goal.returns-in_default-clause-only_recorded

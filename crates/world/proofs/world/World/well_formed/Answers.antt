@@ -21,7 +21,7 @@ returns-clause-certified c =
     let config = (world_of s).config in
     ∥∥₁_map s.kept.reached (λ (r : IsReached config (world_of s) (views_of s.cpus).waits).
     let moves = moves_of_turns (opening_world config r.programs) r.turns (world_of s) r.run in
-    c.every_run_is_certified.ensures.certified config r.programs moves.0 (world_of s) moves.1)
+    c.every_run_is_certified-fact.ensures.certified config r.programs moves.0 (world_of s) moves.1)
 
 pub returns-clause-acyclic : goal.returns-clause-acyclic
 unfolding world_of
@@ -29,7 +29,7 @@ returns-clause-acyclic c =
     let s = c.args.self.now in
     let config = (world_of s).config in
     λ cpu others chain. ∥∥₁_elim s.kept.reached (λ x y. absurd x) (λ (r : IsReached config (world_of s) (views_of s.cpus).waits).
-    c.no_wait_cycle.ensures.turned config r.programs r.turns (world_of s) r.run cpu others chain)
+    c.no_wait_cycle-fact.ensures.turned config r.programs r.turns (world_of s) r.run cpu others chain)
 
 pub returns-clause-waiting : goal.returns-clause-waiting
 unfolding world_of waits_of
@@ -37,7 +37,7 @@ returns-clause-waiting c =
     let s = c.args.self.now in
     let config = (world_of s).config in
     λ cpu granule other is has. ∥∥₁_map s.kept.reached (λ (r : IsReached config (world_of s) (views_of s.cpus).waits).
-    c.no_wait_cycle.ensures.waiting config r.programs r.turns (world_of s) r.run cpu granule other
+    c.no_wait_cycle-fact.ensures.waiting config r.programs r.turns (world_of s) r.run cpu granule other
     (sym (ap (λ waits. waits cpu) r.is_waiting) ∙ is) has)
 
 pub returns-clause-one : goal.returns-clause-one
@@ -67,5 +67,5 @@ returns-clause-still c =
     let w = world_of s in
     let waits = (views_of s.cpus).waits in
     λ still. ∥∥₁_map s.kept.reached (λ (r : IsReached w.config w waits).
-    c.stuck_behind_stopped.ensures.wanted w.config r.programs r.turns w (blocking w) r.run
+    c.stuck_behind_stopped-fact.ensures.wanted w.config r.programs r.turns w (blocking w) r.run
     (blocking-rises w (holder_of s.locks) waits s.kept) (stuck-still w (holder_of s.locks) waits s.kept still))
