@@ -43,4 +43,4 @@ pub use laws::{
 pub use next::Next;
 pub use planning::{next_lock, next_step};
 pub use rmm_spec::Change;
-pub use rooms::room_for;
+pub use rooms::{room, room_for};

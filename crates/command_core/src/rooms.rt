@@ -6,16 +6,28 @@ ghost use Rattle.rmm_spec.specs.Lookup.{is_hash};
 ghost use Rattle.rmm_spec.specs.Step.Terms as spec;
 ghost use Rattle.shape_laws.specs.Whole as whole;
 ghost use Rattle.command_core.specs.Rooms.{IsRoomFor, HasNoMore, makes_table};
+ghost use Rattle.command_core.specs.Sides.{side_of};
 
 use crate::change_room::Room;
-use granule_cells::Descriptor;
+use granule_cells::{Descriptor, Side};
 use granule_state::Pa;
 use realm_desc::{HashAlgorithm, Realm, Space};
 use rmm_spec::{Change, Entry, Place, Ripas};
 use rtt_table::Table;
 use std::alloc::{AllocError, Global};
 
-/// Takes all memory that the change needs. It is refused only where the change makes a table and memory was refused.
+/// Takes all memory that the change needs. It is refused only where the change makes a table and memory was refused; on
+/// both ways the side table holds what it held.
+pub fn room(alloc: Global, _side: &mut Side, change: &Change) -> Result<Room, AllocError>
+    ensures kept { side_of _side.new ≡ side_of _side.old }
+    ensures ok { IfOk result (IsRoomFor change.now) }
+    ensures no_more { IfOk result (HasNoMore change.now) }
+    ensures only { OnErr result (IsTrue (makes_table change.now)) }
+{
+    room_for(alloc, change)
+}
+
+/// The same while the side table isn't at hand, which needs no memory.
 pub fn room_for(alloc: Global, change: &Change) -> Result<Room, AllocError>
     ensures ok { IfOk result (IsRoomFor change.now) }
     ensures no_more { IfOk result (HasNoMore change.now) }

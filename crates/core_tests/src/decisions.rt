@@ -5,12 +5,7 @@ ghost use Rattle.command_core.specs.Changed.{hold_of, AreHeld, CanMake};
 ghost use Rattle.command_core.specs.Seen.{place_of};
 ghost use Rattle.command_core.specs.Sides.{side_of};
 
-<<<<<<< HEAD
 use command_core::{Cell, CpuPlace, Held, HeldPairs, Next, Side, apply, decide, next_lock, room};
-=======
-use crate::plain_held::PlainHeld;
-use command_core::{Cell, CpuPlace, Held, Next, Side, apply, decide, next_lock, room_for};
->>>>>>> c/main
 use granule_state::{Config, Pa};
 use rmi_codec::{read_command, read_reply};
 use rmm_spec::{Change, Command, Reply, Tag};
@@ -82,7 +77,7 @@ fn make<H: Held>(
     requires held { AreHeld (H.cells held.old) change }
     requires makes { CanMake (hold_of (H.cells held.old) (side_of side.old) (place_of place.old)) change }
 {
-    let taken = room_for(alloc, &change)?;
+    let taken = room(alloc, side, &change)?;
     apply(held, side, place, change, taken);
     Ok(())
 }

@@ -19,7 +19,7 @@ ghost use Rattle.world.specs.Stepped.{IsAnswered, MakesStep};
 use crate::cells::Cells;
 use crate::cpus::Cpus;
 use crate::lent::{give_back, lend};
-use command_core::{CpuPlace, Held, Side, applied_decisions_are_local, apply, decide, room_for};
+use command_core::{CpuPlace, Held, Side, applied_decisions_are_local, apply, decide, room};
 use granule_state::Config;
 use rmm_spec::{Command, Reply};
 use std::alloc::{AllocError, Global};
@@ -50,7 +50,7 @@ fn step_on<H: Held>(
     if !is_accepted(&reply) {
         return Ok(reply);
     }
-    let Ok(room) = room_for(alloc, &change) else {
+    let Ok(room) = room(alloc, side, &change) else {
         return Err(AllocError);
     };
     apply(held, side, place, change, room);

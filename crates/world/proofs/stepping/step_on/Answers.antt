@@ -1,8 +1,9 @@
 use Rattle.std.proofs.Common.{sym, ap, ◌∙◌}
 use Rattle.rmm_spec.specs.Ownership.{is_accepted}
+use Rattle.shape_laws.specs.Whole.{side_changed}
 use Rattle.command_core.specs.Changed.{hold_of, hold_changed}
 use Rattle.command_core.specs.Decided.{answer_on}
-use Rattle.command_core.specs.Seen.{place_of}
+use Rattle.command_core.specs.Seen.{place_of, known_cell}
 use Rattle.command_core.specs.Sides.{side_of}
 use Rattle.certified_laws.proofs.Accepted.{refused-is_local}
 use Rattle.world.proofs.Commits.{refused-unchanged}
@@ -43,5 +44,7 @@ returns-clause-answered g c =
     let hold = hold_of (g.H.Held.cells c.args.held.now) (side_of c.args.side.now) (place_of c.args.place.now) in
     record {
       is_given = c.decide-reply.ensures.given;
-      is_changed = (λ i. hold_of (c.apply.ensures.cells i) (c.apply.ensures.side i) (c.apply.ensures.place i)) ∙ ap (hold_changed hold) c.decide-reply.ensures.change;
+      is_changed = (λ i. hold_of (c.apply.ensures.cells i)
+          ((c.apply.ensures.side ∙ ap (λ side. side_changed (known_cell hold.cells) side c.decide-reply.result.1) c.room.ensures.kept) i)
+          (c.apply.ensures.place i)) ∙ ap (hold_changed hold) c.decide-reply.ensures.change;
     }
