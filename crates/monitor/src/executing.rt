@@ -1,9 +1,9 @@
 //! A CPU executes a command.
 
-ghost use Rattle.std.specs.Prelude.{◌≡◌, ◌≤◌, ◌↔◌, true, false, List, IsTrue, IfOk, IfErr, OnErr, Err};
+ghost use Rattle.std.specs.Prelude.{◌≡◌, ◌≤◌, ◌↔◌, true, false, [], IsTrue, IfOk, IfErr, OnErr, Err};
 ghost use Rattle.rmm_spec.specs.CommandText.{IsCommand};
 ghost use Rattle.command_core.specs.Seen.{place_of};
-ghost use Rattle.rmm_spec.specs.Local.{HeldCell};
+ghost use Rattle.granule_lock.specs.HeldCells.{freed_cells, hold_cells};
 ghost use Rattle.event_queue.specs.Stages as stages;
 ghost use Rattle.monitor.specs.Causes.{HadCause, FaultHadCause};
 ghost use Rattle.monitor.specs.Executed.{ArePaired, Leaves, FullAtSomeMoment, HasCalled, HasCommitted, HasFailed, IsPastSeen, committed, returned, unreturned};
@@ -21,6 +21,13 @@ use rmi_view::{copied_command, copied_reply};
 use rmm_spec::Command;
 use std::alloc::Global;
 use std::sync::Wait;
+
+/// A command, with the gate that it passes once its granules are locked.
+#[derive(Drop)]
+struct Gated<'a, G> {
+    gate: &'a G,
+    command: &'a Command,
+}
 
 impl<S: Site> Monitor<S> {
     /// Executes a command by the token and the pass of its CPU, whose `next_number` is at most 999,999: records the call, locks the
@@ -53,7 +60,13 @@ impl<S: Site> Monitor<S> {
         if self.recorder.call(rt, pass, recorded).is_err() {
             return Err(Refused::Full);
         }
-        let committed = self.commit_locked(rt, alloc, token, pass, gate, &command);
+        let gated = Gated {
+            gate,
+            command: &command,
+        };
+        let mut hold = Hold::new();
+        let committed = self.commit_locked(rt, alloc, token, pass, &mut hold, &gated);
+        hold.end();
         match committed {
             Ok(done) => self.record_return(rt, token, pass, done),
             Err(fault) => {
@@ -71,31 +84,32 @@ impl<S: Site> Monitor<S> {
         alloc: Global,
         token: &mut CpuToken<S>,
         pass: &mut CpuPass,
-        gate: &G,
-        command: &Command,
+        hold: &mut Hold,
+        gated: &Gated<'_, G>,
     ) -> Result<Done, CommitFault>
         requires queue { pass.old.queue ≡ self.now.queue }
-        requires called { HasCalled token.old command.now pass.old }
-        ensures held { (cells : List HeldCell) × WereHeld self.now.config command.now token.old (place_of token.new.place) cells result }
-        ensures done { IfOk result (λ done. HasCommitted token.old command.now done token.new) }
+        requires called { HasCalled token.old gated.now.command.now pass.old }
+        requires unlocked { hold_cells hold.old ≡ [] }
+        ensures unlocked { hold_cells hold.new ≡ [] }
+        ensures held { WereHeld self.now.config gated.now.command.now token.old (place_of token.new.place) (freed_cells hold.new) result }
+        ensures done { IfOk result (λ done. HasCommitted token.old gated.now.command.now done token.new) }
         ensures pass { IfOk result (λ done. pass.new ≡ committed pass.old done.reply) }
         ensures told { IfOk result (λ done. token.old.seen ≤ done.ticket) }
         ensures fault { IfErr result (λ fault. HasFailed token.old fault token.new) }
         ensures kept { OnErr result (pass.new ≡ pass.old) }
-        ensures cause { IfErr result (λ fault. HadCause self.now.config fault command.now token.old) }
+        ensures cause { IfErr result (λ fault. HadCause self.now.config fault gated.now.command.now token.old) }
     {
-        let mut hold = Hold::new();
+        let (gate, command) = (gated.gate, gated.command);
         let place = token.place();
-        lock_for(rt, &self.granules, &self.config, &place, command, &mut hold);
+        lock_for(rt, &self.granules, &self.config, &place, command, hold);
         gate.pass(token.cpu(), command);
         let mut journal = LockedJournal {
             rt,
             monitor: self,
             pass,
         };
-        let done = commit(alloc, &mut journal, token, &mut hold, command);
-        free_all(rt, &self.granules, &mut hold);
-        hold.end();
+        let done = commit(alloc, &mut journal, token, hold, command);
+        free_all(rt, &self.granules, hold);
         done
     }
 

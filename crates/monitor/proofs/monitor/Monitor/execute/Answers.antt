@@ -16,11 +16,11 @@ returns-in-Err-clause-pair g c =
 
 pub returns-in-Ok-clause-held : goal.returns-in-Ok-clause-held
 returns-in-Ok-clause-held g c =
-    held-recorded c.args.self.now.config c.args.command c.args.token.now c.in-Ok.ensures.held.0 c.record_return.result c.in-Ok.done c.commit_locked-committed.new.token
-    c.record_return.new.token c.commit_locked-committed.new.pass c.record_return.new.pass c.in-Ok.ensures.held.1 c.record_return.ensures.told c.record_return.ensures.full
+    held-recorded c.args.self.now.config c.args.command c.args.token.now _ c.record_return.result c.in-Ok.done c.commit_locked-committed.new.token
+    c.record_return.new.token c.commit_locked-committed.new.pass c.record_return.new.pass c.in-Ok.ensures.held c.record_return.ensures.told c.record_return.ensures.full
 
 pub returns-in-Err-clause-held : goal.returns-in-Err-clause-held
 returns-in-Err-clause-held g c =
     subst (λ refused. LeavesHeld c.args.self.now.config c.args.command c.args.token.now (place_of c.stop.new.self.place) (Err refused)) (sym c.for_fault.ensures)
-    (held-failed c.args.self.now.config c.args.command c.args.token.now c.in-Err.ensures.held.0 c.in-Err.fault c.commit_locked-committed.new.token c.stop.new.self
-    c.in-Err.ensures.held.1 c.stop.ensures)
+    (held-failed c.args.self.now.config c.args.command c.args.token.now _ c.in-Err.fault c.commit_locked-committed.new.token c.stop.new.self
+    c.in-Err.ensures.held c.stop.ensures)
