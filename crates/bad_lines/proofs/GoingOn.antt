@@ -60,7 +60,8 @@ shorter left = omega arith
 words_rest : (left : ℕ) → HasRest (wanted.Words left)
 words_rest zero = ([], refl)
 words_rest (suc left) =
-    rest_behind (wanted.Words (suc left)) (wanted.Words left) (word 0) (omega arith, (0, lit< tt, refl), ap wanted.Words (shorter left)) (words_rest left)
+    rest_behind (wanted.Words (suc left)) (wanted.Words left) (word 0)
+    (omega arith, (0, lit< tt, refl), ap wanted.Words (shorter left)) (words_rest left)
 
 index_rest : HasRest wanted.Index
 index_rest = rest_behind wanted.Index wanted.End (decimal 0) ((0, lit≤ tt, lit< tt, refl), refl) ([], tt)
@@ -69,7 +70,8 @@ form_rest : HasRest wanted.Form
 form_rest = rest_behind wanted.Form wanted.End (codes "misplaced") (inr (inr (refl, refl))) ([], tt)
 
 function_rest : HasRest wanted.Function
-function_rest = rest_behind wanted.Function (wanted.Words (word_count function.Exit)) (fixed_hex 8 (number_of function.Exit)) (function.Exit, refl, refl) (words_rest (word_count function.Exit))
+function_rest = rest_behind wanted.Function (wanted.Words (word_count function.Exit))
+    (fixed_hex 8 (number_of function.Exit)) (function.Exit, refl, refl) (words_rest (word_count function.Exit))
 
 number_rest : (r : Role) → HasRest (wanted.Number r)
 number_rest role.Call = rest_behind (wanted.Number role.Call) wanted.Function (decimal 0) ((0, lit≤ tt, lit< tt, refl), refl) function_rest
@@ -93,8 +95,10 @@ rest_from : (w : Wanted) → IsLive w → HasRest w
 rest_from wanted.Format live = rest_behind wanted.Format (wanted.Granules One) (mark One) (One, refl, refl) (granules_rest One)
 rest_from (wanted.Granules version) live = granules_rest version
 rest_from wanted.Cpus live = cpus_rest
-rest_from (wanted.EventLetter cpus) live = rest_behind (wanted.EventLetter cpus) (wanted.Cpu cpus role.Call) (codes "c") (live, inl (refl, refl)) (cpu_rest cpus role.Call live)
-rest_from wanted.LineLetter live = rest_behind wanted.LineLetter (wanted.Cpu 8 role.Keep) (codes "k") (inl (refl, refl)) (cpu_rest 8 role.Keep (lit< tt))
+rest_from (wanted.EventLetter cpus) live =
+    rest_behind (wanted.EventLetter cpus) (wanted.Cpu cpus role.Call) (codes "c") (live, inl (refl, refl)) (cpu_rest cpus role.Call live)
+rest_from wanted.LineLetter live =
+    rest_behind wanted.LineLetter (wanted.Cpu 8 role.Keep) (codes "k") (inl (refl, refl)) (cpu_rest 8 role.Keep (lit< tt))
 rest_from (wanted.Cpu cpus role) live = cpu_rest cpus role live
 rest_from (wanted.Number role) live = number_rest role
 rest_from wanted.Function live = function_rest
@@ -143,13 +147,15 @@ take-next [] (suc index) part rest more e = absurd (cc)
 take-next (first ∷ parts) zero part rest more e = let same : first ≡ part = cc in ap (λ p. p ∷ more) same
 take-next (first ∷ parts) (suc index) part rest more e = ap (λ ps. first ∷ ps) (take-next parts index part rest more e)
 
-drop-next : (parts : List (List ℕ)) (index : ℕ) (part : List ℕ) (rest : List (List ℕ)) → drop index parts ≡ part ∷ rest → drop (suc index) parts ≡ rest
+drop-next : (parts : List (List ℕ)) (index : ℕ) (part : List ℕ) (rest : List (List ℕ))
+    → drop index parts ≡ part ∷ rest → drop (suc index) parts ≡ rest
 drop-next [] zero part rest e = absurd (cc)
 drop-next [] (suc index) part rest e = absurd (cc)
 drop-next (first ∷ parts) zero part rest e = let same : parts ≡ rest = cc in same
 drop-next (first ∷ parts) (suc index) part rest e = drop-next parts index part rest e
 
-pub get-next : (parts : List (List ℕ)) (index : ℕ) (part : List ℕ) (rest : List (List ℕ)) → drop index parts ≡ part ∷ rest → slice_get parts index ≡ Some part
+pub get-next : (parts : List (List ℕ)) (index : ℕ) (part : List ℕ) (rest : List (List ℕ))
+    → drop index parts ≡ part ∷ rest → slice_get parts index ≡ Some part
 get-next [] zero part rest e = absurd (cc)
 get-next [] (suc index) part rest e = absurd (cc)
 get-next (first ∷ parts) zero part rest e = let same : first ≡ part = cc in ap Some same
@@ -172,8 +178,15 @@ wanted_first start parts = record { within = omega arith; goes_on = λ more. (λ
 pub wanted_next : (start w next : Wanted) (parts : List (List ℕ)) (index following : ℕ) (part : List ℕ) (rest : List (List ℕ))
     → IsWantedAt start parts index w → drop index parts ≡ part ∷ rest → Leads w part next → ((other : Wanted) → Leads w part other → other ≡ next)
     → following ≡ suc index → IsWantedAt start parts following next × (drop following parts ≡ rest)
-wanted_next start w next parts index following part rest h e leads only is = subst (λ k. IsWantedAt start parts k next × (drop k parts ≡ rest)) (sym is)
-    (record { within = omega (arith, inside-next parts index part rest e); goes_on = λ more. (to more, from more); live = inr (live_after w next part leads) }, drop-next parts index part rest e)
+wanted_next start w next parts index following part rest h e leads only is =
+    subst (λ k. IsWantedAt start parts k next × (drop k parts ≡ rest)) (sym is) (
+      record {
+        within = omega (arith, inside-next parts index part rest e);
+        goes_on = λ more. (to more, from more);
+        live = inr (live_after w next part leads);
+      },
+      drop-next parts index part rest e,
+    )
   where
     to : (more : List (List ℕ)) → GoesOn start (take (suc index) parts ++ more) → GoesOn next more
     to more goes_on =
@@ -192,7 +205,8 @@ ends_at start w parts index h = (
 )
 
 -- the parts are all of them
-pub all_read : (parts : List (List ℕ)) (index : ℕ) → index ≤ length parts → drop index parts ≡ [] → (length parts ≡ index) × (take index parts ≡ parts)
+pub all_read : (parts : List (List ℕ)) (index : ℕ)
+    → index ≤ length parts → drop index parts ≡ [] → (length parts ≡ index) × (take index parts ≡ parts)
 all_read [] zero h e = (refl, refl)
 all_read [] (suc index) h e = absurd (omega arith)
 all_read (first ∷ parts) zero h e = absurd (cc)

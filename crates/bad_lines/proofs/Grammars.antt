@@ -22,7 +22,8 @@ use Rattle.bad_lines.specs.Wanted.{GoesOn, behind_number}
 use Rattle.bad_lines.specs.Wrong.{IsCertificateLine, IsCommandLine, IsEventLine, IsHeader, IsHeaderOf, IsWrong, call_number}
 
 -- a wrong part is one for each kind that has the same lines
-IsWrong-same : (P Q : List (List ℕ) → Type 0) (parts : List (List ℕ)) (wrong : WrongPart) → ((line : List (List ℕ)) → P line ↔ Q line) → IsWrong P parts wrong → IsWrong Q parts wrong
+IsWrong-same : (P Q : List (List ℕ) → Type 0) (parts : List (List ℕ)) (wrong : WrongPart)
+    → ((line : List (List ℕ)) → P line ↔ Q line) → IsWrong P parts wrong → IsWrong Q parts wrong
 IsWrong-same P Q parts wrong same h = record {
   within = h.within;
   front = elim h.front [
@@ -61,7 +62,8 @@ cpus_to (part ∷ rest) h =
     let number = h.1.0 in
     (number.0, number.1, number.2, λ i. number.3 i ∷ over i)
 
-granules_to : (version : Version) (rest : List (List ℕ)) → GoesOn (wanted.Granules version) rest → (g c : ℕ) × (1 ≤ g) × (g < granule_limit version + 1) × (1 ≤ c) × (c < 9) × (rest ≡ decimal g ∷ decimal c ∷ [])
+granules_to : (version : Version) (rest : List (List ℕ)) → GoesOn (wanted.Granules version) rest
+    → (g c : ℕ) × (1 ≤ g) × (g < granule_limit version + 1) × (1 ≤ c) × (c < 9) × (rest ≡ decimal g ∷ decimal c ∷ [])
 granules_to version [] h = absurd h
 granules_to version (part ∷ rest) h =
     let cpus = cpus_to rest (subst (λ n. GoesOn n rest) h.1.1 h.2) in
@@ -94,7 +96,8 @@ header_same line = (header_to line, header_from line)
 
 -- ---- commands
 
-words_to : (left : ℕ) (rest : List (List ℕ)) → GoesOn (wanted.Words left) rest → (ws : List ℕ) × AreWords ws × (length ws ≡ left) × (rest ≡ map word ws)
+words_to : (left : ℕ) (rest : List (List ℕ)) → GoesOn (wanted.Words left) rest
+    → (ws : List ℕ) × AreWords ws × (length ws ≡ left) × (rest ≡ map word ws)
 words_to left [] h = ([], tt, sym h, refl)
 words_to left (part ∷ rest) h =
     let more = words_to (left - 1) rest (subst (λ n. GoesOn n rest) h.1.2 h.2) in
@@ -111,20 +114,27 @@ unfolding command_parts
 command_to [] h = absurd h
 command_to (part ∷ rest) h =
     let function = h.1 in
-    let words = words_to (word_count function.0) rest (subst (λ n. GoesOn n rest) function.2 h.2) in
-    (record { function = function.0; words = record { items = words.0 } }, record { counted = words.2; words = words.1 }, λ i. function.1 i ∷ words.3 i)
+    let words = words_to (word_count function.0) rest (subst (λ n. GoesOn n rest) function.2 h.2) in (
+      record { function = function.0; words = record { items = words.0 } },
+      record { counted = words.2; words = words.1 },
+      λ i. function.1 i ∷ words.3 i,
+    )
 
 command_from : (command : Command) → IsCommand command → GoesOn wanted.Function (command_parts command)
 unfolding command_parts
-command_from command h =
-    (wanted.Words (word_count command.function), (command.function, refl, refl), words_from command.words.items (word_count command.function) h.words h.counted)
+command_from command h = (
+  wanted.Words (word_count command.function),
+  (command.function, refl, refl),
+  words_from command.words.items (word_count command.function) h.words h.counted,
+)
 
 pub command_same : (line : List (List ℕ)) → GoesOn wanted.Function line ↔ IsCommandLine line
 command_same line = (command_to line, λ h. subst (GoesOn wanted.Function) (sym h.2) (command_from h.0 h.1))
 
 -- ---- replies
 
-more_to : (left : ℕ) (rest : List (List ℕ)) → GoesOn (wanted.MoreWords left) rest → (ws : List ℕ) × AreWords ws × (length ws ≤ left) × (rest ≡ map word ws)
+more_to : (left : ℕ) (rest : List (List ℕ)) → GoesOn (wanted.MoreWords left) rest
+    → (ws : List ℕ) × AreWords ws × (length ws ≤ left) × (rest ≡ map word ws)
 more_to left [] h = ([], tt, omega arith, refl)
 more_to left (part ∷ rest) h =
     let more = more_to (left - 1) rest (subst (λ n. GoesOn n rest) h.1.2 h.2) in
@@ -143,7 +153,8 @@ index_to (part ∷ rest) h =
     let number = h.1.0 in
     (number.0, number.2, λ i. number.3 i ∷ over i)
 
-status_to : (rest : List (List ℕ)) → GoesOn wanted.Status rest → (status index : ℕ) × (status < 256) × (index < 256) × (rest ≡ decimal status ∷ decimal index ∷ [])
+status_to : (rest : List (List ℕ)) → GoesOn wanted.Status rest
+    → (status index : ℕ) × (status < 256) × (index < 256) × (rest ≡ decimal status ∷ decimal index ∷ [])
 status_to [] h = absurd h
 status_to (part ∷ rest) h =
     let index = index_to rest (subst (λ n. GoesOn n rest) h.1.1 h.2) in
@@ -185,7 +196,8 @@ record HasCall (cpus : ℕ) (r : Role) (rest : List (List ℕ)) : Type 0 where
   goes_on : GoesOn (behind_number r) more
   is : rest ≡ decimal cpu ∷ decimal number ∷ more
 
-number_to : (r : Role) (rest : List (List ℕ)) → GoesOn (wanted.Number r) rest → (n : ℕ) × (more : List (List ℕ)) × (n < 1000000) × GoesOn (behind_number r) more × (rest ≡ decimal n ∷ more)
+number_to : (r : Role) (rest : List (List ℕ)) → GoesOn (wanted.Number r) rest
+    → (n : ℕ) × (more : List (List ℕ)) × (n < 1000000) × GoesOn (behind_number r) more × (rest ≡ decimal n ∷ more)
 number_to r [] h = absurd h
 number_to r (part ∷ rest) h =
     let number = h.1.0 in
@@ -233,10 +245,16 @@ event_to cpus (part ∷ rest) (next, (some, inr letter), h) =
 
 event_from : (cpus : ℕ) (event : Event) → IsEvent cpus event → call_number event < 1000000 → GoesOn (wanted.EventLetter cpus) (event_parts event)
 unfolding event_parts
-event_from cpus (Called cpu number command) h small =
-    (wanted.Cpu cpus role.Call, (omega (arith, h.0), inl (refl, refl)), call_from cpus role.Call cpu number (command_parts command) h.0 small (command_from command h.1))
-event_from cpus (Returned cpu number given) h small =
-    (wanted.Cpu cpus role.Return, (omega (arith, h.0), inr (refl, refl)), call_from cpus role.Return cpu number (reply_parts given) h.0 small (reply_from given h.1))
+event_from cpus (Called cpu number command) h small = (
+  wanted.Cpu cpus role.Call,
+  (omega (arith, h.0), inl (refl, refl)),
+  call_from cpus role.Call cpu number (command_parts command) h.0 small (command_from command h.1),
+)
+event_from cpus (Returned cpu number given) h small = (
+  wanted.Cpu cpus role.Return,
+  (omega (arith, h.0), inr (refl, refl)),
+  call_from cpus role.Return cpu number (reply_parts given) h.0 small (reply_from given h.1),
+)
 
 pub event_same : (cpus : ℕ) (line : List (List ℕ)) → GoesOn (wanted.EventLetter cpus) line ↔ IsEventLine cpus line
 event_same cpus line = (event_to cpus line, λ h. subst (GoesOn (wanted.EventLetter cpus)) (sym h.3) (event_from cpus h.0 h.1 h.2))
@@ -269,12 +287,15 @@ pub claim_same : (line : List (List ℕ)) → GoesOn wanted.LineLetter line ↔ 
 claim_same line = (claim_to line, λ h. subst (GoesOn wanted.LineLetter) (sym h.2) (claim_from h.0 h.1))
 
 -- what is told of a line on so many CPUs is told of it behind the header
-pub told_on_header : (header parts : List (List ℕ)) (cpus : ℕ) (told : Option WrongPart) → ((config : Config) → IsHeaderOf header config → cpus ≡ config.cpus)
-    → IfSome told (IsWrong (IsEventLine cpus) parts) → IfSome told (λ wrong. (config : Config) → IsHeaderOf header config → IsWrong (IsEventLine config.cpus) parts wrong)
+pub told_on_header : (header parts : List (List ℕ)) (cpus : ℕ) (told : Option WrongPart)
+    → ((config : Config) → IsHeaderOf header config → cpus ≡ config.cpus)
+    → IfSome told (IsWrong (IsEventLine cpus) parts)
+    → IfSome told (λ wrong. (config : Config) → IsHeaderOf header config → IsWrong (IsEventLine config.cpus) parts wrong)
 told_on_header header parts cpus None same h = tt
 told_on_header header parts cpus (Some wrong) same h = λ config is_header. subst (λ n. IsWrong (IsEventLine n) parts wrong) (same config is_header) h
 
-pub none_on_header : (header parts : List (List ℕ)) (cpus : ℕ) (told : Option WrongPart) → ((config : Config) → IsHeaderOf header config → cpus ≡ config.cpus)
+pub none_on_header : (header parts : List (List ℕ)) (cpus : ℕ) (told : Option WrongPart)
+    → ((config : Config) → IsHeaderOf header config → cpus ≡ config.cpus)
     → IfNone told (IsEventLine cpus parts) → IfNone told ((config : Config) → IsHeaderOf header config → IsEventLine config.cpus parts)
 none_on_header header parts cpus None same h = λ config is_header. subst (λ n. IsEventLine n parts) (same config is_header) h
 none_on_header header parts cpus (Some wrong) same h = tt

@@ -15,22 +15,26 @@ use Rattle.rmm_spec.specs.CertificateText.{IsLine, IsCertificate, IsCertificateT
 use Rattle.rmm_spec.specs.declared.line.Line.{Line}
 
 -- the number of the next line, counted from 1
-counted : (lines : List Line) (text : List ℕ) → IsBadLine InCertificates text (length (map line_parts lines) + 1) → IsBadLine InCertificates text (length lines + 1)
+counted : (lines : List Line) (text : List ℕ)
+    → IsBadLine InCertificates text (length (map line_parts lines) + 1) → IsBadLine InCertificates text (length lines + 1)
 counted lines text bad = subst (λ n. IsBadLine InCertificates text (n + 1)) (length-map lines line_parts) bad
 
 -- the next line is whole, and no line of a certificate
-pub bad_line : (lines : List Line) (text bytes rest later : List ℕ) → IsCertificate lines → text ≡ certificate_text lines ++ rest → rest ≡ bytes ++ 10 ∷ later
+pub bad_line : (lines : List Line) (text bytes rest later : List ℕ)
+    → IsCertificate lines → text ≡ certificate_text lines ++ rest → rest ≡ bytes ++ 10 ∷ later
     → HasNoNewline bytes → IsNoLine (parts_of bytes) → IsBadLine InCertificates text (length lines + 1)
 bad_line lines text bytes rest later is_certificate is_text rest_is one_line no_line =
     counted lines text
-    (IsBadLine-line certificates_by_lines (map line_parts lines) text bytes later (line_parts-one_line lines) (is_text ∙ ap (λ r. certificate_text lines ++ r) rest_is) one_line
+    (IsBadLine-line certificates_by_lines (map line_parts lines) text bytes later
+    (line_parts-one_line lines) (is_text ∙ ap (λ r. certificate_text lines ++ r) rest_is) one_line
     (λ _. InCertificates-from_lines lines is_certificate)
     (λ taken.
     let last = map_last line_parts IsLine (map line_parts lines) taken.lines (parts_of bytes) taken.is_certificate.each (sym taken.is_spelled) in
     no_line last.0 (record { is_line = last.1.0; spelled = sym last.1.1 })))
 
 -- the text ends within a line
-pub unfinished_line : (lines : List Line) (text rest : List ℕ) → IsCertificate lines → text ≡ certificate_text lines ++ rest → HasNoNewline rest → rest ≢ []
+pub unfinished_line : (lines : List Line) (text rest : List ℕ)
+    → IsCertificate lines → text ≡ certificate_text lines ++ rest → HasNoNewline rest → rest ≢ []
     → IsBadLine InCertificates text (length lines + 1)
 unfinished_line lines text rest is_certificate is_text one_line some =
     counted lines text
@@ -38,7 +42,8 @@ unfinished_line lines text rest is_certificate is_text one_line some =
     (λ _. InCertificates-from_lines lines is_certificate))
 
 -- a million lines are there, and the text goes on
-pub line_too_many : (lines : List Line) (text rest : List ℕ) → IsCertificate lines → text ≡ certificate_text lines ++ rest → rest ≢ [] → length lines ≡ 1000000
+pub line_too_many : (lines : List Line) (text rest : List ℕ)
+    → IsCertificate lines → text ≡ certificate_text lines ++ rest → rest ≢ [] → length lines ≡ 1000000
     → IsBadLine InCertificates text (length lines + 1)
 line_too_many lines text rest is_certificate is_text some full =
     counted lines text
@@ -51,14 +56,16 @@ line_too_many lines text rest is_certificate is_text some full =
     absurd (omega (arith, length-map lines line_parts, length-map taken.lines line_parts))))
 
 -- a certificate with room takes another line
-pub IsCertificate-push : (lines : List Line) (next : Line) → IsCertificate lines → IsLine next → length lines < 1000000 → IsCertificate (lines ++ next ∷ [])
+pub IsCertificate-push : (lines : List Line) (next : Line)
+    → IsCertificate lines → IsLine next → length lines < 1000000 → IsCertificate (lines ++ next ∷ [])
 IsCertificate-push lines next is_certificate is_line room = record {
   each = AllByRecursion-append IsLine lines (next ∷ []) is_certificate.each (is_line, tt);
   count = omega (arith, length-append lines (next ∷ []));
 }
 
 -- the text of the lines with the next one, and what is left
-pub certificate_text-push : (lines : List Line) (next : Line) (text bytes rest later : List ℕ) → text ≡ certificate_text lines ++ rest → rest ≡ bytes ++ 10 ∷ later
+pub certificate_text-push : (lines : List Line) (next : Line) (text bytes rest later : List ℕ)
+    → text ≡ certificate_text lines ++ rest → rest ≡ bytes ++ 10 ∷ later
     → IsLineOf (parts_of bytes) next → text ≡ certificate_text (lines ++ next ∷ []) ++ later
 certificate_text-push lines next text bytes rest later is_text rest_is of_line =
     let spelled : line_text (line_parts next) ≡ bytes = ap line_text (sym of_line.spelled) ∙ join_with_byte-slice_split 32 bytes in
@@ -68,7 +75,8 @@ certificate_text-push lines next text bytes rest later is_text rest_is of_line =
     ∙ ap (λ t. t ++ later) (sym (ap lines_text (map_push line_parts lines next) ∙ lines_text-push (map line_parts lines) (line_parts next)))
 
 -- memory can be refused for the writing of a certificate that has a line
-pub BeginsWith-written : (lines : List Line) (text : List ℕ) → IsCertificateText text lines → 0 < length (certificate_text lines) → IsFaultOf text NoMemory
+pub BeginsWith-written : (lines : List Line) (text : List ℕ)
+    → IsCertificateText text lines → 0 < length (certificate_text lines) → IsFaultOf text NoMemory
 BeginsWith-written [] text is some = absurd (omega arith)
 BeginsWith-written (line ∷ lines) text is some = (
   line ∷ lines,
@@ -93,10 +101,16 @@ some_line (line ∷ lines) some = omega arith
 pub some_text : (lines : List Line) (text more : List ℕ) → text ≡ certificate_text lines ++ more → 0 < length lines → 0 < length text
 some_text [] text more is some = absurd (omega arith)
 some_text (line ∷ lines) text more is some =
-    omega (arith, ap length is, length-append (certificate_text (line ∷ lines)) more, length-append (line_text (line_parts line)) (10 ∷ certificate_text lines))
+    omega (
+      arith,
+      ap length is,
+      length-append (certificate_text (line ∷ lines)) more,
+      length-append (line_text (line_parts line)) (10 ∷ certificate_text lines),
+    )
 
 -- a bad line that is reported of a text says that it is in no certificate's
-pub bad_line_outside : {T : Type 0} (text : List ℕ) (result : Result T CertFault) (line : ℕ) → IfErr result (IsFaultOf text) → result ≡ Err (BadLine line)
+pub bad_line_outside : {T : Type 0} (text : List ℕ) (result : Result T CertFault) (line : ℕ)
+    → IfErr result (IsFaultOf text) → result ≡ Err (BadLine line)
     → InCertificates text → ⊥
 bad_line_outside text result line fault is given =
     not-IsBadLine-certificate text line given (subst (λ r. IfErr r (IsFaultOf text)) is fault)

@@ -13,7 +13,8 @@ use Rattle.spec_lemmas.proofs.Lines.{each-weaker}
 use Rattle.spec_lemmas.proofs.Texts.{AllByRecursion-append}
 
 -- a claim at the end leaves the earlier lines as they are
-line_of-push : (claims : List Claim) (claim : Claim) (name : Named) → HasClaim (length claims) name → line_of (claims ++ claim ∷ []) name ≡ line_of claims name
+line_of-push : (claims : List Claim) (claim : Claim) (name : Named)
+    → HasClaim (length claims) name → line_of (claims ++ claim ∷ []) name ≡ line_of claims name
 line_of-push claims claim (named.Keep cpu number) has = refl
 line_of-push claims claim (named.Unfinished cpu index) has =
     ap (λ (c : Claim). line.Unfinished cpu c.number c.reply) (get_or_append_left claims (claim ∷ []) no_claim index has)
@@ -33,7 +34,8 @@ HasClaim-more count (named.Unfinished cpu index) has = let below : index < count
 
 -- the lines after an unfinished one
 pub lines_of-claim : (names : List Named) (claims : List Claim) (cpu : ℕ) (claim : Claim) → AllByRecursion (HasClaim (length claims)) names
-    → lines_of (names ++ named.Unfinished cpu (length claims) ∷ []) (claims ++ claim ∷ []) ≡ lines_of names claims ++ line.Unfinished cpu claim.number claim.reply ∷ []
+    → lines_of (names ++ named.Unfinished cpu (length claims) ∷ []) (claims ++ claim ∷ [])
+    ≡ lines_of names claims ++ line.Unfinished cpu claim.number claim.reply ∷ []
 lines_of-claim names claims cpu claim each =
     map_push (line_of (claims ++ claim ∷ [])) names (named.Unfinished cpu (length claims))
     ∙ ap (λ ls. ls ++ line_of (claims ++ claim ∷ []) (named.Unfinished cpu (length claims)) ∷ []) (lines_of-push_claim names claims claim each)

@@ -34,7 +34,8 @@ no_newline : (begun last : List ℕ) → HasNoNewline begun → HasNoNewline las
 no_newline begun last h k = AllByRecursion-append (λ byte. byte ≢ 10) begun last h k
 
 -- the next line ends
-pub IsReadTo-line : (text last : List ℕ) (lines : List Line) (kept : Begun) (line : Line) → IsLineOf (parts_of (kept.begun ++ last)) line → kept.count < 1000000
+pub IsReadTo-line : (text last : List ℕ) (lines : List Line) (kept : Begun) (line : Line)
+    → IsLineOf (parts_of (kept.begun ++ last)) line → kept.count < 1000000
     → IsReadTo text lines kept → IsReadTo (text ++ (last ++ 10 ∷ [])) (lines ++ line ∷ []) (record { count = kept.count + 1; begun = [] })
 IsReadTo-line text last lines kept line of_line room read = record {
   is_certificate = IsCertificate-push lines line read.is_certificate of_line.is_line (omega (arith, read.counted));
@@ -73,7 +74,8 @@ Takes-front piece count line inside front =
     (bytes, (drop count piece, ((line_parts-one_line (line ∷ [])).0.has_no_newline, is_piece, counted)))
 
 -- and told
-pub IsReadTo-front : (text bytes : List ℕ) (lines : List Line) (kept : Begun) (line : Line) → bytes ≡ line_text (line_parts line) ++ 10 ∷ [] → IsLine line
+pub IsReadTo-front : (text bytes : List ℕ) (lines : List Line) (kept : Begun) (line : Line)
+    → bytes ≡ line_text (line_parts line) ++ 10 ∷ [] → IsLine line
     → kept.begun ≡ [] → kept.count < 1000000 → IsReadTo text lines kept
     → IsReadTo (text ++ bytes) (lines ++ line ∷ []) (record { count = kept.count + 1; begun = kept.begun })
 IsReadTo-front text bytes lines kept line front is_line none room read =
@@ -155,7 +157,8 @@ pub record IsReadUpTo (text rest : List ℕ) (lines : List Line) (reader : Resul
 -- what is told of a reader that goes on
 abbrev pub GoesOn : Result Begun ℕ → Result Begun ℕ → ℕ → Option Line → List ℕ → Type 0
 GoesOn old new count told rest =
-    IfOk old (λ o. IfOk new (λ n. (text : List ℕ) (lines : List Line) → IsReadTo text lines o → IsReadTo (text ++ take count rest) (with_told lines told) n))
+    IfOk old (λ o. IfOk new (λ n. (text : List ℕ) (lines : List Line)
+    → IsReadTo text lines o → IsReadTo (text ++ take count rest) (with_told lines told) n))
 
 -- what a reader answers, by the state that it is left in
 abbrev pub Answer : Type 0
@@ -167,10 +170,12 @@ Answered new answer = MatchResult new (λ _. IsOk answer) (λ line. answer ≡ E
 -- what is told where the reader fails
 abbrev pub IsRefused : Result Begun ℕ → Result Begun ℕ → List ℕ → Type 0
 IsRefused old new rest =
-    IfOk old (λ o. IfErr new (λ line. (text more : List ℕ) (lines : List Line) → IsReadTo text lines o → IsBadLine InCertificates (text ++ (rest ++ more)) line))
+    IfOk old (λ o. IfErr new (λ line. (text more : List ℕ) (lines : List Line)
+    → IsReadTo text lines o → IsBadLine InCertificates (text ++ (rest ++ more)) line))
 
 pub HasRead-next : (old new : Result Begun ℕ) (count : ℕ) (told : Option Line) (front rest : List ℕ) (lines : List Line)
-    → Answered new (Ok (count, told)) → GoesOn old new count told rest → HasRead old front lines → HasRead new (front ++ take count rest) (with_told lines told)
+    → Answered new (Ok (count, told)) → GoesOn old new count told rest
+    → HasRead old front lines → HasRead new (front ++ take count rest) (with_told lines told)
 HasRead-next (Ok old) (Ok new) count told front rest lines answered goes_on read = goes_on front lines read
 HasRead-next (Ok old) (Err line) count told front rest lines answered goes_on read = absurd cc
 HasRead-next (Err line) new count told front rest lines answered goes_on read = absurd read
@@ -181,14 +186,17 @@ IsCertificate-read (Ok kept) text lines read = read.is_certificate
 IsCertificate-read (Err line) text lines read = absurd read
 
 -- a further piece is read
-pub IsReadUpTo-next : (text rest later : List ℕ) (lines more : List Line) (old new : Result Begun ℕ) (count : ℕ) (told : Option Line) → later ≡ drop count rest
+pub IsReadUpTo-next : (text rest later : List ℕ) (lines more : List Line) (old new : Result Begun ℕ) (count : ℕ) (told : Option Line)
+    → later ≡ drop count rest
     → more ≡ with_told lines told → Answered new (Ok (count, told)) → GoesOn old new count told rest → IsReadUpTo text rest lines old
     → IsReadUpTo text later more new
 IsReadUpTo-next text rest later lines more old new count told is_later is_more answered goes_on so_far = record {
   front = so_far.front ++ take count rest;
-  is_text = so_far.is_text ∙ ap (λ r. so_far.front ++ r) (sym (take-append-drop count rest)) ∙ sym (append_assoc so_far.front (take count rest) (drop count rest))
+  is_text = so_far.is_text ∙ ap (λ r. so_far.front ++ r) (sym (take-append-drop count rest))
+      ∙ sym (append_assoc so_far.front (take count rest) (drop count rest))
       ∙ ap (λ r. so_far.front ++ take count rest ++ r) (sym is_later);
-  read = subst (HasRead new (so_far.front ++ take count rest)) (sym is_more) (HasRead-next old new count told so_far.front rest lines answered goes_on so_far.read);
+  read = subst (HasRead new (so_far.front ++ take count rest)) (sym is_more)
+      (HasRead-next old new count told so_far.front rest lines answered goes_on so_far.read);
 }
 
 -- all of a piece is read
@@ -247,13 +255,15 @@ IsCertificateText-whole text lines (Ok kept) read whole = whole text lines read
 IsCertificateText-whole text lines (Err line) read whole = absurd read
 
 pub IsFaultOf-whole : (text : List ℕ) (lines : List Line) (reader : Result Begun ℕ) (fault : CertFault) → HasRead reader text lines
-    → IfOk reader (λ kept. (line : ℕ) × ((fault ≡ BadLine line) × ((t : List ℕ) (ls : List Line) → IsReadTo t ls kept → IsBadLine InCertificates t line)))
+    → IfOk reader (λ kept. (line : ℕ)
+    × ((fault ≡ BadLine line) × ((t : List ℕ) (ls : List Line) → IsReadTo t ls kept → IsBadLine InCertificates t line)))
     → IsFaultOf text fault
 IsFaultOf-whole text lines (Ok kept) fault read bad = subst (IsFaultOf text) (sym bad.1.0) (bad.1.1 text lines read)
 IsFaultOf-whole text lines (Err line) fault read bad = absurd read
 
 -- before the first byte
-pub HasRead-new : (reader : Result Begun ℕ) (lines : List Line) → reader ≡ Ok (record { count = 0; begun = [] }) → lines ≡ [] → HasRead reader [] lines
+pub HasRead-new : (reader : Result Begun ℕ) (lines : List Line)
+    → reader ≡ Ok (record { count = 0; begun = [] }) → lines ≡ [] → HasRead reader [] lines
 HasRead-new reader lines is_new none =
     subst (λ r. HasRead r [] lines) (sym is_new)
     (subst (HasRead (Ok (record { count = 0; begun = [] })) []) (sym none)

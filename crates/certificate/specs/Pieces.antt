@@ -28,7 +28,8 @@ HasRead reader text lines = MatchResult reader (λ kept. IsReadTo text lines kep
 -- a piece's first bytes, so many: up to the first newline and with it, where there is one and a line is told, else all
 abbrev pub Takes : List ℕ → ℕ → Option Line → Type 0
 Takes piece count None = (count ≡ length piece) × HasNoNewline piece
-Takes piece count (Some line) = (front : List ℕ) × ((later : List ℕ) × (HasNoNewline front × (piece ≡ front ++ 10 ∷ later) × (count ≡ length front + 1)))
+Takes piece count (Some line) =
+    (front : List ℕ) × ((later : List ℕ) × (HasNoNewline front × (piece ≡ front ++ 10 ∷ later) × (count ≡ length front + 1)))
 
 -- the lines with the one that was told
 abbrev pub with_told : List Line → Option Line → List Line

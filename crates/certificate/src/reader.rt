@@ -150,7 +150,8 @@ pub(crate) fn read_lines(
 ) -> Result<(), CertFault>
     requires { (text : List ℕ) × HasRead reader.old text lines.old.lines }
     ensures read { OnOk result ((text : List ℕ) → HasRead reader.old text lines.old.lines → HasRead reader.new (text ++ piece.now) lines.new.lines) }
-    ensures fault { IfErr result (λ fault. (text more : List ℕ) → HasRead reader.old text lines.old.lines → IsFaultOf (text ++ (piece.now ++ more)) fault) }
+    ensures fault { IfErr result (λ fault. (text more : List ℕ)
+        → HasRead reader.old text lines.old.lines → IsFaultOf (text ++ (piece.now ++ more)) fault) }
 {
     let mut rest = piece;
     while !rest.is_empty() {

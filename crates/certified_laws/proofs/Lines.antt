@@ -46,7 +46,8 @@ absent place (other ∷ places) none = by (eqb place other) refl (absent place p
     by false is rest never = (is, rest never)
 
 -- the place of a call names its CPU and number
-same_call : (events : List Event) (place : ℕ) (c d : Commitment) → IsCalled events place c.cpu c.number c.command → IsCalled events place d.cpu d.number d.command
+same_call : (events : List Event) (place : ℕ) (c d : Commitment)
+    → IsCalled events place c.cpu c.number c.command → IsCalled events place d.cpu d.number d.command
     → (c.cpu ≡ d.cpu) × (c.number ≡ d.number)
 same_call events place c d is_c is_d =
     parts (same_Some (Called c.cpu c.number c.command) (Called d.cpu d.number d.command) (sym is_c ∙ is_d))

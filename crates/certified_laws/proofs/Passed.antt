@@ -18,7 +18,8 @@ use Rattle.certified_laws.specs.Programs.{HaveTexts}
 use Rattle.certified_laws.proofs.Written.{IsWritten-run}
 use Rattle.certified_laws.proofs.Lines.{IsHistory-written, IsCertificate-written}
 
-IsAccounted-run : (config : Config) (programs : ℕ → List Command) (moves : List Move) (w : World) → HappenAll (opening_world config programs) moves w → IsAccounted w
+IsAccounted-run : (config : Config) (programs : ℕ → List Command) (moves : List Move) (w : World)
+    → HappenAll (opening_world config programs) moves w → IsAccounted w
 IsAccounted-run config programs moves w happen =
     IsAccounted-HappenAll (opening_world config programs) moves w (IsAccounted-opening config programs) happen
 

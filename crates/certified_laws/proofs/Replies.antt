@@ -102,7 +102,8 @@ AllHaveTexts-tagged s [] rows have = have
 AllHaveTexts-tagged s (n ∷ names) rows have = (IsReply-input_error, AllHaveTexts-tagged s names rows have)
 
 -- rows behind tests are read where the tests hold
-HasText-inputs : (tests : List Word) (rows : List Row) (accepted : Accepted) → (AllByRecursion (λ (w : Word). IsTrue w.allowed) tests → HasText (decided rows accepted))
+HasText-inputs : (tests : List Word) (rows : List Row) (accepted : Accepted)
+    → (AllByRecursion (λ (w : Word). IsTrue w.allowed) tests → HasText (decided rows accepted))
     → HasText (decided (inputs tests rows) accepted)
 HasText-inputs [] rows accepted have = have tt
 HasText-inputs (test ∷ tests) rows accepted have = by test.allowed refl (λ holds. HasText-inputs tests rows accepted (λ others. have (holds, others)))
@@ -114,7 +115,8 @@ HasText-inputs (test ∷ tests) rows accepted have = by test.allowed refl (λ ho
 
 -- a command whose rows and whose end have texts, where its words are allowed
 HasText-front : (s : State) (c : Call) (rows : List Row) (accepted : Accepted)
-    → (AllByRecursion (λ (w : Word). IsTrue w.allowed) (words_of c) → AllHaveTexts rows × HasText (Ok accepted)) → HasText (decided (with_front s c rows) accepted)
+    → (AllByRecursion (λ (w : Word). IsTrue w.allowed) (words_of c) → AllHaveTexts rows × HasText (Ok accepted))
+    → HasText (decided (with_front s c rows) accepted)
 HasText-front s c rows accepted have =
     HasText-inputs (words_of c) (tagged s (named c) rows) accepted (λ tests.
     let both = have tests in
@@ -156,21 +158,38 @@ EntryFits-after_table realm ipa ripas = either EntryFits (nat_lt ipa (half realm
 -- ---- functions
 
 -- a table that is taken out
-HasText-remove : (removal : Removal) (s : State) (cpu rd ipa level : ℕ) → StateFits s → AllByRecursion (λ (w : Word). IsTrue w.allowed) (words_of (call.RttRemove removal rd ipa level))
+HasText-remove : (removal : Removal) (s : State) (cpu rd ipa level : ℕ)
+    → StateFits s → AllByRecursion (λ (w : Word). IsTrue w.allowed) (words_of (call.RttRemove removal rd ipa level))
     → AllHaveTexts (behind s cpu (call.RttRemove removal rd ipa level)).0 × HasText (Ok (behind s cpu (call.RttRemove removal rd ipa level)).1)
 unfolding behind words_of
 HasText-remove removal s cpu rd ipa level fits tests =
     let last = leb-true level 3 tests.0 in (
-      (IsReply-input_error, (IsReply-input_error, (IsReply-walk s rd ipa _ (omega (arith, last)), (IsReply-walk s rd ipa _ (omega (arith, last)), (IsReply-table_error _ last, tt))))),
+      (
+        IsReply-input_error,
+        (
+          IsReply-input_error,
+          (IsReply-walk s rd ipa _ (omega (arith, last)), (IsReply-walk s rd ipa _ (omega (arith, last)), (IsReply-table_error _ last, tt))),
+        ),
+      ),
       ((omega arith, (entry_at-fits s rd _ _ fits, tt)), EntryFits-after_table (realm_at s rd) ipa _),
     )
 
 -- where its words are allowed, what stands behind the rows of each function has texts and fits
-HasText-behind : (f : FunctionId) (w : List ℕ) (s : State) (cpu : ℕ) → StateFits s → AreWords w → AllByRecursion (λ (w : Word). IsTrue w.allowed) (words_of (call_from f w))
+HasText-behind : (f : FunctionId) (w : List ℕ) (s : State) (cpu : ℕ)
+    → StateFits s → AreWords w → AllByRecursion (λ (w : Word). IsTrue w.allowed) (words_of (call_from f w))
     → AllHaveTexts (behind s cpu (call_from f w)).0 × HasText (Ok (behind s cpu (call_from f w)).1)
 unfolding behind call_from words_of
 HasText-behind function.DataCreate w s cpu fits words tests = (
-  (IsReply-input_error, (IsReply-realm_error, (IsReply-walk s (slice_index w 0) (slice_index w 2) 3 (omega arith), (IsReply-table_error 3 (omega arith), (IsReply-table_error 3 (omega arith), tt))))),
+  (
+    IsReply-input_error,
+    (
+      IsReply-realm_error,
+      (
+        IsReply-walk s (slice_index w 0) (slice_index w 2) 3 (omega arith),
+        (IsReply-table_error 3 (omega arith), (IsReply-table_error 3 (omega arith), tt)),
+      ),
+    ),
+  ),
   ((omega arith, tt), (word w 1 words, tt)),
 )
 HasText-behind function.DataCreateUnknown w s cpu fits words tests = (
@@ -187,7 +206,8 @@ HasText-behind function.RealmCreate w s cpu fits words tests = (
   ((omega arith, tt), (word w 1 words, word w 2 words, word w 5 words)),
 )
 HasText-behind function.RealmDestroy w s cpu fits words tests = ((IsReply-realm_error, (IsReply-realm_error, tt)), ((omega arith, tt), tt))
-HasText-behind function.RecCreate w s cpu fits words tests = ((IsReply-realm_error, (IsReply-input_error, (IsReply-input_error, tt))), ((omega arith, tt), tt))
+HasText-behind function.RecCreate w s cpu fits words tests =
+    ((IsReply-realm_error, (IsReply-input_error, (IsReply-input_error, tt))), ((omega arith, tt), tt))
 HasText-behind function.RecDestroy w s cpu fits words tests = ((IsReply-rec_error, tt), ((omega arith, tt), tt))
 HasText-behind function.RecEnter w s cpu fits words tests = (
   (IsReply-realm_error, ((omega arith, omega arith), (IsReply-rec_error, (IsReply-rec_error, tt)))),
@@ -195,10 +215,17 @@ HasText-behind function.RecEnter w s cpu fits words tests = (
 )
 HasText-behind function.RttCreate w s cpu fits words tests =
     let level = leb-true (slice_index w 3) 3 tests.0 in (
-      (IsReply-input_error, (IsReply-input_error, (IsReply-walk s (slice_index w 0) (slice_index w 2) _ (omega (arith, level)), (IsReply-table_error _ (omega (arith, level)), tt)))),
+      (
+        IsReply-input_error,
+        (
+          IsReply-input_error,
+          (IsReply-walk s (slice_index w 0) (slice_index w 2) _ (omega (arith, level)), (IsReply-table_error _ (omega (arith, level)), tt)),
+        ),
+      ),
       ((omega arith, tt), (word w 1 words, entry_at-fits s (slice_index w 0) _ _ fits)),
     )
-HasText-behind function.RttDestroy w s cpu fits words tests = HasText-remove Destroy s cpu (slice_index w 0) (slice_index w 1) (slice_index w 2) fits tests
+HasText-behind function.RttDestroy w s cpu fits words tests =
+    HasText-remove Destroy s cpu (slice_index w 0) (slice_index w 1) (slice_index w 2) fits tests
 HasText-behind function.RttFold w s cpu fits words tests = HasText-remove Fold s cpu (slice_index w 0) (slice_index w 1) (slice_index w 2) fits tests
 HasText-behind function.RttMapUnprotected w s cpu fits words tests = (
   (IsReply-input_error, (IsReply-walk s (slice_index w 0) (slice_index w 1) 3 (omega arith), (IsReply-table_error 3 (omega arith), tt))),
@@ -207,19 +234,34 @@ HasText-behind function.RttMapUnprotected w s cpu fits words tests = (
 HasText-behind function.RttReadEntry w s cpu fits words tests =
     let level = leb-true (slice_index w 2) 3 tests.0 in (
       (IsReply-input_error, (IsReply-input_error, tt)),
-      ((omega arith, (omega (arith, level, reach-le s (slice_index w 0) (slice_index w 1) (slice_index w 2)), (entry_state-word _, (entry_at-fits s (slice_index w 0) _ _ fits, (ripas_number-word _, tt))))), tt),
+      (
+        (
+          omega arith,
+          (
+            omega (arith, level, reach-le s (slice_index w 0) (slice_index w 1) (slice_index w 2)),
+            (entry_state-word _, (entry_at-fits s (slice_index w 0) _ _ fits, (ripas_number-word _, tt))),
+          ),
+        ),
+        tt,
+      ),
     )
 HasText-behind function.RttUnmapUnprotected w s cpu fits words tests = (
   (IsReply-input_error, (IsReply-walk s (slice_index w 0) (slice_index w 1) 3 (omega arith), (IsReply-table_error 3 (omega arith), tt))),
   ((omega arith, tt), (omega arith, tt)),
 )
 HasText-behind function.RttInitRipas w s cpu fits words tests = (
-  (let walk = IsReply-walk s (slice_index w 0) (slice_index w 1) 3 (omega arith) in (IsReply-input_error, (IsReply-realm_error, (walk, (walk, (walk, tt)))))),
+  (let walk = IsReply-walk s (slice_index w 0) (slice_index w 1) 3 (omega arith) in
+      (IsReply-input_error, (IsReply-realm_error, (walk, (walk, (walk, tt)))))),
   word w 2 words,
 )
 HasText-behind function.RttSetRipas w s cpu fits words tests = (
-  (let walk = IsReply-walk s (slice_index w 0) (slice_index w 2) 3 (omega arith) in
-      (IsReply-rec_error, (IsReply-rec_error, (IsReply-input_error, (IsReply-input_error, (IsReply-input_error, (IsReply-input_error, (IsReply-input_error, (walk, (walk, tt)))))))))),
+  (let walk = IsReply-walk s (slice_index w 0) (slice_index w 2) 3 (omega arith) in (
+    IsReply-rec_error,
+    (
+      IsReply-rec_error,
+      (IsReply-input_error, (IsReply-input_error, (IsReply-input_error, (IsReply-input_error, (IsReply-input_error, (walk, (walk, tt))))))),
+    ),
+  )),
   word w 3 words,
 )
 HasText-behind function.MeasurementRead w s cpu fits words tests = (
@@ -258,6 +300,7 @@ IsReply-Step old cpu command given new fits words step =
     IsReply-carried (outcome old cpu (call_of command)) old given new fits
     (by (is_placed old cpu (class_of (call_of command))) (HasText-answer_of command.function command.words.items old cpu fits words)) step
   where
-    by : (b : Bool) → HasText (answer_of old cpu (call_of command)) → HasText (if b then answer_of old cpu (call_of command) else Err (refusal.Misplaced (misplacement (is_inside old cpu) (class_of (call_of command)))))
+    by : (b : Bool) → HasText (answer_of old cpu (call_of command)) → HasText (if b then answer_of old cpu (call_of command)
+        else Err (refusal.Misplaced (misplacement (is_inside old cpu) (class_of (call_of command)))))
     by true answered = answered
     by false answered = tt

@@ -6,7 +6,7 @@ use Rattle.rmm_spec.specs.declared.command.Command.{Command}
 use Rattle.rmm_spec.specs.declared.event.Event.TheVariants.{Called, Returned}
 use Rattle.rmm_spec.specs.HistoryText.{Config}
 use Rattle.rmm_spec.specs.Cell.{put}
-use Rattle.rmm_spec.specs.World.{World, Phase, Between, Deciding, Decided, GivenUp, Stopped, opening_world, phase_learnt, Move, Moves, Happens, HappenAll}
+use Rattle.rmm_spec.specs.World.{World, Phase, Between, Deciding, Decided, GivenUp, Stopped, opening_world, phase_learnt, Move, Happens, HappenAll}
 use Rattle.rmm_spec.specs.World as world
 use Rattle.spec_lemmas.proofs.Maps.{put_elim, put-here}
 use Rattle.certified_laws.specs.Programs.{commands_below}
@@ -61,7 +61,11 @@ within-put : (bound count cpus cpu d : ℕ) (phase : ℕ → Phase) (p : Phase) 
     → count + sum_below cpus (λ k. events_left (phase k) (old k)) ≤ bound
     → (count + d) + sum_below cpus (λ k. events_left (put phase cpu p k) (new k)) ≤ bound
 within-put bound count cpus cpu d phase p old new is_cpu others here within =
-    omega (arith, within, sum_below-less cpus (λ k. events_left (phase k) (old k)) (λ k. events_left (put phase cpu p k) (new k)) cpu d is_cpu each falls)
+    omega (
+      arith,
+      within,
+      sum_below-less cpus (λ k. events_left (phase k) (old k)) (λ k. events_left (put phase cpu p k) (new k)) cpu d is_cpu each falls,
+    )
   where
     falls : events_left (put phase cpu p cpu) (new cpu) + d ≤ events_left (phase cpu) (old cpu)
     falls = rw (put-here phase cpu p) here
@@ -83,7 +87,8 @@ events_left-stopped (Between number) commands = omega arith
 events_left-stopped _ commands = omega arith
 
 -- a CPU's phase changes, and nothing is recorded
-IsWithin-phase : (bound : ℕ) (w : World) (cpu : ℕ) (p : Phase) → cpu < w.config.cpus → events_left p (w.program cpu) ≤ left_at w cpu → IsWithin bound w
+IsWithin-phase : (bound : ℕ) (w : World) (cpu : ℕ) (p : Phase)
+    → cpu < w.config.cpus → events_left p (w.program cpu) ≤ left_at w cpu → IsWithin bound w
     → length w.events + sum_below w.config.cpus (λ k. events_left (put w.phase cpu p k) (w.program k)) ≤ bound
 IsWithin-phase bound w cpu p is_cpu here within =
     omega (
@@ -101,7 +106,8 @@ IsWithin-Moves bound old (world.Call cpu) new happens within =
     (rw (length_push old.events (Called cpu calls.number calls.command))
     (within-put bound (length old.events) old.config.cpus cpu 1 old.phase (Deciding calls.number calls.command None) old.program
     (put old.program cpu calls.rest) happens.is_cpu
-    (λ k apart. put_elim (λ (p : List Command). p ≡ old.program k) old.program cpu calls.rest k (λ same. absurd (false≢true (sym apart ∙ eq-eqb k cpu same))) (λ is. refl))
+    (λ k apart. put_elim (λ (p : List Command). p ≡ old.program k) old.program cpu calls.rest k
+    (λ same. absurd (false≢true (sym apart ∙ eq-eqb k cpu same))) (λ is. refl))
     here within))
 IsWithin-Moves bound old (world.Take cpu granule) new happens within = subst (IsWithin bound) (sym happens.moves.is_new) within
 IsWithin-Moves bound old (world.Free cpu granule learnt) new happens within =
@@ -127,7 +133,8 @@ IsWithin-Moves bound old (world.Stop cpu) new happens within =
     subst (IsWithin bound) (sym happens.moves.is_new)
     (IsWithin-phase bound old cpu Stopped happens.is_cpu (events_left-stopped (old.phase cpu) (old.program cpu)) within)
 
-IsWithin-HappenAll : (bound : ℕ) (old : World) (moves : List Move) (last : World) → IsWithin bound old → HappenAll old moves last → IsWithin bound last
+IsWithin-HappenAll : (bound : ℕ) (old : World) (moves : List Move) (last : World)
+    → IsWithin bound old → HappenAll old moves last → IsWithin bound last
 IsWithin-HappenAll bound old [] last within happen = subst (IsWithin bound) (sym happen) within
 IsWithin-HappenAll bound old (move ∷ moves) last within happen =
     IsWithin-HappenAll bound happen.0 moves last (IsWithin-Moves bound old move happen.0 happen.1 within) happen.2

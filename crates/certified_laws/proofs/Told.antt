@@ -187,7 +187,8 @@ rec_at-fits s g fits = unwrapped RecFits (s.rec g) no_rec (fits.recs g) (tt, tt)
 pub request_of-fits : (rec : RecRecord) → RecFits rec → RequestFits (request_of rec)
 request_of-fits rec fits = unwrapped RequestFits rec.request no_request fits.0 (omega arith, omega arith)
 
-linked_entry-fits : (link : Option ℕ) (leaf : Option Entry) → EachIn (λ g. g < 2 ^ 64) link → EachIn EntryFits leaf → EntryFits (linked_entry link leaf)
+linked_entry-fits : (link : Option ℕ) (leaf : Option Entry)
+    → EachIn (λ g. g < 2 ^ 64) link → EachIn EntryFits leaf → EntryFits (linked_entry link leaf)
 linked_entry-fits (Some granule) leaf below here = below
 linked_entry-fits None (Some leaf) below here = either EntryFits (is_table leaf) (Unassigned Empty) leaf (omega arith) here
 linked_entry-fits None None below here = omega arith
@@ -355,7 +356,8 @@ StateFits-entry_change s rd level (Replaced number entry) new fits = record {
 }
 StateFits-entry_change s rd level (RipasSet first last ripas) new fits = record {
   tables = fits.tables;
-  leaves = λ other l n. either (EachIn EntryFits) _ _ (s.leaf other l n) (ripas-fits ripas (s.leaf other l n) (fits.leaves other l n)) (fits.leaves other l n);
+  leaves = λ other l n. either (EachIn EntryFits) _ _ (s.leaf other l n)
+      (ripas-fits ripas (s.leaf other l n) (fits.leaves other l n)) (fits.leaves other l n);
   recs = fits.recs;
   realms = fits.realms;
 }

@@ -13,7 +13,7 @@ use Rattle.rmm_spec.specs.HistoryText.{Config, Stand, start, stand_after, stand_
 use Rattle.rmm_spec.specs.Cell.{put}
 use Rattle.rmm_spec.specs.Flat.{flat_state}
 use Rattle.rmm_spec.specs.Local.{Hold, put_all}
-use Rattle.rmm_spec.specs.World.{World, Phase, Between, Deciding, Decided, GivenUp, Stopped, Commitment, opening_world, phase_learnt, without_granule, Move, Moves, Happens, HappenAll, Commits}
+use Rattle.rmm_spec.specs.World.{World, Phase, Between, Deciding, Decided, GivenUp, Stopped, Commitment, opening_world, phase_learnt, without_granule, Move, Happens, HappenAll, Commits}
 use Rattle.rmm_spec.specs.World as world
 use Rattle.spec_lemmas.proofs.Places.{IsEvent-slice_get}
 use Rattle.spec_lemmas.proofs.Records.{subhistory_of-push_same, subhistory_of-push_other, stand_from-push_at, AllByRecursion-push}
@@ -58,7 +58,8 @@ AreAtStands phase events = (cpu : ℕ) → AtStand (phase cpu) (stand_of events 
 AreAtStands-put : (phase : ℕ → Phase) (events : List Event) (cpu : ℕ) (p : Phase) → AtStand p (stand_of events cpu) → AreAtStands phase events
     → AreAtStands (put phase cpu p) events
 AreAtStands-put phase events cpu p here others other =
-    put_elim (λ q. AtStand q (stand_of events other)) phase cpu p other (λ same. subst (λ c. AtStand p (stand_of events c)) (sym same) here) (λ apart. others other)
+    put_elim (λ q. AtStand q (stand_of events other)) phase cpu p other
+    (λ same. subst (λ c. AtStand p (stand_of events c)) (sym same) here) (λ apart. others other)
 
 other_cpu : (cpu other : ℕ) → (other == cpu) ≡ false → eqb cpu other ≡ false
 other_cpu cpu other apart = by (eqb cpu other) refl
@@ -75,7 +76,8 @@ AreAtStands-push phase events event p old stood here others other =
     (λ same. subst (λ c. AtStand p (stand_of (events ++ event ∷ []) c)) (sym same)
     (subst (λ es. AtStand p (stand_from start es)) (sym (subhistory_of-push_same (cpu_of event) events event refl))
     (subst (AtStand p) (sym (stand_from-push_at (subhistory_of (cpu_of event) events) event old stood)) here)))
-    (λ apart. subst (λ es. AtStand (phase other) (stand_from start es)) (sym (subhistory_of-push_other other events event (other_cpu (cpu_of event) other apart)))
+    (λ apart. subst (λ es. AtStand (phase other) (stand_from start es))
+    (sym (subhistory_of-push_other other events event (other_cpu (cpu_of event) other apart)))
     (others other))
 
 -- ---- worlds
@@ -114,7 +116,8 @@ IsWritten-Calls old cpu new written happens =
       programs = λ other is_cpu. put_elim (λ (p : List Command). AllByRecursion IsCommand p) old.program cpu calls.rest other
           (λ same. commands.1) (λ apart. written.programs other is_cpu);
       events = AllByRecursion-push (IsEvent old.config.cpus) old.events event written.events (happens.is_cpu, commands.0);
-      stands = AreAtStands-push old.phase old.events event (Deciding calls.number calls.command None) (record { next = calls.number; is_open = false })
+      stands = AreAtStands-push old.phase old.events event
+          (Deciding calls.number calls.command None) (record { next = calls.number; is_open = false })
           (AtStand-known old cpu (Between calls.number) written calls.is_between) here written.stands;
       replies = written.replies;
       fits = written.fits;
@@ -124,7 +127,8 @@ IsWritten-Returns : (old : World) (cpu : ℕ) (new : World) → IsAccounted old 
 IsWritten-Returns old cpu new accounted written happens =
     let returns = happens.moves in
     let event = Returned cpu returns.number returns.given in
-    let here : stand_after (record { next = returns.number + 1; is_open = true }) event ≡ Some (record { next = returns.number + 1; is_open = false }) =
+    let here : stand_after (record { next = returns.number + 1; is_open = true }) event
+    ≡ Some (record { next = returns.number + 1; is_open = false }) =
     rw (eq-eqb (returns.number + 1) (returns.number + 1) refl) refl in
     let phase = subst (λ q. AtPhase q cpu old.journal old.events) returns.is_decided (accounted.phases cpu) in
     let given : IsReply returns.given = subst IsReply phase.1.is_given (written.replies phase.1.index phase.1.it phase.1.is_it) in
@@ -138,7 +142,8 @@ IsWritten-Returns old cpu new accounted written happens =
     })
 
 -- the command of an open call has a text, and so the reply that the machine gives, and the next state fits
-IsReply-Commits : (old : World) (cpu : ℕ) (given : Reply) (held : Hold) (new : World) → IsAccounted old → IsWritten old → Commits old cpu given held new
+IsReply-Commits : (old : World) (cpu : ℕ) (given : Reply) (held : Hold) (new : World)
+    → IsAccounted old → IsWritten old → Commits old cpu given held new
     → IsReply given × StateFits (flat_state old.config (put_all old.cells held.cells))
 IsReply-Commits old cpu given held new accounted written commits =
     let number = commits.deciding.number in
@@ -149,7 +154,8 @@ IsReply-Commits old cpu given held new accounted written commits =
     IsReply-Step (flat_state old.config old.cells) cpu command given (flat_state old.config (put_all old.cells held.cells))
     written.fits is_event.1.words right.0
 
-IsWritten-Commits : (old : World) (cpu : ℕ) (given : Reply) (held : Hold) (new : World) → IsAccounted old → IsWritten old → Commits old cpu given held new
+IsWritten-Commits : (old : World) (cpu : ℕ) (given : Reply) (held : Hold) (new : World)
+    → IsAccounted old → IsWritten old → Commits old cpu given held new
     → IsWritten new
 IsWritten-Commits old cpu given held new accounted written commits =
     let number = commits.deciding.number in
@@ -184,7 +190,8 @@ IsWritten-Happens old (world.Free cpu granule learnt) new accounted written happ
     subst IsWritten (sym happens.moves.is_new)
     (IsWritten-phase old (put old.taken cpu (without_granule granule (old.taken cpu))) cpu (phase_learnt learnt (old.phase cpu)) written
     (AtStand-learnt learnt (old.phase cpu) (stand_of old.events cpu) (written.stands cpu)))
-IsWritten-Happens old (world.Commit cpu given held) new accounted written happens = IsWritten-Commits old cpu given held new accounted written happens.moves
+IsWritten-Happens old (world.Commit cpu given held) new accounted written happens =
+    IsWritten-Commits old cpu given held new accounted written happens.moves
 IsWritten-Happens old (world.GiveUp cpu) new accounted written happens =
     subst IsWritten (sym happens.moves.is_new)
     (IsWritten-phase old (put old.taken cpu []) cpu GivenUp written (IsSome-AtStand (old.phase cpu) (stand_of old.events cpu) (written.stands cpu)))

@@ -21,7 +21,8 @@ use Rattle.spec_lemmas.proofs.Calls.{HasOnePlaces, same_command, same_reply}
 use Rattle.checker.specs.Progress.{Progress, AreNamedBelow}
 
 -- the call returned at that place or above it
-pub not-IsTooLate-from_latest : (history : History) → HasOnePlaces history.events → (lines : List Line) (named : List Bool) (latest : ℕ) (old : State) (line : Line) (returned : ℕ) (given : Reply)
+pub not-IsTooLate-from_latest : (history : History) → HasOnePlaces history.events
+    → (lines : List Line) (named : List Bool) (latest : ℕ) (old : State) (line : Line) (returned : ℕ) (given : Reply)
     → Progress history lines named latest old → IsReturned history.events returned (cpu_named line) (number_named line) given
     → latest ≤ returned → ¬ IsTooLate history.events lines line
 not-IsTooLate-from_latest history one lines named latest old line returned given progress is_returned above late =
@@ -40,7 +41,8 @@ pub IsRefused-from_step : (events : List Event) → HasOnePlaces events → (old
     → IsCalled events called (cpu_named line) (number_named line) command → IsReplyOf events line given
     → ((new : State) → ¬ Step old (cpu_named line) command given new) → IsRefused events old line
 IsRefused-from_step events one old line called command given is_called is_given refuses entry new is_entry step =
-    let same_made = same_command events one is_entry.called called (cpu_named line) (number_named line) entry.command command is_entry.is_called is_called in
+    let same_made =
+    same_command events one is_entry.called called (cpu_named line) (number_named line) entry.command command is_entry.is_called is_called in
     let same_told = same_reply events one line entry.given given is_entry.given is_given in
     refuses new
     (subst (λ (c : ℕ). Step old c command given new) is_entry.cpu
@@ -98,7 +100,8 @@ Progress-whole history lines count named latest state whole progress =
     subst (λ (ls : List Line). Progress history ls named latest state) (take_all count lines whole) progress
 
 -- the order is accepted
-pub Accepts-from_Passes : (history : History) → IsHistory history → HasOnePlaces history.events → (lines : List Line) (last : State) → Passes history lines last
+pub Accepts-from_Passes : (history : History) → IsHistory history → HasOnePlaces history.events
+    → (lines : List Line) (last : State) → Passes history lines last
     → AreNamedBelow history.events lines (length history.events) → Accepts history lines (length lines)
 Accepts-from_Passes history is_history one lines last passes named =
     let linearization = IsLinearization-from_Passes history one lines last passes named in

@@ -36,7 +36,8 @@ called_within history named called cpu number command counted is_called =
     omega (arith, counted, slice_get_within history.events called (Called cpu number command) is_called)
 
 -- a line whose call is found, unnamed, of its kind and in time, with the reply that it claims
-pub record IsReady (history : History) (before : List Line) (named : List Bool) (line : Line) (called : ℕ) (command : Command) (given : Reply) : Type 0 where
+pub record IsReady (history : History) (before : List Line) (named : List Bool)
+    (line : Line) (called : ℕ) (command : Command) (given : Reply) : Type 0 where
   pub is_called : IsCalled history.events called (cpu_named line) (number_named line) command
   pub unset : get_or named called false ≡ false
   pub kind : IsOfItsKind history.events line
@@ -74,7 +75,8 @@ FailsBy-line history before named latest old progress line called command given 
   progress.unflagged called (cpu_named line) (number_named line) command ready.is_called ready.unset,
   ready.kind,
   ready.in_time,
-  IsRefused-from_step history.events (HasOnePlaces-from_history history progress.is_history) old line called command given ready.is_called ready.is_given refuses,
+  IsRefused-from_step history.events
+      (HasOnePlaces-from_history history progress.is_history) old line called command given ready.is_called ready.is_given refuses,
 )
 
 -- the flag that was read isn't set
@@ -91,7 +93,8 @@ IsDue-kept replay history cpu number called flag returned told is_called is_read
   is_called = is_called;
   unset = unset_flag replay.named.items called flag is_read unset;
   kind = (returned, told, is_returned);
-  in_time = λ before progress. not-IsTooLate-from_latest history (HasOnePlaces-from_history history progress.is_history) before _ _ _ (Keep cpu number) returned told
+  in_time = λ before progress. not-IsTooLate-from_latest history
+      (HasOnePlaces-from_history history progress.is_history) before _ _ _ (Keep cpu number) returned told
       progress is_returned late;
   is_given = (returned, is_returned);
 }
@@ -111,7 +114,8 @@ IsDue-unfinished replay history cpu number called flag claimed is_called is_read
 }
 
 -- a line that is due waits for the machine alone
-pub IsReady-from_due : (replay : Replay) (history : History) (line : Line) (cpu called : ℕ) (given : Reply) → IsDue replay history line cpu called given
+pub IsReady-from_due : (replay : Replay) (history : History) (line : Line) (cpu called : ℕ) (given : Reply)
+    → IsDue replay history line cpu called given
     → (before : List Line) → IsReplayOf replay history before → (command : Command)
     → (c : ℕ) × (n : ℕ) × IsCalled history.events called c n command
     → IsReady history before replay.named.items line called command given
@@ -124,7 +128,8 @@ IsReady-from_due replay history line cpu called given due before progress comman
 }
 
 -- a line that is due is refused memory where its call's command needs it
-pub IsRefusedMemory-due : (replay : Replay) (history : History) (line : Line) (cpu called : ℕ) (given : Reply) → IsDue replay history line cpu called given
+pub IsRefusedMemory-due : (replay : Replay) (history : History) (line : Line) (cpu called : ℕ) (given : Reply)
+    → IsDue replay history line cpu called given
     → (command : Command) → (c : ℕ) × (n : ℕ) × IsCalled history.events called c n command
     → NeedsMemory replay cpu command given → IsRefusedMemory replay history line
 IsRefusedMemory-due replay history line cpu called given due command made needs = record {

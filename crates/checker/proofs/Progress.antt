@@ -134,7 +134,8 @@ same_cpu events place cpu number other_cpu other command made here there =
     let both : Some (Called cpu number command) ≡ Some (Called other_cpu other made) = sym here ∙ there in
     (cc, cc)
 
-module _ (history : History) (one : HasOnePlaces history.events) (lines : List Line) (named : List Bool) (latest : ℕ) (old : State) (line : Line) (called : ℕ) (new : State) where
+module _ (history : History) (one : HasOnePlaces history.events) (lines : List Line)
+    (named : List Bool) (latest : ℕ) (old : State) (line : Line) (called : ℕ) (new : State) where
   -- a flag that was set already names an old line, and the new one the last line
   flagged_push : Progress history lines named latest old → Follows history lines old line called new → (place cpu number : ℕ) (command : Command)
       → IsCalled history.events place cpu number command → get_or (set named called true) place false ≡ true
@@ -155,7 +156,11 @@ module _ (history : History) (one : HasOnePlaces history.events) (lines : List L
       → ¬ IsNamed (lines ++ line ∷ []) cpu number
   unflagged_push progress follows place cpu number command is unset is_named = elim (cases_eq place called) [
     | inl same ↦
-        let in_range : called < length named = omega (arith, progress.counted, slice_get_within history.events called (Called (cpu_named line) (number_named line) follows.command) follows.is_called) in
+        let in_range : called < length named = omega (
+          arith,
+          progress.counted,
+          slice_get_within history.events called (Called (cpu_named line) (number_named line) follows.command) follows.is_called,
+        ) in
         both_ways _ unset (ap (λ (p : ℕ). get_or (set named called true) p false) same ∙ get_or-set_same named called true false in_range)
     | inr other ↦ elim (IsNamed_cases lines line cpu number is_named) [
       | inl before ↦ progress.unflagged place cpu number command is (sym (get_or-set_other named called place true false other) ∙ unset) before
@@ -165,7 +170,8 @@ module _ (history : History) (one : HasOnePlaces history.events) (lines : List L
     ]
   ]
 
-  no_later_push : Progress history lines named latest old → Follows history lines old line called new → (i place : ℕ) (other : Line) (command : Command)
+  no_later_push : Progress history lines named latest old
+      → Follows history lines old line called new → (i place : ℕ) (other : Line) (command : Command)
       → slice_get (lines ++ line ∷ []) i ≡ Some other → IsCalled history.events place (cpu_named other) (number_named other) command
       → place ≤ max latest called
   no_later_push progress follows i place other command is made = elim (slice_get_push_cases lines line i other is) [

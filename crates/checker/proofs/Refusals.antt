@@ -22,7 +22,8 @@ nothing_behind : (xs ys rest : List ℕ) → HasNoNewline rest → xs ++ 10 ∷ 
 nothing_behind xs ys [] none same = refl
 nothing_behind xs ys (byte ∷ []) none same = absurd (none.0 (sym (push-injective xs ys 10 byte same).1))
 nothing_behind xs ys (byte ∷ next ∷ rest) none same =
-    absurd (let e : next ∷ rest ≡ [] = nothing_behind xs (ys ++ byte ∷ []) (next ∷ rest) none.1 (same ∙ sym (append_assoc ys (byte ∷ []) (next ∷ rest))) in cc)
+    absurd (let e : next ∷ rest ≡ [] =
+    nothing_behind xs (ys ++ byte ∷ []) (next ∷ rest) none.1 (same ∙ sym (append_assoc ys (byte ∷ []) (next ∷ rest))) in cc)
 
 -- the lines before the one that is told, and the text up to its newline
 lines_before : (old new : Result Begun ℕ) (count : ℕ) (line : Line) (replay : Replay) (failed : Option Failure) (history : History)
@@ -37,7 +38,8 @@ lines_before (Ok old) (Ok new) count line replay None history text rest front la
     let is_text : text ++ (front ++ 10 ∷ []) ≡ told ++ new.begun = ap (λ b. text ++ b) (sym taken) ∙ read.is_text in
     let nothing : new.begun ≡ [] = nothing_behind (text ++ front) told new.begun read.unfinished (append_assoc text front (10 ∷ []) ∙ is_text) in
     (lines, (is_text ∙ ap (λ b. told ++ b) nothing ∙ append-nil told, given.1.1.0))
-lines_before (Ok old) (Ok new) count line replay (Some failure) history text rest front later is_ok goes none is_rest counted goes_on given = absurd cc
+lines_before (Ok old) (Ok new) count line replay (Some failure) history text rest front later is_ok goes none is_rest counted goes_on given =
+    absurd cc
 lines_before (Ok old) (Err l) count line replay failed history text rest front later is_ok goes none is_rest counted goes_on given = absurd cc
 lines_before (Err l) new count line replay failed history text rest front later is_ok goes none is_rest counted goes_on given = absurd cc
 
@@ -50,28 +52,32 @@ IsOk-kept (Err l) answer told is_told none = absurd (let e : Some told ≡ None 
 pub IsRefusedIn-line : (first session : Session) (piece rest : List ℕ) (old new : Result Begun ℕ) (count : ℕ) (line : Line)
     → IsFedUpTo first session piece rest → old ≡ session.certificate → IsOk old → IsOk new → Takes rest count (Some line)
     → GoesOn old new count (Some line) rest → IsRefusedNext session.replay session.failed session.history.recorded line → IsRefusedIn first piece
-IsRefusedIn-line first session piece rest old new count line fed same is_ok goes (front, (later, (no_newline, is_rest, counted))) goes_on refused = record {
-  front = fed.front ++ front;
-  later = later;
-  is_piece = fed.is_piece ∙ ap (λ r. fed.front ++ r) is_rest ∙ sym (append_assoc fed.front front (10 ∷ later));
-  line = line;
-  replay = session.replay;
-  refused = subst (λ h. IsRefusedMemory session.replay h line) fed.same_history refused.1;
-  behind = λ text given.
-      let judged = subst (λ r. HasJudgedBy r session.replay session.failed session.history.recorded (text ++ fed.front)) (sym same) (fed.judged text given) in
-      let before = lines_before old new count line session.replay session.failed session.history.recorded (text ++ fed.front) rest front later is_ok goes
-      refused.0 is_rest counted goes_on judged in (
-        before.0,
-        (
-          ap (λ b. text ++ b) (append_assoc fed.front front (10 ∷ [])) ∙ sym (append_assoc text fed.front (front ++ 10 ∷ [])) ∙ before.1.0,
-          subst (λ h. IsReplayOf session.replay h before.0) fed.same_history before.1.1,
-        ),
-      );
-}
+IsRefusedIn-line first session piece rest old new count line fed same is_ok goes (front, (later, (no_newline, is_rest, counted))) goes_on refused =
+    record {
+      front = fed.front ++ front;
+      later = later;
+      is_piece = fed.is_piece ∙ ap (λ r. fed.front ++ r) is_rest ∙ sym (append_assoc fed.front front (10 ∷ later));
+      line = line;
+      replay = session.replay;
+      refused = subst (λ h. IsRefusedMemory session.replay h line) fed.same_history refused.1;
+      behind = λ text given.
+          let judged =
+          subst (λ r. HasJudgedBy r session.replay session.failed session.history.recorded (text ++ fed.front)) (sym same) (fed.judged text given) in
+          let before =
+          lines_before old new count line session.replay session.failed session.history.recorded (text ++ fed.front) rest front later is_ok goes
+          refused.0 is_rest counted goes_on judged in (
+            before.0,
+            (
+              ap (λ b. text ++ b) (append_assoc fed.front front (10 ∷ [])) ∙ sym (append_assoc text fed.front (front ++ 10 ∷ [])) ∙ before.1.0,
+              subst (λ h. IsReplayOf session.replay h before.0) fed.same_history before.1.1,
+            ),
+          );
+    }
 
 -- and so where `next` tells it
 pub IsRefusedIn-told : (first session : Session) (piece rest : List ℕ) (old new : Result Begun ℕ) (count : ℕ) (told : Option Line)
-    → IsFedUpTo first session piece rest → old ≡ session.certificate → IfErr old (λ l. new ≡ Err l) → Answered new (Ok (count, told)) → Takes rest count told
+    → IsFedUpTo first session piece rest → old ≡ session.certificate
+    → IfErr old (λ l. new ≡ Err l) → Answered new (Ok (count, told)) → Takes rest count told
     → GoesOn old new count told rest → IsSomeAnd told (IsRefusedNext session.replay session.failed session.history.recorded) → IsRefusedIn first piece
 IsRefusedIn-told first session piece rest old new count None fed same stays answered taken goes_on refused = absurd refused
 IsRefusedIn-told first session piece rest (Ok old) (Ok new) count (Some line) fed same stays answered taken goes_on refused =

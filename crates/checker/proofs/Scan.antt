@@ -12,7 +12,8 @@ use Rattle.checker.specs.Progress.{Progress, AreNamedBelow, IsFinishedCallAt, Ha
 
 -- the call at the place isn't missing
 abbrev IsNamedAt : List Event → List Line → ℕ → Type 0
-IsNamedAt events lines place = (cpu number : ℕ) (command : Command) → IsCalled events place cpu number command → IsFinished events cpu number → IsNamed lines cpu number
+IsNamedAt events lines place =
+    (cpu number : ℕ) (command : Command) → IsCalled events place cpu number command → IsFinished events cpu number → IsNamed lines cpu number
 
 AreNamedBelow-more : (events : List Event) (lines : List Line) (place : ℕ) → AreNamedBelow events lines place → IsNamedAt events lines place
     → AreNamedBelow events lines (place + 1)
@@ -28,7 +29,8 @@ pub AreNamedBelow-flagged : (history : History) (lines : List Line) (named : Lis
     → Progress history lines named latest state → AreNamedBelow history.events lines place → get_or named place false ≡ true
     → AreNamedBelow history.events lines (place + 1)
 AreNamedBelow-flagged history lines named latest state place progress below set =
-    AreNamedBelow-more history.events lines place below (λ cpu number command is_called finished. progress.flagged place cpu number command is_called set)
+    AreNamedBelow-more history.events lines place below
+    (λ cpu number command is_called finished. progress.flagged place cpu number command is_called set)
 
 -- no call that returned is made at the place
 pub AreNamedBelow-pending : (events : List Event) (lines : List Line) (place : ℕ) → AreNamedBelow events lines place

@@ -65,9 +65,12 @@ FailsAt-last history lines next step why old counted passes fails =
     }
 
 -- what was told is judged
-pub HasJudged-next : (old new : Result Begun ℕ) (count step : ℕ) (told : Option Line) (before after : Replay) (failed fails : Option Failure) (history : History)
-    (text rest : List ℕ) → Answered new (Ok (count, told)) → GoesOn old new count told rest → IfErr old (λ l. new ≡ Err l) → IfOk new (λ kept. step ≡ kept.count)
-    → ((lines : List Line) → step ≡ length (with_told lines told) → AreJudged before failed history lines → AreJudged after fails history (with_told lines told))
+pub HasJudged-next : (old new : Result Begun ℕ) (count step : ℕ) (told : Option Line)
+    (before after : Replay) (failed fails : Option Failure) (history : History)
+    (text rest : List ℕ) → Answered new (Ok (count, told)) → GoesOn old new count told rest
+    → IfErr old (λ l. new ≡ Err l) → IfOk new (λ kept. step ≡ kept.count)
+    → ((lines : List Line) → step ≡ length (with_told lines told)
+    → AreJudged before failed history lines → AreJudged after fails history (with_told lines told))
     → HasJudgedBy old before failed history text → HasJudgedBy new after fails history (text ++ take count rest)
 HasJudged-next (Ok old) (Ok new) count step told before after failed fails history text rest answered goes_on stays counted judge given =
     let read = goes_on text given.0 given.1.0 in
@@ -82,10 +85,12 @@ pub HasJudged-kept : {T : Type 0} (old new : Result Begun ℕ) (count step : ℕ
     → GoesOn old new count (Some line) rest → IfOk new (λ kept. step ≡ kept.count)
     → ((lines : List Line) → step ≡ length lines + 1 → AreJudged before failed history lines → AreJudged after fails history (lines ++ line ∷ []))
     → HasJudgedBy old before failed history text → HasJudgedBy new after fails history (text ++ take count rest)
-HasJudged-kept (Ok old) (Ok new) count step line answer told before after failed fails history text rest is_told none is_ok goes_on counted judge given =
+HasJudged-kept (Ok old) (Ok new) count step line answer told before after failed
+    fails history text rest is_told none is_ok goes_on counted judge given =
     let read = goes_on text given.0 given.1.0 in
     (given.0 ++ line ∷ [], (read, judge given.0 (counted ∙ read.counted ∙ length-append given.0 (line ∷ [])) given.1.1))
-HasJudged-kept (Ok old) (Err l) count step line answer told before after failed fails history text rest is_told none is_ok goes_on counted judge given =
+HasJudged-kept (Ok old) (Err l) count step line answer told before after failed
+    fails history text rest is_told none is_ok goes_on counted judge given =
     absurd cc
 HasJudged-kept (Err l) new count step line answer told before after failed fails history text rest is_told none is_ok goes_on counted judge given =
     absurd (let e : Some told ≡ None = sym is_told ∙ none in cc)
@@ -140,15 +145,18 @@ IsFedUpTo-none session piece going = record {
 }
 
 -- the bytes that a piece begins with, and what is left of it
-pub cut_further : (piece front rest later : List ℕ) (count : ℕ) → piece ≡ front ++ rest → later ≡ drop count rest → piece ≡ front ++ take count rest ++ later
+pub cut_further : (piece front rest later : List ℕ) (count : ℕ)
+    → piece ≡ front ++ rest → later ≡ drop count rest → piece ≡ front ++ take count rest ++ later
 cut_further piece front rest later count is_piece is_later =
     is_piece ∙ ap (λ r. front ++ r) (sym (take-append-drop count rest)) ∙ sym (append_assoc front (take count rest) (drop count rest))
     ∙ ap (λ r. front ++ take count rest ++ r) (sym is_later)
 
 -- a bad line ends the reading, and its number is the verdict
-pub bad_line_told : {T : Type 0} (certificate : Result Begun ℕ) (replay : Replay) (failed : Option Failure) (history : History) (text : List ℕ) (line : ℕ)
+pub bad_line_told : {T : Type 0} (certificate : Result Begun ℕ) (replay : Replay)
+    (failed : Option Failure) (history : History) (text : List ℕ) (line : ℕ)
     (answer : Result T CertFault) → answer ≡ Err (BadLine line)
-    → IfOk certificate (λ kept. IfErr answer (λ fault. (l : ℕ) × ((fault ≡ BadLine l) × ((t : List ℕ) (ls : List Line) → IsReadTo t ls kept → IsBadLine InCertificates t l))))
+    → IfOk certificate (λ kept. IfErr answer
+    (λ fault. (l : ℕ) × ((fault ≡ BadLine l) × ((t : List ℕ) (ls : List Line) → IsReadTo t ls kept → IsBadLine InCertificates t l))))
     → IfErr certificate (λ l. answer ≡ Err (BadLine l)) → HasJudgedBy certificate replay failed history text → IsBadLine InCertificates text line
 bad_line_told (Ok kept) replay failed history text line (Ok value) is_answer bad stays given = absurd cc
 bad_line_told (Ok kept) replay failed history text line (Err fault) is_answer bad stays given =
@@ -161,7 +169,8 @@ bad_line_told (Err l) replay failed history text line answer is_answer bad stays
     subst (λ n. IsBadLine InCertificates text n) same (subst (λ t. IsBadLine InCertificates t l) (append-nil text) (given.0 []))
 
 -- the text ends, and its lines are judged
-pub Judges-session : {T : Type 0} (certificate : Result Begun ℕ) (replay : Replay) (failed : Option Failure) (history : History) (history_bytes text : List ℕ)
+pub Judges-session : {T : Type 0} (certificate : Result Begun ℕ) (replay : Replay)
+    (failed : Option Failure) (history : History) (history_bytes text : List ℕ)
     (verdict : Verdict) (count : ℕ) (value : T) (answer : Result T CertFault) → answer ≡ Ok value
     → IfOk certificate (λ kept. (t : List ℕ) (ls : List Line) → IsReadTo t ls kept → IsCertificateText t ls)
     → IfErr certificate (λ l. answer ≡ Err (BadLine l)) → IfOk certificate (λ kept. count ≡ kept.count)

@@ -31,7 +31,8 @@ order_of : (v : Verdict) (history_bytes certificate_bytes : List ℕ) (history :
     → P judged.history judged.lines → P history lines
 order_of v history_bytes certificate_bytes history lines P is_history is_certificate judged holds =
     subst (λ (h : History). P h lines) (same_history history_bytes judged.history history judged.is_history is_history)
-    (subst (λ (ls : List Line). P judged.history ls) (same_certificate certificate_bytes judged.lines lines judged.is_certificate is_certificate) holds)
+    (subst (λ (ls : List Line). P judged.history ls)
+    (same_certificate certificate_bytes judged.lines lines judged.is_certificate is_certificate) holds)
 
 -- so that a true verdict is Yes exactly for a linearization
 pub Judges-valid : (v : Verdict) (history_bytes certificate_bytes : List ℕ) → Judges v history_bytes certificate_bytes
@@ -42,11 +43,15 @@ Judges-valid (verdict.HistoryFault line) history_bytes certificate_bytes judged 
 Judges-valid (verdict.CertificateFault line) history_bytes certificate_bytes judged history lines is_history is_certificate =
     (λ yes. absurd cc, λ valid. absurd (not-IsBadLine-certificate certificate_bytes line (lines, is_certificate) judged.1))
 Judges-valid (verdict.Yes count) history_bytes certificate_bytes judged history lines is_history is_certificate =
-    let accepts = order_of (verdict.Yes count) history_bytes certificate_bytes history lines (λ h ls. Accepts h ls count) is_history is_certificate judged judged.order in
+    let accepts = order_of (verdict.Yes count) history_bytes certificate_bytes history lines
+    (λ h ls. Accepts h ls count) is_history is_certificate judged judged.order in
     (λ yes. accepts.linearization, λ valid. ap (λ (n : ℕ). verdict.Yes n) accepts.counted)
 Judges-valid (verdict.No step why) history_bytes certificate_bytes judged history lines is_history is_certificate =
-    let fault = order_of (verdict.No step why) history_bytes certificate_bytes history lines (λ h ls. FirstFault why h ls step) is_history is_certificate judged judged.order in
-    (λ yes. absurd cc, λ valid. absurd (not-IsLinearization history (HasOnePlaces-from_history history is_history.is_history) why lines step fault valid))
+    let fault = order_of (verdict.No step why) history_bytes certificate_bytes history lines
+    (λ h ls. FirstFault why h ls step) is_history is_certificate judged judged.order in (
+      λ yes. absurd cc,
+      λ valid. absurd (not-IsLinearization history (HasOnePlaces-from_history history is_history.is_history) why lines step fault valid),
+    )
 
 -- what holds anyhow holds where there is an error
 pub OnErr-always : {T E P : Type 0} (r : Result T E) → P → OnErr r P

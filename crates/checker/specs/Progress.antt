@@ -11,7 +11,8 @@ use Rattle.rmm_spec.specs.FirstFault.{Passes}
 -- the call's place is that of a line's call
 abbrev pub IsCallOf : List Event → List Line → ℕ → Type 0
 IsCallOf events lines place =
-    (i : ℕ) × (line : Line) × (command : Command) × (slice_get lines i ≡ Some line) × IsCalled events place (cpu_named line) (number_named line) command
+    (i : ℕ) × (line : Line) × (command : Command) × (slice_get lines i ≡ Some line)
+    × IsCalled events place (cpu_named line) (number_named line) command
 
 -- The lines pass and lead to the state. A flag at each call's place says whether a line names the call, and
 -- no line's call was made later than latest, which is the place of one of them, or 0 where there is none.

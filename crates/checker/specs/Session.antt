@@ -36,7 +36,8 @@ pub record IsRefusedIn (session : Session) (piece : List ℕ) : Type 0 where
   pub replay : Replay
   pub refused : IsRefusedMemory replay session.history.recorded line
   pub behind : (text : List ℕ) → HasJudged session text
-      → (before : List Line) × ((text ++ (front ++ 10 ∷ []) ≡ certificate_text (before ++ line ∷ [])) × IsReplayOf replay session.history.recorded before)
+      → (before : List Line)
+      × ((text ++ (front ++ 10 ∷ []) ≡ certificate_text (before ++ line ∷ [])) × IsReplayOf replay session.history.recorded before)
 
 -- how many offers a session has made to its machine
 abbrev pub offers_of : Session → ℕ

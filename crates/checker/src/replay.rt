@@ -129,7 +129,8 @@ impl Replay {
         reply: ReplyRef<'_>,
     ) -> Result<bool, AllocError>
         requires { called < length self.old.named.items }
-        ensures given { IfOk result (λ given. MatchBool given (Commits self.old self.new cpu called (command_seen command.entry) (reply_seen reply.entry))
+        ensures given { IfOk result (λ given. MatchBool given
+            (Commits self.old self.new cpu called (command_seen command.entry) (reply_seen reply.entry))
             ((next : State) → ¬ Step (state_of self.old.machine) cpu (command_seen command.entry) (reply_seen reply.entry) next)) }
         ensures kept { IfOk result (λ given. given ≡ false → state_of self.new.machine ≡ state_of self.old.machine) }
         ensures refused { OnErr result (NeedsMemory self.old cpu (command_seen command.entry) (reply_seen reply.entry)) }
@@ -165,7 +166,8 @@ impl Replay {
 
 /// The places of the call that a line names.
 fn places_named(history: &History, line: &LineRef<'_>) -> Option<Places>
-    ensures some { IfSome result (λ places. ArePlacesOf history.now.recorded.events (cpu_named (line_seen line.now)) (number_named (line_seen line.now)) places) }
+    ensures some { IfSome result (λ places. ArePlacesOf history.now.recorded.events
+        (cpu_named (line_seen line.now)) (number_named (line_seen line.now)) places) }
     ensures none { IfNone result (¬ NamesCall history.now.recorded.events (line_seen line.now)) }
 {
     match line {
@@ -177,7 +179,8 @@ fn places_named(history: &History, line: &LineRef<'_>) -> Option<Places>
 /// The call that is made at a place, by its CPU and number, where one is made there and it has returned.
 fn finished_call_at(history: &History, place: usize) -> Option<(u8, u32)>
     requires within { place < length history.now.recorded.events }
-    ensures { MatchOption result (HasNoFinishedCall history.now.recorded.events place) (λ call. IsFinishedCallAt history.now.recorded.events place call.0 call.1) }
+    ensures { MatchOption result (HasNoFinishedCall history.now.recorded.events place)
+        (λ call. IsFinishedCallAt history.now.recorded.events place call.0 call.1) }
 {
     let (cpu, number) = history.called_at(place)?;
     history.has_returned(cpu, number).then_some((cpu, number))

@@ -9,7 +9,8 @@ use Rattle.rmm_spec.specs.Text.{IsBadLine}
 use Rattle.checking.specs.Taken.{HasKept, HasTaken}
 
 -- at first nothing
-pub HasKept-none : (reader : Result (List ℕ) HistoryFault) (kept : List ℕ) (bad : Option ℕ) → reader ≡ Ok [] → kept ≡ [] → bad ≡ None → HasKept reader kept bad []
+pub HasKept-none : (reader : Result (List ℕ) HistoryFault) (kept : List ℕ) (bad : Option ℕ)
+    → reader ≡ Ok [] → kept ≡ [] → bad ≡ None → HasKept reader kept bad []
 HasKept-none reader kept bad fresh empty none = record {
   taken = subst (λ (r : Result (List ℕ) HistoryFault). HasTaken r []) (sym fresh) refl;
   is_text = empty;
@@ -24,22 +25,26 @@ failed_with new (Err told) fault is fails = fails ∙ ap Err (let same : told �
 
 -- a known bad line is what is answered at the end
 known_at_end : {T : Type 0} (reader : Result (List ℕ) HistoryFault) (bad : Option ℕ) (answer : Result T HistoryFault) → IsSome bad
-    → IfSome bad (λ line. reader ≡ Err (BadLine line)) → IfErr reader (λ fault. answer ≡ Err fault) → (line : ℕ) × (reader ≡ Err (BadLine line)) × (answer ≡ Err (BadLine line))
+    → IfSome bad (λ line. reader ≡ Err (BadLine line)) → IfErr reader (λ fault. answer ≡ Err fault)
+    → (line : ℕ) × (reader ≡ Err (BadLine line)) × (answer ≡ Err (BadLine line))
 known_at_end reader None answer some known failed = absurd (false≢true some)
 known_at_end reader (Some line) answer some known failed =
     (line, known, subst (λ (r : Result (List ℕ) HistoryFault). IfErr r (λ fault. answer ≡ Err fault)) known failed)
 
 -- so a history is found only in a whole text
 pub whole_found : {T : Type 0} (whole : Bool) (reader : Result (List ℕ) HistoryFault) (bad : Option ℕ) (answer : Result T HistoryFault) (value : T)
-    → answer ≡ Ok value → (whole ≡ false → IsSome bad) → IfSome bad (λ line. reader ≡ Err (BadLine line)) → IfErr reader (λ fault. answer ≡ Err fault) → whole ≡ true
+    → answer ≡ Ok value → (whole ≡ false → IsSome bad) → IfSome bad (λ line. reader ≡ Err (BadLine line))
+    → IfErr reader (λ fault. answer ≡ Err fault) → whole ≡ true
 whole_found true reader bad answer value is sated known failed = refl
 whole_found false reader bad answer value is sated known failed =
     let ends = known_at_end reader bad answer (sated refl) known failed in
     absurd (let both : Ok value ≡ Err (BadLine ends.0) = sym is ∙ ends.2 in cc)
 
 -- and the line of another is bad whatever follows
-pub bad_for_good : {T : Type 0} (whole : Bool) (reader : Result (List ℕ) HistoryFault) (bad : Option ℕ) (answer : Result T HistoryFault) (line : ℕ) (text : List ℕ)
-    → answer ≡ Err (BadLine line) → (whole ≡ false → IsSome bad) → IfSome bad (λ told. reader ≡ Err (BadLine told)) → IfErr reader (λ fault. answer ≡ Err fault)
+pub bad_for_good : {T : Type 0} (whole : Bool) (reader : Result (List ℕ) HistoryFault)
+    (bad : Option ℕ) (answer : Result T HistoryFault) (line : ℕ) (text : List ℕ)
+    → answer ≡ Err (BadLine line) → (whole ≡ false → IsSome bad)
+    → IfSome bad (λ told. reader ≡ Err (BadLine told)) → IfErr reader (λ fault. answer ≡ Err fault)
     → HasTaken reader text → whole ≡ false → (more : List ℕ) → IsBadLine InHistories (text ++ more) line
 bad_for_good whole reader bad answer line text is sated known failed taken part more =
     let ends = known_at_end reader bad answer (sated part) known failed in

@@ -28,11 +28,13 @@ HasTaken-next (Err first) new (Err fault) piece text goes bad fails failed told 
     subst (λ r. HasTaken r (text ++ piece)) (sym fails) (
       λ is. told (ap Err is),
       λ more.
-          subst (λ t. IsFaultOf t fault) (sym (append_assoc text piece more)) (subst (λ f. IsFaultOf (text ++ (piece ++ more)) f) one (same.1 (piece ++ more))),
+          subst (λ t. IsFaultOf t fault) (sym (append_assoc text piece more))
+          (subst (λ f. IsFaultOf (text ++ (piece ++ more)) f) one (same.1 (piece ++ more))),
     )
 
 -- the text ends: it stands for the history that is answered
-pub HasTaken-found : {T : Type 0} (reader : Result (List ℕ) HistoryFault) (recorded : History) (text : List ℕ) (answer : Result T HistoryFault) (value : T)
+pub HasTaken-found : {T : Type 0} (reader : Result (List ℕ) HistoryFault)
+    (recorded : History) (text : List ℕ) (answer : Result T HistoryFault) (value : T)
     → answer ≡ Ok value → IfErr reader (λ fault. answer ≡ Err fault) → IfOk reader (λ given. IsHistoryText given recorded) → HasTaken reader text
     → IsHistoryText text recorded
 HasTaken-found (Ok given) recorded text answer value is_answer failed found same = subst (λ t. IsHistoryText t recorded) same found

@@ -39,7 +39,8 @@ passed_on answer failed is same = is ∙ ap Err (let told : failed ≡ fault.NoM
 
 -- while the history is read
 pub history_refused : {S Refused : Type 0} (gives : S → List ℕ → S → Type 0) (old new : S) (taker : Recording) → HasTaken taker.0 []
-    → Refused ⊎ RefusesPiece gives (λ recording before text. HasTaken recording.0 text) (λ recording piece. RefusesEvent recording.0 piece) old new taker
+    → Refused ⊎ RefusesPiece gives (λ recording before text. HasTaken recording.0 text)
+    (λ recording piece. RefusesEvent recording.0 piece) old new taker
     → Refused ⊎ ((text : List ℕ) × Gives gives old text new × TakesMemory text)
 history_refused gives old new taker start (inl refused) = inl refused
 history_refused gives old new taker start (inr piece) =
@@ -59,7 +60,8 @@ session_refused gives old new taker recorded begun (inr piece) = inr (λ bytes s
       piece.text ++ piece.piece,
       (
         piece.given,
-        RefusesLine-of piece.taken.0 recorded piece.text piece.piece (same_history bytes piece.taken.0.history.recorded recorded given.0 states) given.1
+        RefusesLine-of piece.taken.0 recorded piece.text piece.piece
+            (same_history bytes piece.taken.0.history.recorded recorded given.0 states) given.1
             (piece.refused given.2),
       ),
     ))
@@ -93,8 +95,10 @@ certificate_refused history certificate recorded bytes whole given states (inr (
 -- ---- judgements
 
 -- a history with a bad line is judged so whatever the certificate is
-pub bad_history_judged : (IsHistory IsCertificate : List ℕ → Type 0) (answer : Result Verdict JudgeFault) (line : ℕ) (bytes : List ℕ) → IsHistory bytes
-    → IsBadLine InHistories bytes line → IfOk answer (λ verdict. verdict ≡ of_verdict.HistoryFault line) → OnOk answer ((text : List ℕ) × IsCertificate text)
+pub bad_history_judged : (IsHistory IsCertificate : List ℕ → Type 0) (answer : Result Verdict JudgeFault)
+    (line : ℕ) (bytes : List ℕ) → IsHistory bytes
+    → IsBadLine InHistories bytes line → IfOk answer (λ verdict. verdict ≡ of_verdict.HistoryFault line)
+    → OnOk answer ((text : List ℕ) × IsCertificate text)
     → IfOk answer (λ verdict. JudgesThose verdict IsHistory IsCertificate)
 bad_history_judged IsHistory IsCertificate (Ok verdict) line bytes is_history bad told whole =
     subst (λ v. JudgesThose v IsHistory IsCertificate) (sym told) (record {
@@ -126,22 +130,23 @@ pub IsJudgement-unread : (history certificate : Reading) (sink : Writing) (faile
     → certificate.failures_after ≡ certificate.failures_before + (failures_of (failed_by failed)).certificate
     → sink.taken_after ≡ sink.taken_before → sink.held_after ≡ sink.held_before → sink.failures_after ≡ sink.failures_before
     → IsJudgement history certificate sink (Err failed)
-IsJudgement-unread history certificate sink failed order history_read certificate_read unwritten memory of_history of_certificate taken held failures = record {
-  order = order;
-  history_read = history_read;
-  certificate_read = certificate_read;
-  ends = no_verdict _ failed unwritten;
-  judged = tt;
-  written = tt;
-  held = tt;
-  torn = λ is. absurd (unwritten (let told : failed ≡ fault.Write = cc in told));
-  silent = λ _. taken;
-  untouched = λ _. held;
-  memory = λ is. inl (memory is);
-  history_failures = of_history;
-  certificate_failures = of_certificate;
-  sink_failures = omega (arith, failures, no_sink_failure failed unwritten);
-}
+IsJudgement-unread history certificate sink failed order history_read certificate_read
+    unwritten memory of_history of_certificate taken held failures = record {
+      order = order;
+      history_read = history_read;
+      certificate_read = certificate_read;
+      ends = no_verdict _ failed unwritten;
+      judged = tt;
+      written = tt;
+      held = tt;
+      torn = λ is. absurd (unwritten (let told : failed ≡ fault.Write = cc in told));
+      silent = λ _. taken;
+      untouched = λ _. held;
+      memory = λ is. inl (memory is);
+      history_failures = of_history;
+      certificate_failures = of_certificate;
+      sink_failures = omega (arith, failures, no_sink_failure failed unwritten);
+    }
 
 -- a verdict was reached, and its line is written
 pub IsJudgement-written : (history certificate : Reading) (sink : Writing) (verdict : Verdict) (answer : Result Verdict JudgeFault)
@@ -155,7 +160,8 @@ pub IsJudgement-written : (history certificate : Reading) (sink : Writing) (verd
     → (answer ≡ Err fault.NoMemory → sink.held_after ≡ sink.held_before)
     → sink.failures_after ≡ sink.failures_before + (failures_of answer).sink
     → IfErr answer (λ failed. (failed ≢ fault.ReadHistory) × (failed ≢ fault.ReadCertificate)) → IsJudgement history certificate sink answer
-IsJudgement-written history certificate sink verdict (Ok told) ended over history_read certificate_read judged of_history of_certificate same ok held torn full silent untouched failures faults =
+IsJudgement-written history certificate sink verdict (Ok told) ended over history_read certificate_read
+    judged of_history of_certificate same ok held torn full silent untouched failures faults =
     record {
       order = inl ended;
       history_read = history_read;
@@ -172,7 +178,8 @@ IsJudgement-written history certificate sink verdict (Ok told) ended over histor
       certificate_failures = of_certificate;
       sink_failures = failures;
     }
-IsJudgement-written history certificate sink verdict (Err fault.Write) ended over history_read certificate_read judged of_history of_certificate same ok held torn full silent untouched failures faults =
+IsJudgement-written history certificate sink verdict (Err fault.Write) ended over history_read
+    certificate_read judged of_history of_certificate same ok held torn full silent untouched failures faults =
     record {
       order = inl ended;
       history_read = history_read;
@@ -189,7 +196,8 @@ IsJudgement-written history certificate sink verdict (Err fault.Write) ended ove
       certificate_failures = of_certificate;
       sink_failures = failures;
     }
-IsJudgement-written history certificate sink verdict (Err fault.NoMemory) ended over history_read certificate_read judged of_history of_certificate same ok held torn full silent untouched failures faults =
+IsJudgement-written history certificate sink verdict (Err fault.NoMemory) ended over history_read
+    certificate_read judged of_history of_certificate same ok held torn full silent untouched failures faults =
     record {
       order = inl ended;
       history_read = history_read;
@@ -206,9 +214,11 @@ IsJudgement-written history certificate sink verdict (Err fault.NoMemory) ended 
       certificate_failures = of_certificate;
       sink_failures = failures;
     }
-IsJudgement-written history certificate sink verdict (Err fault.ReadHistory) ended over history_read certificate_read judged of_history of_certificate same ok held torn full silent untouched failures faults =
+IsJudgement-written history certificate sink verdict (Err fault.ReadHistory) ended over history_read
+    certificate_read judged of_history of_certificate same ok held torn full silent untouched failures faults =
     absurd (faults.0 refl)
-IsJudgement-written history certificate sink verdict (Err fault.ReadCertificate) ended over history_read certificate_read judged of_history of_certificate same ok held torn full silent untouched failures faults =
+IsJudgement-written history certificate sink verdict (Err fault.ReadCertificate) ended over history_read
+    certificate_read judged of_history of_certificate same ok held torn full silent untouched failures faults =
     absurd (faults.1 refl)
 
 -- ---- how a check ends

@@ -6,7 +6,8 @@ use Rattle.rmm_spec.specs.Text.{IsBadLine}
 use Rattle.checking.specs.declared.history_text.HistoryRead.{HistoryRead}
 
 -- The source gave the bytes. Where they are not all that it has to give, they have a line that is bad whatever follows them.
-pub record IsHistoryRead {S : Type 0} (gives : S → List ℕ → S → Type 0) (is_ended : S → Type 0) (left : Option (List ℕ)) (old new : S) (read : HistoryRead) : Type 0 where
+pub record IsHistoryRead {S : Type 0} (gives : S → List ℕ → S → Type 0) (is_ended : S → Type 0)
+    (left : Option (List ℕ)) (old new : S) (read : HistoryRead) : Type 0 where
   pub given : Gives gives old read.bytes.items new
   pub whole : read.is_whole ≡ true → IfSome left (λ all. read.bytes.items ≡ all)
   pub ended : read.is_whole ≡ true → is_ended new

@@ -1,18 +1,10 @@
 -- Two states that agree on what a command looks up that walks no table answer it alike, whichever command it is.
-use Rattle.std.proofs.Common.{◌≡◌, ℕ, Bool, Option, Some, None}
+use Rattle.command_core.proofs.Common.{◌≡◌, Bool, Call, Needed, None, Option, Some, State, class_of, has_tag, named, outside_answer, realm_at, rec_at, way_of, words_of, ℕ}
 use Rattle.std.specs.Prelude.{IfSome, slice_get}
-use Rattle.rmm_spec.specs.declared.call.Call.{Call}
 use Rattle.rmm_spec.specs.declared.call.Call.TheVariants as call
-use Rattle.rmm_spec.specs.Call.{class_of}
-use Rattle.rmm_spec.specs.State.{State}
-use Rattle.rmm_spec.specs.Lookup.{has_tag, realm_at, rec_at}
-use Rattle.rmm_spec.specs.Rows.{Needed}
 use Rattle.rmm_spec.specs.Walk.{has_link}
 use Rattle.rmm_spec.specs.Step.{answer_of, commands}
-use Rattle.rmm_spec.specs.Step.Terms.{words_of, named}
 use Rattle.rmm_spec.specs.Step.RealmCall.{answer_to_realm}
-use Rattle.command_rows.specs.Answers.{outside_answer}
-use Rattle.walk_laws.specs.Walking.{way_of}
 
 -- ---- what is looked up
 

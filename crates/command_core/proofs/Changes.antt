@@ -1,32 +1,22 @@
 -- What a change makes of what is held is what it makes of each whole that agrees: so what all of them answer is a local step.
-use Rattle.std.proofs.Common.{◌≡◌, ℕ, Bool, true, false, ◌==◌, if◌then◌else◌, List, [], ◌∷◌, Some, None, Result, Ok, Err, refl, sym, ap, ◌∙◌, subst, eqb-true, eq-eqb, Option, ◌&&◌}
-use Rattle.std.specs.Prelude.{IsTrue, Contains, is_some}
+use Rattle.command_core.proofs.Common.{◌&&◌, ◌==◌, ◌∙◌, ◌∷◌, ◌≡◌, Accepted, Bool, Change, Command, Config, Done, Err, HeldCell, Hold, Inside, IsAnswer, IsTrue, List, None, Ok, Option, Outside, Reaches, Rec, Refusal, Result, Some, Unchanged, [], and_parts, ap, call_of, eq-eqb, eqb-true, false, false≢true, flat_state, granules_held, has_tag, if◌then◌else◌, is_granule, is_held, is_some, new_cells, refl, subst, sym, table_placed, tag_number, tag_of, true, ℕ}
+use Rattle.std.specs.Prelude.{Contains}
 use Rattle.std.specs.List.{AllByRecursion}
-use Rattle.std.proofs.lemmas.Bool.{false≢true, and_parts}
 use Rattle.std.proofs.lemmas.List.Elements.{All-contains, All-from_recursion}
-use Rattle.rmm_spec.specs.HistoryText.{Config}
 use Rattle.rmm_spec.specs.declared.change.RecChange.{RecChange}
-use Rattle.rmm_spec.specs.declared.accepted.Accepted.{Accepted}
-use Rattle.rmm_spec.specs.declared.accepted.Accepted.TheVariants.{Done, Reaches}
 use Rattle.rmm_spec.specs.declared.accepted.Stretch.{Stretch}
-use Rattle.rmm_spec.specs.declared.change.Change.{Change}
-use Rattle.rmm_spec.specs.declared.change.Change.TheVariants.{Unchanged, Retagged, RealmMade, RealmDestroyed, RecMade, RecDestroyed, RecordsChanged, TableMade, TableDestroyed, EntriesChanged}
+use Rattle.rmm_spec.specs.declared.change.Change.TheVariants.{Retagged, RealmMade, RealmDestroyed, RecMade, RecDestroyed, RecordsChanged, TableMade, TableDestroyed, EntriesChanged}
 use Rattle.rmm_spec.specs.declared.change.RealmUpdate.TheVariants.{RecCounted}
 use Rattle.rmm_spec.specs.declared.change.RecUpdate.{RecUpdate}
 use Rattle.rmm_spec.specs.declared.change.RecUpdate.TheVariants as update
-use Rattle.rmm_spec.specs.declared.command.Command.{Command}
-use Rattle.rmm_spec.specs.declared.refusal.Refusal.{Refusal}
 use Rattle.rmm_spec.specs.declared.tag.Tag.{Tag}
 use Rattle.rmm_spec.specs.declared.tag.Tag.TheVariants as tag
 use Rattle.rmm_spec.specs.Applicable.{CanApply}
-use Rattle.rmm_spec.specs.Call.{call_of}
-use Rattle.rmm_spec.specs.Lookup.{has_tag, tag_number, is_granule}
 use Rattle.rmm_spec.specs.Rows.{Row, decided, ok, done, reply_of}
 use Rattle.rmm_spec.specs.Step.{Step, outcome}
-use Rattle.rmm_spec.specs.Cell.{Cell, Rec, RecAux, put, tag_of}
-use Rattle.rmm_spec.specs.Flat.{flat_state}
-use Rattle.rmm_spec.specs.Shape.{Outside, Inside, IsWellShaped, CpuPlace}
-use Rattle.rmm_spec.specs.Local.{HeldCell, Hold, granules_held, put_all}
+use Rattle.rmm_spec.specs.Cell.{Cell, RecAux, put}
+use Rattle.rmm_spec.specs.Shape.{IsWellShaped, CpuPlace}
+use Rattle.rmm_spec.specs.Local.{put_all}
 use Rattle.rmm_sound.proofs.Runs.{done_applies}
 use Rattle.world_laws.proofs.Locals.{unchanged-is_local, step-is_local}
 use Rattle.spec_lemmas.proofs.Maps.{put-other, put-same}
@@ -35,9 +25,8 @@ use Rattle.shape_laws.specs.Whole.{cells_changed, side_changed, side_without_vmi
 use Rattle.shape_laws.proofs.Accepted.{done-keeps_shape}
 use Rattle.shape_laws.proofs.Cells.{cell-rec}
 use Rattle.shape_laws.proofs.Ties.{well_shaped-is_sound}
-use Rattle.command_core.specs.Seen.{is_held, known_cell}
-use Rattle.command_core.specs.Changed.{new_cells, place_with_rec, place_with_rec_change, new_place, IsOnCpu, CanChange, CanAnswer, Answers, IsFurthest, given_of, IsAnswer}
-use Rattle.walk_laws.specs.SeenState.{table_placed}
+use Rattle.command_core.specs.Seen.{known_cell}
+use Rattle.command_core.specs.Changed.{place_with_rec, place_with_rec_change, new_place, IsOnCpu, CanChange, CanAnswer, Answers, IsFurthest, given_of}
 use Rattle.walk_laws.specs.TableCells.{is_moved, holds_page, holds_realm, holds_rec, holds_change}
 use Rattle.walk_laws.proofs.Wholes.{held-contains}
 use Rattle.walk_laws.proofs.Steps.{cells-changed as tables-changed}
@@ -45,11 +34,13 @@ use Rattle.command_core.proofs.Wholes.{Whole, state, walk_whole, same_at}
 
 -- ---- granules with two tags are two
 
-unfolded_tag : (config : Config) (cells : ℕ → Cell) (g : ℕ) (t : Tag) → IsTrue (has_tag (flat_state config cells) g t) → (tag_number (tag_of (cells g)) == tag_number t) ≡ true
+unfolded_tag : (config : Config) (cells : ℕ → Cell) (g : ℕ) (t : Tag)
+    → IsTrue (has_tag (flat_state config cells) g t) → (tag_number (tag_of (cells g)) == tag_number t) ≡ true
 unfolding has_tag flat_state
 unfolded_tag config cells g t has = (and_parts (is_granule config.granules g) (tag_number (tag_of (cells g)) == tag_number t) has).1
 
-tags_apart : (config : Config) (cells : ℕ → Cell) (g h : ℕ) (t u : Tag) → IsTrue (has_tag (flat_state config cells) g t) → IsTrue (has_tag (flat_state config cells) h u)
+tags_apart : (config : Config) (cells : ℕ → Cell) (g h : ℕ) (t u : Tag)
+    → IsTrue (has_tag (flat_state config cells) g t) → IsTrue (has_tag (flat_state config cells) h u)
     → (tag_number t == tag_number u) ≡ false → g ≡ h → ⊥
 tags_apart config cells g h t u first second apart same =
     let one = eqb-true (tag_number (tag_of (cells g))) (tag_number t) (unfolded_tag config cells g t first) in
@@ -73,7 +64,8 @@ cells-changed config cpu hold w (RecMade rd rec mpidr flags aux0 aux1) can fits 
     let whole = put (put (put w.cells rec (Rec _)) aux0 RecAux) aux1 RecAux in
     let at_rd : whole rd ≡ known_cell hold.cells rd =
     put-other (put (put w.cells rec (Rec _)) aux0 RecAux) aux1 RecAux rd c
-    ∙ (put-other (put w.cells rec (Rec _)) aux0 RecAux rd b ∙ (put-other w.cells rec (Rec _) rd a ∙ same_at config cpu hold w rd fits.held.1.1.1.0)) in
+    ∙ (put-other (put w.cells rec (Rec _)) aux0 RecAux rd b
+    ∙ (put-other w.cells rec (Rec _) rd a ∙ same_at config cpu hold w rd fits.held.1.1.1.0)) in
     ap (λ x. put whole rd (cell_with_realm (RecCounted mpidr flags) x)) at_rd
 cells-changed config cpu hold w (RecDestroyed rec aux0 aux1) can fits = refl
 cells-changed config cpu hold w (RecordsChanged None None) can fits = refl
@@ -149,14 +141,16 @@ places-changed config cpu hold w (EntriesChanged rd level entries page realm rec
         let of_rec = (and_parts (holds_page hold.cells page && holds_realm hold.cells realm) (holds_rec hold.cells (Some change)) holds).1 in
         let parts = and_parts (is_held change.rec hold.cells) (is_moved change.update) of_rec in
         let same = same_at config cpu hold w change.rec parts.0 in
-        subst (λ c. places_of_rec w.places change.rec change.update (w.cells change.rec) ≡ put w.places cpu (place_with_rec hold.place change.rec change.update c)) same
+        subst (λ c. places_of_rec w.places change.rec change.update (w.cells change.rec)
+        ≡ put w.places cpu (place_with_rec hold.place change.rec change.update c)) same
         (place-rec config cpu hold w change.rec change.update (w.cells change.rec) refl (moved-here cpu hold.place change.rec change.update parts.1))
 places-changed config cpu hold w _ fits = same_place config cpu hold w
 
 -- ---- answers
 
 -- what the rows refuse needs nothing of what is held
-pub can-done : (cpu : ℕ) (hold : Hold) (change : Change) (words : List ℕ) (rows : List Row) → CanChange cpu hold change → CanAnswer cpu hold (decided rows (done words change))
+pub can-done : (cpu : ℕ) (hold : Hold) (change : Change) (words : List ℕ) (rows : List Row)
+    → CanChange cpu hold change → CanAnswer cpu hold (decided rows (done words change))
 can-done cpu hold change words [] can = can
 can-done cpu hold change words (first ∷ rows) can = by first.holds (can-done cpu hold change words rows can)
   where
@@ -196,9 +190,12 @@ answers-local config cpu command hold (Ok (Done words change)) can each =
     let kept = done-keeps_shape config (record { cells = cells; side = hold.side; places = places }) cpu command words.items change shaped (each w) in
     let of_cells = cells-changed config cpu hold w change applies can in (
       subst (λ whole. Step s cpu command (ok words.items) (flat_state config whole)) of_cells kept.1,
-      subst (λ whole. IsWellShaped config (side_changed (known_cell hold.cells) hold.side change) (put places cpu (new_place hold.cells hold.place change)) whole) of_cells
-          (subst (λ p. IsWellShaped config (side_changed (known_cell hold.cells) hold.side change) p (cells_changed config cells change)) (places-changed config cpu hold w change can)
-          (subst (λ side. IsWellShaped config side (places_changed cells places change) (cells_changed config cells change)) (side-changed config cpu hold w change can) kept.0)),
+      subst (λ whole. IsWellShaped config (side_changed (known_cell hold.cells) hold.side change)
+          (put places cpu (new_place hold.cells hold.place change)) whole) of_cells
+          (subst (λ p. IsWellShaped config (side_changed (known_cell hold.cells) hold.side change) p (cells_changed config cells change))
+          (places-changed config cpu hold w change can)
+          (subst (λ side. IsWellShaped config side (places_changed cells places change) (cells_changed config cells change))
+          (side-changed config cpu hold w change can) kept.0)),
     ))
 answers-local config cpu command hold (Ok (Reaches stretch)) can each = absurd can
 

@@ -1,21 +1,19 @@
 -- Granules that are all different, and one more that is none of them.
-use Rattle.std.proofs.Common.{◌≡◌, ℕ, Bool, true, false, not, ◌||◌, ◌==◌, List, [], ◌∷◌, ◌++◌, refl, sym, ap, arith}
-use Rattle.std.specs.Prelude.{IsTrue}
-use Rattle.std.specs.List.{list_any}
-use Rattle.std.proofs.lemmas.Bool.{false≢true, and_parts, and_from, not-true}
-use Rattle.std.proofs.lemmas.Bool.Decides.{nat_tests}
-use Rattle.command_core.specs.Seen.{are_distinct}
+use Rattle.command_core.proofs.Common.{◌==◌, ◌∷◌, ◌≡◌, IsTrue, List, [], and_from, and_parts, ap, are_distinct, arith, false, list_any, nat_tests, not, not-true, refl, ℕ}
+use Rattle.std.proofs.Common.{◌++◌}
 use Rattle.lemmas.proofs.Tests.{either}
 
 -- none is the granule, so with one more none is
-any-push : (gs : List ℕ) (g x : ℕ) → list_any (λ other. other == x) gs ≡ false → (g == x) ≡ false → list_any (λ other. other == x) (gs ++ g ∷ []) ≡ false
+any-push : (gs : List ℕ) (g x : ℕ)
+    → list_any (λ other. other == x) gs ≡ false → (g == x) ≡ false → list_any (λ other. other == x) (gs ++ g ∷ []) ≡ false
 any-push [] g x none apart = rw apart refl
 any-push (y ∷ gs) g x none apart =
     let parts = either (y == x) (list_any (λ other. other == x) gs) none in
     rw (parts.0) (any-push gs g x parts.1 apart)
 
 -- with one more they are all different
-pub distinct-push : (gs : List ℕ) (g : ℕ) → IsTrue (are_distinct gs) → list_any (λ other. other == g) gs ≡ false → IsTrue (are_distinct (gs ++ g ∷ []))
+pub distinct-push : (gs : List ℕ) (g : ℕ)
+    → IsTrue (are_distinct gs) → list_any (λ other. other == g) gs ≡ false → IsTrue (are_distinct (gs ++ g ∷ []))
 distinct-push [] g distinct none = refl
 distinct-push (x ∷ gs) g distinct none =
     let parts = and_parts (not (list_any (λ other. other == x) gs)) (are_distinct gs) distinct in

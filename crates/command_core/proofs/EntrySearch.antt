@@ -1,28 +1,25 @@
 -- Whether a table has an entry that is looked for: by itself where it is held, and elsewhere by the held tables under it.
-use Rattle.std.proofs.Common.{◌≡◌, ℕ, zero, suc, ◌+◌, ◌-◌, ◌*◌, ◌/◌, ◌%◌, ◌<◌, Bool, true, false, ◌&&◌, ◌||◌, ◌==◌, if◌then◌else◌, List, [], ◌∷◌, length, Option, Some, None, is_some, nat_lt, nat_le, slice_get, refl, sym, ap, ◌∙◌, eq-eqb, arith}
+use Rattle.command_core.proofs.Common.{◌&&◌, ◌*◌, ◌+◌, ◌-◌, ◌<◌, ◌==◌, ◌||◌, ◌∙◌, ◌∷◌, ◌≡◌, Bool, Config, HeldCell, List, None, Option, Some, [], any_below, ap, arith, eq-eqb, false, false≢true, granules_held, if◌then◌else◌, is_some, length, list_any, nat_le, nat_tests, none-some, refl, seen_state, suc, sym, table_held, table_placed, true, zero, ℕ}
+use Rattle.std.proofs.Common.{◌/◌, ◌%◌, nat_lt, slice_get}
 use Rattle.std.specs.Prelude.{IfSome}
-use Rattle.std.specs.List.{fold, list_any}
+use Rattle.std.specs.List.{fold}
 use Rattle.std.specs.Option.{option_and_then}
-use Rattle.std.proofs.lemmas.Bool.{false≢true, or_left, or_right, false_from_ne_true, ltb-false, le-leb}
-use Rattle.std.proofs.lemmas.Bool.Decides.{nat_tests}
+use Rattle.std.proofs.lemmas.Bool.{or_left, or_right, false_from_ne_true, ltb-false, le-leb}
 use Rattle.std.proofs.lemmas.List.Folds.{fold_stays, list_any_at}
-use Rattle.std.proofs.lemmas.Option.{none-some, get_or_from_slice_get}
-use Rattle.rmm_spec.specs.HistoryText.{Config}
+use Rattle.std.proofs.lemmas.Option.{get_or_from_slice_get}
 use Rattle.rmm_spec.specs.declared.entry.Entry.{Entry}
 use Rattle.rmm_spec.specs.declared.entry.Entry.TheVariants.{Unassigned, Table}
 use Rattle.rmm_spec.specs.declared.entry.EntryTest.{EntryTest}
 use Rattle.rmm_spec.specs.declared.entry.EntryTest.TheVariants.{Live, Link, Unlike}
 use Rattle.rmm_spec.specs.declared.tag.Ripas.TheVariants.{Empty}
-use Rattle.rmm_spec.specs.Lookup.{any_below}
 use Rattle.rmm_spec.specs.Table.{TableRecord, place_number}
 use Rattle.rmm_spec.specs.TableCells.{leaf_of}
 use Rattle.rmm_spec.specs.Walk.{is_table, passes, linked_entry, entry_at, has_entry}
 use Rattle.rmm_spec.specs.Flat.{is_table_of}
-use Rattle.rmm_spec.specs.Local.{HeldCell, granules_held}
 use Rattle.rmm_sound.proofs.Cases.{spot_hit}
 use Rattle.spec_lemmas.proofs.Placed.{passing_below, any_below-from}
 use Rattle.spec_lemmas.proofs.TableSearches.{search-places}
-use Rattle.walk_laws.specs.SeenState.{found_or, table_held, table_placed, entry_in, entry_held, table_seen, leaf_seen, seen_state}
+use Rattle.walk_laws.specs.SeenState.{found_or, entry_in, entry_held, table_seen, leaf_seen}
 use Rattle.walk_laws.proofs.Found.{placed-holds, any_below-same}
 use Rattle.walk_laws.proofs.Tables.{entry-seen}
 use Rattle.command_core.specs.Standing.{StandsIn, IsHeldTable, is_under, is_above_held}
@@ -30,13 +27,15 @@ use Rattle.command_core.specs.Standing.{StandsIn, IsHeldTable, is_under, is_abov
 -- ---- where the table is held
 
 -- where a search finds nothing, each element fails the test
-none-at : {X : Type 0} (test : X → Bool) (xs : List X) (k : ℕ) (x : X) → k < length xs → slice_get xs k ≡ Some x → list_any test xs ≡ false → test x ≡ false
+none-at : {X : Type 0} (test : X → Bool) (xs : List X) (k : ℕ) (x : X)
+    → k < length xs → slice_get xs k ≡ Some x → list_any test xs ≡ false → test x ≡ false
 none-at test xs k x below at none =
     false_from_ne_true (test x)
     (λ is. false≢true (sym none ∙ list_any_at test xs k x below (ap test (get_or_from_slice_get xs k x x at) ∙ is)))
 
 -- what is held in the granule where a table is found is the table
-pub stands-found : (held : List HeldCell) (rd level number granule : ℕ) (found : Option TableRecord) → table_placed held rd level number ≡ Some granule
+pub stands-found : (held : List HeldCell) (rd level number granule : ℕ) (found : Option TableRecord)
+    → table_placed held rd level number ≡ Some granule
     → found ≡ table_held held granule → IfSome found (λ (t : TableRecord). length t.entries ≡ 512) → IsHeldTable held rd level number found
 stands-found held rd level number granule None at is whole =
     let holds = placed-holds held rd level number granule at in absurd (none-some holds.table (is ∙ holds.is_held))
@@ -62,7 +61,8 @@ module _ (config : Config) (held : List HeldCell) (rd level number : ℕ) (t : T
       let last : nat_lt level 3 ≡ false → list_any is_table t.entries ≡ false =
       λ past. ap (λ (b : Bool). b && list_any is_table t.entries) (sym (le-leb 3 level (ltb-false level 3 past))) ∙ leaves in
       search-places (passes test) t.entries (λ k. passes test (entry_at (seen_state config held) rd level (512 * number + k)))
-      (λ k e below at. ap (passes test) (sym (entry-seen config held rd level (512 * number + k) e (its_entry k (omega (arith, below, stands.is_whole)) e at)
+      (λ k e below at. ap (passes test)
+      (sym (entry-seen config held rd level (512 * number + k) e (its_entry k (omega (arith, below, stands.is_whole)) e at)
       (λ past. none-at is_table t.entries k e below at (last past)))))
       ∙ ap (λ n. any_below n (λ k. passes test (entry_at (seen_state config held) rd level (512 * number + k)))) stands.is_whole
 
@@ -85,7 +85,8 @@ found-any p q each (h ∷ gs) found = by (p h) refl (found-any p q each gs) foun
 -- one that passes is found, or an earlier one
 here-found : (p : ℕ → Bool) (h : ℕ) (gs : List ℕ) → p h ≡ true → is_some (fold (found_or p) None (h ∷ gs)) ≡ true
 here-found p h gs passes =
-    ap (λ (b : Bool). is_some (fold (found_or p) (if b then Some h else None) gs)) passes ∙ ap (λ (o : Option ℕ). is_some o) (fold_stays (found_or p) (Some h) (λ x. refl) gs)
+    ap (λ (b : Bool). is_some (fold (found_or p) (if b then Some h else None) gs)) passes
+    ∙ ap (λ (o : Option ℕ). is_some o) (fold_stays (found_or p) (Some h) (λ x. refl) gs)
 
 later-found : (p : ℕ → Bool) (h : ℕ) (gs : List ℕ) → is_some (fold (found_or p) None gs) ≡ true → is_some (fold (found_or p) None (h ∷ gs)) ≡ true
 later-found p h gs found = by (p h)
@@ -131,21 +132,24 @@ last-below : (n : ℕ) (test : ℕ → Bool) → test n ≡ true → any_below (
 last-below n test is = ap (λ (b : Bool). b || any_below n test) is
 
 -- a table is under one where its number is of that one's entries
-under-from : (rd level number k : ℕ) → k < 512 → (o : Option TableRecord) → is_table_of rd level (512 * number + k) o ≡ true → is_under rd level number o ≡ true
+under-from : (rd level number k : ℕ) → k < 512 → (o : Option TableRecord)
+    → is_table_of rd level (512 * number + k) o ≡ true → is_under rd level number o ≡ true
 under-from rd level number k within None is = is
 under-from rd level number k within (Some t) is =
     spot_hit rd level (512 * number + k) t.place.rd t.place.level (place_number t.place) is
     (λ here at first. let up : place_number t.place / 512 ≡ number = omega (arith, within, first) in
     rw (eq-eqb t.place.rd rd here, eq-eqb t.place.level level at, eq-eqb (place_number t.place / 512) number up) refl)
 
-under-at : (rd level number : ℕ) (o : Option TableRecord) → is_under rd level number o ≡ true → (k : ℕ) × (k < 512) × (is_table_of rd level (512 * number + k) o ≡ true)
+under-at : (rd level number : ℕ) (o : Option TableRecord) → is_under rd level number o ≡ true
+    → (k : ℕ) × (k < 512) × (is_table_of rd level (512 * number + k) o ≡ true)
 under-at rd level number None is = absurd (false≢true is)
 under-at rd level number (Some t) is =
     spot_hit rd level number t.place.rd t.place.level (place_number t.place / 512) is
     (λ here at up. let again : place_number t.place ≡ 512 * number + place_number t.place % 512 = omega (arith, up) in (
       place_number t.place % 512,
       omega arith,
-      rw (eq-eqb t.place.rd rd here, eq-eqb t.place.level level at, eq-eqb (place_number t.place) (512 * number + place_number t.place % 512) again) refl,
+      rw (eq-eqb t.place.rd rd here, eq-eqb t.place.level level at, eq-eqb (place_number t.place) (512 * number + place_number t.place % 512) again)
+          refl,
     ))
 
 module _ (config : Config) (held : List HeldCell) (rd level number : ℕ) (none : table_placed held rd level number ≡ None) where
@@ -173,23 +177,27 @@ module _ (config : Config) (held : List HeldCell) (rd level number : ℕ) (none 
       told (Some g) = link_passes test g
       told None = refl
 
-      by : (b : Bool) → passes test (linked_entry (if b then table_seen held rd (level + 1) n else None) (option_and_then leaf_of (entry_held held rd level n)))
+      by : (b : Bool)
+          → passes test (linked_entry (if b then table_seen held rd (level + 1) n else None) (option_and_then leaf_of (entry_held held rd level n)))
           ≡ (if b && is_some (table_placed held rd (level + 1) n) then true else passes test (Unassigned Empty))
       by true =
-          (λ i. passes test (linked_entry (seen-placed n up i) (option_and_then leaf_of (no_entry-held n up i)))) ∙ told (table_placed held rd (level + 1) n)
+          (λ i. passes test (linked_entry (seen-placed n up i) (option_and_then leaf_of (no_entry-held n up i))))
+          ∙ told (table_placed held rd (level + 1) n)
       by false = ap (λ (o : Option Entry). passes test (linked_entry None (option_and_then leaf_of o))) (no_entry-held n up)
 
   placed-under : any_below 512 (λ k. is_some (table_placed held rd (level + 1) (512 * number + k)))
       ≡ list_any (λ g. is_under rd (level + 1) number (table_held held g)) (granules_held held)
   unfolding table_placed
   placed-under =
-      found-below 512 (λ k g. is_table_of rd (level + 1) (512 * number + k) (table_held held g)) (λ g. is_under rd (level + 1) number (table_held held g))
+      found-below 512 (λ k g. is_table_of rd (level + 1) (512 * number + k) (table_held held g))
+      (λ g. is_under rd (level + 1) number (table_held held g))
       (λ k g within is. under-from rd (level + 1) number k within (table_held held g) is)
       (λ g is. under-at rd (level + 1) number (table_held held g) is)
       (granules_held held)
 
   -- some entry passes where one that has nothing does, or where a held table stands under this one
-  pub search-unheld : (test : EntryTest) → (passes test (Unassigned Empty) || is_above_held held rd level number) ≡ has_entry (seen_state config held) rd level number test
+  pub search-unheld : (test : EntryTest)
+      → (passes test (Unassigned Empty) || is_above_held held rd level number) ≡ has_entry (seen_state config held) rd level number test
   unfolding has_entry is_above_held
   search-unheld test =
       by (passes test (Unassigned Empty)) (nat_lt level 3)

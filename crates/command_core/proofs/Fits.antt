@@ -1,12 +1,11 @@
 -- A change that a whole can take is one that can be made of what is held, where its new cells are held.
-use Rattle.std.proofs.Common.{◌≡◌, ℕ, ◌+◌, ◌*◌, ◌/◌, ◌^◌, ◌<◌, ◌≤◌, true, ◌&&◌, ◌||◌, ◌==◌, List, length, Option, Some, None, inl, inr, refl, sym, ap, ◌∙◌, subst, arith, eq-eqb}
-use Rattle.std.specs.Prelude.{IsTrue, nat_le, nat_lt, ◌%◌, is_some}
-use Rattle.std.proofs.lemmas.Bool.{false≢true, and_parts, and_from, ltb-true}
-use Rattle.std.proofs.lemmas.Bool.Decides.{nat_tests}
-use Rattle.rmm_spec.specs.HistoryText.{Config, granule_limit}
+use Rattle.command_core.proofs.Common.{◌&&◌, ◌*◌, ◌+◌, ◌<◌, ◌==◌, ◌||◌, ◌∙◌, ◌≡◌, ◌≤◌, Change, Config, HeldCell, Hold, IsTrue, List, None, Option, Rd, RealmRecord, Rec, RecRecord, Some, State, Unchanged, and_from, and_parts, ap, arith, can_make, eq-eqb, false≢true, flat_state, has_tag, hold_of, inl, inr, is_granule, is_held, is_some, length, nat_le, nat_tests, new_cells, realm_at, realm_in, rec_at, refl, subst, sym, table_placed, tag_number, tag_of, true, ℕ}
+use Rattle.std.proofs.Common.{◌/◌, ◌^◌}
+use Rattle.std.specs.Prelude.{nat_lt, ◌%◌}
+use Rattle.std.proofs.lemmas.Bool.{ltb-true}
+use Rattle.rmm_spec.specs.HistoryText.{granule_limit}
 use Rattle.rmm_spec.specs.declared.version.Version.TheVariants.{Large}
-use Rattle.rmm_spec.specs.declared.change.Change.{Change}
-use Rattle.rmm_spec.specs.declared.change.Change.TheVariants.{Unchanged, Retagged, RealmMade, RealmDestroyed, RecMade, RecDestroyed, RecordsChanged, TableMade, TableDestroyed, EntriesChanged}
+use Rattle.rmm_spec.specs.declared.change.Change.TheVariants.{Retagged, RealmMade, RealmDestroyed, RecMade, RecDestroyed, RecordsChanged, TableMade, TableDestroyed, EntriesChanged}
 use Rattle.rmm_spec.specs.declared.change.RealmUpdate.{RealmUpdate}
 use Rattle.rmm_spec.specs.declared.change.RealmUpdate.TheVariants as realm_update
 use Rattle.rmm_spec.specs.declared.change.RecUpdate.{RecUpdate}
@@ -15,26 +14,21 @@ use Rattle.rmm_spec.specs.declared.change.TagChange.{TagChange}
 use Rattle.rmm_spec.specs.declared.tag.Tag.{Tag}
 use Rattle.rmm_spec.specs.declared.tag.Tag.TheVariants as tag
 use Rattle.rmm_spec.specs.Applicable.{IsRealmUpdate, CanUpdateRec, CanRetag, CanChangeRealm, CanChangeRec, GoesWith, CanChangeEntries, CanApply}
-use Rattle.rmm_spec.specs.State.{State, RealmRecord, RecRecord}
-use Rattle.rmm_spec.specs.Lookup.{tag_number, is_granule, is_hash, has_tag, realm_at, rec_at}
+use Rattle.rmm_spec.specs.Lookup.{is_hash}
 use Rattle.rmm_spec.specs.Step.Terms.{is_space}
-use Rattle.rmm_spec.specs.Cell.{Cell, Rd, Rec, tag_of}
-use Rattle.rmm_spec.specs.Flat.{flat_state}
+use Rattle.rmm_spec.specs.Cell.{Cell}
 use Rattle.rmm_spec.specs.Shape.{Side, CpuPlace}
-use Rattle.rmm_spec.specs.Local.{HeldCell, Hold}
 use Rattle.rmm_spec.specs.declared.change.EntryChange.{EntryChange}
 use Rattle.rmm_spec.specs.declared.change.EntryChange.TheVariants.{Replaced, RipasSet}
 use Rattle.rmm_spec.specs.declared.change.RealmChange.{RealmChange}
 use Rattle.rmm_spec.specs.declared.change.RecChange.{RecChange}
 use Rattle.rmm_spec.specs.Sound.{IsTableOf}
 use Rattle.rmm_spec.specs.Walk.{table_size}
-use Rattle.rmm_spec.specs.Cell.{realm_in}
 use Rattle.rmm_sound.proofs.Spaces.{space_cases}
 use Rattle.shape_laws.specs.Whole.{table_changed}
-use Rattle.walk_laws.specs.SeenState.{table_placed}
 use Rattle.walk_laws.specs.TableCells.{is_moved, holds_page, holds_realm, holds_rec, holds_change}
-use Rattle.command_core.specs.Seen.{is_held, known_cell}
-use Rattle.command_core.specs.Changed.{hold_of, new_cells, is_plain, counts_in, is_realm_update, fits_realm, is_rec_update, fits_rec, fits_realm_change, fits_rec_change, fits_cells, can_count, can_make, CanMake, CanChange, fits_page, fits_entries}
+use Rattle.command_core.specs.Seen.{known_cell}
+use Rattle.command_core.specs.Changed.{is_plain, counts_in, is_realm_update, fits_realm, is_rec_update, fits_rec, fits_realm_change, fits_rec_change, fits_cells, can_count, CanMake, CanChange, fits_page, fits_entries}
 use Rattle.command_core.proofs.Wholes.{Whole, state, same_at, few_recs, realm_at-cell, rec_at-cell}
 
 -- ---- updates
@@ -78,13 +72,15 @@ counts config cpu hold w rd mpidr has index held =
     subst (λ (c : Cell). counts_in mpidr c ≡ true) (sym realm.1 ∙ same_at config cpu hold w rd held)
     (subst (λ (r : RealmRecord). (mpidr == r.next_index && nat_lt mpidr 8) ≡ true) (realm_at-cell config w.cells rd realm.0 realm.1) index)
 
-realm-fits : (config : Config) (cpu : ℕ) (hold : Hold) (w : Whole config cpu hold) (rd : ℕ) (u : RealmUpdate) → IsTrue (has_tag (state config cpu hold w) rd tag.Rd)
+realm-fits : (config : Config) (cpu : ℕ) (hold : Hold) (w : Whole config cpu hold) (rd : ℕ) (u : RealmUpdate)
+    → IsTrue (has_tag (state config cpu hold w) rd tag.Rd)
     → IsRealmUpdate u → IsTrue (is_held rd hold.cells) → fits_realm u (known_cell hold.cells rd) ≡ true
 realm-fits config cpu hold w rd u has can held =
     let realm = realm_there (w.cells rd) (tagged config w.cells rd tag.Rd has).1 in
     subst (λ (c : Cell). fits_realm u c ≡ true) (sym realm.1 ∙ same_at config cpu hold w rd held) (realm_update-fits u can)
 
-rec-fits : (config : Config) (cpu : ℕ) (hold : Hold) (w : Whole config cpu hold) (rec : ℕ) (u : RecUpdate) → IsTrue (has_tag (state config cpu hold w) rec tag.Rec)
+rec-fits : (config : Config) (cpu : ℕ) (hold : Hold) (w : Whole config cpu hold) (rec : ℕ) (u : RecUpdate)
+    → IsTrue (has_tag (state config cpu hold w) rec tag.Rec)
     → CanUpdateRec (state config cpu hold w) (rec_at (state config cpu hold w) rec) u → IsTrue (is_held rec hold.cells)
     → fits_rec u (known_cell hold.cells rec) ≡ true
 rec-fits config cpu hold w rec u has can held =
@@ -106,7 +102,8 @@ small-base n width level within space = elim (space_cases width level space) [
   | inr large ↦ (let less : n < 2 ^ 0x30 = subst (λ x. n < 2 ^ x) large.0 within in grind (arith, nat_tests))
 ]
 
-base-fits : (config : Config) (cpu : ℕ) (hold : Hold) (w : Whole config cpu hold) (rd level number : ℕ) → IsTrue (has_tag (state config cpu hold w) rd tag.Rd)
+base-fits : (config : Config) (cpu : ℕ) (hold : Hold) (w : Whole config cpu hold) (rd level number : ℕ)
+    → IsTrue (has_tag (state config cpu hold w) rd tag.Rd)
     → IsTableOf (realm_at (state config cpu hold w) rd) level number → nat_lt (number * table_size level) (2 ^ 64) ≡ true
 base-fits config cpu hold w rd level number has place =
     let realm = realm_there (w.cells rd) (tagged config w.cells rd tag.Rd has).1 in
@@ -115,7 +112,8 @@ base-fits config cpu hold w rd level number has place =
     (subst (λ (r : RealmRecord). number * table_size level < 2 ^ r.width) same place.inside)
     (w.shaped.realms.spaces rd realm.0 (ap realm_in realm.1))
 
-page-fits : (s : State) (rd level : ℕ) (entries : EntryChange) (page : Option TagChange) → CanChangeEntries s rd level entries page → fits_page page ≡ true
+page-fits : (s : State) (rd level : ℕ) (entries : EntryChange) (page : Option TagChange)
+    → CanChangeEntries s rd level entries page → fits_page page ≡ true
 page-fits s rd level entries None can = refl
 page-fits s rd level (Replaced number entry) (Some page) can = by can.1
   where
@@ -124,29 +122,34 @@ page-fits s rd level (Replaced number entry) (Some page) can = by can.1
     by (inr taken) = ap (λ (t : Tag). is_plain t) taken.0
 page-fits s rd level (RipasSet first last ripas) (Some page) can = absurd (let none : Some page ≡ None = can.1 in cc)
 
-entries-fit : (s : State) (rd level : ℕ) (entries : EntryChange) (page : Option TagChange) → CanChangeEntries s rd level entries page → fits_entries entries ≡ true
+entries-fit : (s : State) (rd level : ℕ) (entries : EntryChange) (page : Option TagChange)
+    → CanChangeEntries s rd level entries page → fits_entries entries ≡ true
 entries-fit s rd level (Replaced number entry) page can = refl
 entries-fit s rd level (RipasSet first last ripas) page can =
     let some : first < last = can.0.some in
     let one : last ≤ (first / 512 + 1) * 512 = can.0.one_table in
     and_from (nat_lt first last) (nat_le last ((first / 512 + 1) * 512)) (grind (arith, nat_tests)) (grind (arith, nat_tests))
 
-realm_change-fits : (config : Config) (cpu : ℕ) (hold : Hold) (w : Whole config cpu hold) (change : Option RealmChange) → CanChangeRealm (state config cpu hold w) change
+realm_change-fits : (config : Config) (cpu : ℕ) (hold : Hold) (w : Whole config cpu hold) (change : Option RealmChange)
+    → CanChangeRealm (state config cpu hold w) change
     → holds_realm hold.cells change ≡ true → fits_realm_change hold.cells change ≡ true
 realm_change-fits config cpu hold w None can held = refl
 realm_change-fits config cpu hold w (Some change) can held = realm-fits config cpu hold w change.rd change.update can.0 can.1 held
 
-rec_change-fits : (config : Config) (cpu : ℕ) (hold : Hold) (w : Whole config cpu hold) (change : Option RecChange) → CanChangeRec (state config cpu hold w) change
+rec_change-fits : (config : Config) (cpu : ℕ) (hold : Hold) (w : Whole config cpu hold) (change : Option RecChange)
+    → CanChangeRec (state config cpu hold w) change
     → holds_rec hold.cells change ≡ true → fits_rec_change hold.cells change ≡ true
 rec_change-fits config cpu hold w None can held = refl
 rec_change-fits config cpu hold w (Some change) can held =
     rec-fits config cpu hold w change.rec change.update can.0 can.1 (and_parts (is_held change.rec hold.cells) (is_moved change.update) held).0
 
-parts-held : (held : List HeldCell) (rd level : ℕ) (entries : EntryChange) (page : Option TagChange) (realm : Option RealmChange) (rec : Option RecChange)
+parts-held : (held : List HeldCell) (rd level : ℕ) (entries : EntryChange)
+    (page : Option TagChange) (realm : Option RealmChange) (rec : Option RecChange)
     → holds_change held (EntriesChanged rd level entries page realm rec) ≡ true → (holds_realm held realm ≡ true) × (holds_rec held rec ≡ true)
 unfolding holds_change
 parts-held held rd level entries page realm rec holds =
-    let all = and_parts (holds_page held page && holds_realm held realm && holds_rec held rec) (is_some (table_placed held rd level (table_changed entries))) holds in
+    let all = and_parts (holds_page held page && holds_realm held realm && holds_rec held rec)
+    (is_some (table_placed held rd level (table_changed entries))) holds in
     let parts = and_parts (holds_page held page && holds_realm held realm) (holds_rec held rec) all.0 in
     ((and_parts (holds_page held page) (holds_realm held realm) parts.0).1, parts.1)
 
@@ -161,7 +164,8 @@ applied-fits config cpu hold w (RealmDestroyed rd root) can fits = refl
 applied-fits config cpu hold w (RecMade rd rec mpidr flags aux0 aux1) can fits =
     and_from (counts_in mpidr (known_cell hold.cells rd)) (is_granule config.granules rd && nat_le (hold.side.rec_counts rd) config.granules)
     (counts config cpu hold w rd mpidr can.rd_tag can.index_fits fits.held.1.1.1.0)
-    (and_from (is_granule config.granules rd) (nat_le (hold.side.rec_counts rd) config.granules) (tagged config w.cells rd tag.Rd can.rd_tag).0 (few_recs config cpu hold w rd))
+    (and_from (is_granule config.granules rd) (nat_le (hold.side.rec_counts rd) config.granules)
+    (tagged config w.cells rd tag.Rd can.rd_tag).0 (few_recs config cpu hold w rd))
 applied-fits config cpu hold w (RecDestroyed rec aux0 aux1) can fits = refl
 applied-fits config cpu hold w (RecordsChanged None None) can fits = refl
 applied-fits config cpu hold w (RecordsChanged (Some realm) None) can fits =
@@ -195,7 +199,8 @@ more-granule granules rd few is =
     let past : nat_lt rd (granule_limit Large * 4096) ≡ true = grind (arith, nat_tests) in
     and_from (rd % 4096 == 0) (nat_lt rd (granule_limit Large * 4096)) parts.0 past
 
-count-more : (granules : ℕ) (side : Side) (change : Change) → granules ≤ granule_limit Large → can_count granules side change ≡ true → can_count (granule_limit Large) side change ≡ true
+count-more : (granules : ℕ) (side : Side) (change : Change)
+    → granules ≤ granule_limit Large → can_count granules side change ≡ true → can_count (granule_limit Large) side change ≡ true
 count-more granules side (RecMade rd rec mpidr flags aux0 aux1) few is =
     let parts = and_parts (is_granule granules rd) (nat_le (side.rec_counts rd) granules) is in
     let least = parts.1 in

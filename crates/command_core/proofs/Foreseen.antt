@@ -1,35 +1,18 @@
 -- What is decided without the side table, and borne out by it, is decided with it.
-use Rattle.std.proofs.Common.{◌≡◌, ℕ, ◌≤◌, Bool, true, false, not, ◌&&◌, nat_le, is_none, if◌then◌else◌, List, [], ◌∷◌, Option, Some, None, Result, Ok, Err, refl, sym, ap, ◌∙◌, subst}
-use Rattle.std.specs.Prelude.{is_some}
-use Rattle.std.proofs.lemmas.Bool.{false≢true, and_parts}
+use Rattle.command_core.proofs.Common.{◌&&◌, ◌∙◌, ◌∷◌, ◌≡◌, ◌≤◌, Accepted, Bool, Call, Change, Command, Config, Done, Err, HeldCell, Hold, Inside, IsAnswer, List, None, Ok, Option, Outside, Reaches, Refusal, Result, Some, State, [], and_parts, ap, are_recs_counted, call_of, can_make, false, false≢true, hold_of, if◌then◌else◌, is_granule, is_none, is_settled, is_some, is_unshaped, is_vmid_listed, misshaped, nat_le, new_cells, not, outside_answer, refl, seen_state, subst, sym, true, ℕ}
 use Rattle.std.proofs.Math.Dec.{leb-zero}
-use Rattle.rmm_spec.specs.HistoryText.{Config, granule_limit}
+use Rattle.rmm_spec.specs.HistoryText.{granule_limit}
 use Rattle.rmm_spec.specs.declared.version.Version.TheVariants.{Large}
-use Rattle.rmm_spec.specs.declared.accepted.Accepted.{Accepted}
-use Rattle.rmm_spec.specs.declared.accepted.Accepted.TheVariants.{Done, Reaches}
-use Rattle.rmm_spec.specs.declared.call.Call.{Call}
 use Rattle.rmm_spec.specs.declared.call.Call.TheVariants.{RealmCreate, RealmDestroy}
-use Rattle.rmm_spec.specs.declared.change.Change.{Change}
 use Rattle.rmm_spec.specs.declared.change.Change.TheVariants.{RecMade}
-use Rattle.rmm_spec.specs.declared.command.Command.{Command}
-use Rattle.rmm_spec.specs.declared.refusal.Refusal.{Refusal}
-use Rattle.rmm_spec.specs.Call.{call_of}
-use Rattle.rmm_spec.specs.Lookup.{is_granule}
 use Rattle.rmm_spec.specs.Rows.{done}
-use Rattle.rmm_spec.specs.State.{State}
 use Rattle.rmm_spec.specs.Step.Realm.{realm_create_told, realm_destroy_told}
 use Rattle.rmm_spec.specs.Step.Ripas.{reached_change}
-use Rattle.rmm_spec.specs.Shape.{Side, CpuPlace, Outside, Inside}
-use Rattle.rmm_spec.specs.Local.{HeldCell, Hold}
-use Rattle.command_rows.specs.Answers.{outside_answer}
-use Rattle.walk_laws.specs.SeenState.{seen_state}
-use Rattle.command_core.specs.Changed.{hold_of, new_cells, fits_cells, can_count, can_make, CanMakeAnswer, IsAnswer, given_of}
-use Rattle.command_core.specs.Decided.{rows_answer, made_answer, settled_answer, misshaped}
+use Rattle.rmm_spec.specs.Shape.{Side, CpuPlace}
+use Rattle.command_core.specs.Changed.{fits_cells, can_count, CanMakeAnswer, given_of}
+use Rattle.command_core.specs.Decided.{rows_answer, made_answer, settled_answer}
 use Rattle.command_core.specs.Foreseen.{unlisted, change_of, IsDecision, lists_none, has_count, bears_out}
 use Rattle.command_core.specs.Furthest.{furthest}
-use Rattle.command_core.specs.Settled.{is_settled}
-use Rattle.command_core.specs.Sides.{is_vmid_listed, are_recs_counted}
-use Rattle.command_core.specs.Unshaped.{is_unshaped}
 use Rattle.command_core.proofs.Ready.{decision, answer-makes}
 
 -- ---- the answer
@@ -77,7 +60,8 @@ vmid-free true (Some rd) none = absurd (false≢true none)
 vmid-free false (Some rd) none = absurd (false≢true none)
 
 outside-borne_out : (s : State) (cpu : ℕ) (c : Call) (side : Side) → lists_none side c ≡ true
-    → outside_answer (is_vmid_listed side) (are_recs_counted side) s cpu c ≡ outside_answer (is_vmid_listed unlisted) (are_recs_counted unlisted) s cpu c
+    → outside_answer (is_vmid_listed side) (are_recs_counted side) s cpu c
+    ≡ outside_answer (is_vmid_listed unlisted) (are_recs_counted unlisted) s cpu c
 unfolding outside_answer
 outside-borne_out s cpu (RealmCreate rd root width level vmid algo) side none =
     ap (λ used. realm_create_told used s rd root width level vmid algo) (vmid-free (nat_le vmid 0xff) (side.vmids vmid) none)
@@ -92,7 +76,8 @@ rows-borne_out config cpu c held side (Inside rec rd) none = refl
 -- the side table counts what one that lists nothing counts
 can_count-borne_out : (granules : ℕ) (side : Side) (change : Change) → has_count granules side change ≡ true
     → can_count granules side change ≡ can_count granules unlisted change
-can_count-borne_out granules side (RecMade rd rec mpidr flags aux0 aux1) counts = ap (λ b. is_granule granules rd && b) (counts ∙ sym (leb-zero granules))
+can_count-borne_out granules side (RecMade rd rec mpidr flags aux0 aux1) counts =
+    ap (λ b. is_granule granules rd && b) (counts ∙ sym (leb-zero granules))
 can_count-borne_out granules side _ counts = refl
 
 none-counted : (granules : ℕ) (side : Side) (change : Change) → can_count granules unlisted change ≡ false → can_count granules side change ≡ false
@@ -105,7 +90,8 @@ none-counted granules side (RecMade rd rec mpidr flags aux0 aux1) none =
 none-counted granules side _ none = absurd (false≢true (sym none))
 
 -- what is picked by one test is picked by another that agrees where it is picked
-picked : (fits counts other : Bool) (made refused : Result Accepted Refusal) (P : Result Accepted Refusal → Type 0) → P (if fits && counts then made else refused)
+picked : (fits counts other : Bool) (made refused : Result Accepted Refusal) (P : Result Accepted Refusal → Type 0)
+    → P (if fits && counts then made else refused)
     → (P made → other ≡ counts) → (counts ≡ false → other ≡ false)
     → (if fits && other then made else refused) ≡ (if fits && counts then made else refused)
 picked false counts other made refused P is same none = refl
@@ -118,13 +104,15 @@ made_answer-borne_out : (config : Config) (held : List HeldCell) (side : Side) (
 unfolding can_make
 made_answer-borne_out config held side (Err refusal) counts = refl
 made_answer-borne_out config held side (Ok (Done words made)) counts =
-    picked (fits_cells held made) (can_count config.granules unlisted made) (can_count config.granules side made) (Ok (Done words made)) (Err misshaped)
+    picked (fits_cells held made) (can_count config.granules unlisted made)
+    (can_count config.granules side made) (Ok (Done words made)) (Err misshaped)
     (λ answer. has_count config.granules side (change_of answer) ≡ true) counts
     (can_count-borne_out config.granules side made) (none-counted config.granules side made)
 made_answer-borne_out config held side (Ok (Reaches stretch)) counts =
     let top = furthest (seen_state config held) stretch in
     let made = reached_change stretch top in
-    picked (fits_cells held made) (can_count config.granules unlisted made) (can_count config.granules side made) (Ok (done (top ∷ []) made)) (Err misshaped)
+    picked (fits_cells held made) (can_count config.granules unlisted made)
+    (can_count config.granules side made) (Ok (done (top ∷ []) made)) (Err misshaped)
     (λ answer. has_count config.granules side (change_of answer) ≡ true) counts
     (can_count-borne_out config.granules side made) (none-counted config.granules side made)
 
@@ -137,7 +125,8 @@ settled-borne_out config cpu c held side place told = by (is_unshaped config c p
     rows : Side → Result Accepted Refusal
     rows x = rows_answer config cpu c held (Some x) place
 
-    by : (b : Bool) → bears_out config.granules side c (change_of (if b then Err misshaped else made_answer config held unlisted (rows unlisted))) ≡ true
+    by : (b : Bool)
+        → bears_out config.granules side c (change_of (if b then Err misshaped else made_answer config held unlisted (rows unlisted))) ≡ true
         → (if b then Err misshaped else made_answer config held side (rows side))
         ≡ (if b then Err misshaped else made_answer config held unlisted (rows unlisted))
     by true borne_out = refl
@@ -146,7 +135,8 @@ settled-borne_out config cpu c held side place told = by (is_unshaped config c p
         ap (made_answer config held side) (rows-borne_out config cpu c held side place both.0)
         ∙ made_answer-borne_out config held side (rows unlisted) both.1
 
-pub foreseen-decision : (config : Config) (cpu : ℕ) (command : Command) (held : List HeldCell) (side : Side) (place : CpuPlace) (answer : Result Accepted Refusal)
+pub foreseen-decision : (config : Config) (cpu : ℕ) (command : Command)
+    (held : List HeldCell) (side : Side) (place : CpuPlace) (answer : Result Accepted Refusal)
     → config.granules ≤ granule_limit Large → is_settled config (call_of command) place held ≡ true
     → answer ≡ settled_answer config cpu (call_of command) held unlisted place
     → bears_out config.granules side (call_of command) (change_of answer) ≡ true

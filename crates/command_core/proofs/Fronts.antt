@@ -1,27 +1,15 @@
 -- A host's command that its words refuse, or a tag of what is held, is refused by what is held as by every whole that agrees.
-use Rattle.std.proofs.Common.{◌≡◌, ℕ, Bool, true, false, not, ◌&&◌, ◌||◌, ◌==◌, if◌then◌else◌, List, [], ◌∷◌, Option, Some, None, refl, sym, ap, ◌∙◌, subst, eqb-true}
-use Rattle.std.specs.Prelude.{IsTrue, Contains, is_some}
-use Rattle.std.specs.List.{list_any, list_all}
-use Rattle.std.proofs.lemmas.Bool.{false≢true, and_parts, not-true}
-use Rattle.rmm_spec.specs.HistoryText.{Config}
-use Rattle.rmm_spec.specs.declared.call.Call.{Call}
+use Rattle.command_core.proofs.Common.{◌&&◌, ◌==◌, ◌||◌, ◌∙◌, ◌∷◌, ◌≡◌, Bool, ByHost, Call, Command, Config, HeldCell, Hold, IsTrue, List, Needed, None, Option, Outside, Some, State, Undelegated, [], and_parts, ap, call_of, cell_in, class_of, eqb-true, false, false≢true, granules_held, has_tag, has_wrong, held_at, if◌then◌else◌, is_granule, is_held, is_some, list_all, list_any, named, not, not-true, outside_answer, refl, seen_state, subst, sym, tag_number, tag_of, true, words_fit, words_of, ℕ}
+use Rattle.std.specs.Prelude.{Contains}
 use Rattle.rmm_spec.specs.declared.call.Call.TheVariants as call
-use Rattle.rmm_spec.specs.declared.command.Command.{Command}
-use Rattle.rmm_spec.specs.Call.{ByHost, call_of, class_of}
-use Rattle.rmm_spec.specs.State.{State}
-use Rattle.rmm_spec.specs.Lookup.{has_tag, tag_number, is_granule}
-use Rattle.rmm_spec.specs.Rows.{Needed, input_error, all_allowed}
-use Rattle.rmm_spec.specs.Step.Terms.{words_of, named}
-use Rattle.rmm_spec.specs.Cell.{Cell, Undelegated, tag_of}
-use Rattle.rmm_spec.specs.Shape.{Outside}
-use Rattle.rmm_spec.specs.Local.{HeldCell, Hold, granules_held, LocalStep}
-use Rattle.world_laws.specs.Replaced.{held_at}
+use Rattle.rmm_spec.specs.Rows.{input_error, all_allowed}
+use Rattle.rmm_spec.specs.Cell.{Cell}
+use Rattle.rmm_spec.specs.Local.{LocalStep}
 use Rattle.spec_lemmas.proofs.Members.{Contains-head, Contains-tail, slice_get-from_Contains}
 use Rattle.world_laws.proofs.Refusals.{IsInputError, IsRefusedInFront, by_words, by_tag, decided-front, answer_of-front, words-are_local, addresses-are_local, tags-are_local}
-use Rattle.command_rows.specs.Answers.{host_answer, outside_answer}
-use Rattle.command_core.specs.Seen.{cell_in, is_held}
-use Rattle.command_core.specs.Named.{is_wrong_for, is_wrong, has_wrong, words_fit}
-use Rattle.walk_laws.specs.SeenState.{realm_behind, cell_or, seen_state}
+use Rattle.command_rows.specs.Answers.{host_answer}
+use Rattle.command_core.specs.Named.{is_wrong_for, is_wrong}
+use Rattle.walk_laws.specs.SeenState.{realm_behind, cell_or}
 use Rattle.command_core.proofs.Rising.{none_at, found-contains, right_tag}
 
 -- ---- tests on lists
@@ -62,7 +50,8 @@ pub record WrongTag (names : List Needed) (held : List HeldCell) : Type 0 where
   pub same : n.granule ≡ h.granule
   pub wrong : (tag_number (tag_of h.cell) == tag_number n.tag) ≡ false
 
-wrong_name : (names : List Needed) (held : List HeldCell) (g : ℕ) (o : Option Cell) → cell_in g held ≡ o → is_wrong o g names ≡ true → WrongTag names held
+wrong_name : (names : List Needed) (held : List HeldCell) (g : ℕ) (o : Option Cell)
+    → cell_in g held ≡ o → is_wrong o g names ≡ true → WrongTag names held
 wrong_name names held g None found is = absurd (false≢true is)
 wrong_name names held g (Some c) found is =
     let name = some-passes (λ (n : Needed). n.granule == g && not (tag_number (tag_of c) == tag_number n.tag)) names is in
@@ -114,7 +103,8 @@ tag-wrong : (config : Config) (held : List HeldCell) (n : Needed) (c : Cell) →
 unfolding has_tag seen_state
 tag-wrong config held n c found wrong = by (is_granule config.granules n.granule)
   where
-    by : (b : Bool) → (b && tag_number (tag_of (if b then cell_or (cell_in n.granule held) (realm_behind held n.granule) else Undelegated)) == tag_number n.tag) ≡ false
+    by : (b : Bool) → (b && tag_number (tag_of (if b then cell_or (cell_in n.granule held) (realm_behind held n.granule) else Undelegated))
+        == tag_number n.tag) ≡ false
     by true = ap (λ (o : Option Cell). tag_number (tag_of (cell_or o (realm_behind held n.granule))) == tag_number n.tag) found ∙ wrong
     by false = refl
 
@@ -146,14 +136,16 @@ outside-front vmids recs s cpu (call.RealmDestroy rd) host refused = decided-fro
 outside-front vmids recs s cpu c host refused = subst IsInputError (ap (λ k. host_answer k s cpu c) (sym host)) (answer_of-front s cpu c refused)
 
 -- and so it is by every whole that agrees
-pub refused-answer : (config : Config) (cpu : ℕ) (command : Command) (hold : Hold) (vmids recs : ℕ → Bool) → class_of (call_of command) ≡ ByHost → hold.place ≡ Outside
+pub refused-answer : (config : Config) (cpu : ℕ) (command : Command) (hold : Hold) (vmids recs : ℕ → Bool)
+    → class_of (call_of command) ≡ ByHost → hold.place ≡ Outside
     → (not (words_fit config (call_of command)) || has_wrong (named (call_of command)) hold.cells) ≡ true
     → IsInputError (outside_answer vmids recs (seen_state config hold.cells) cpu (call_of command))
     × LocalStep config cpu command input_error hold hold
 unfolding words_fit
 refused-answer config cpu command hold vmids recs host place is = (
   outside-front vmids recs (seen_state config hold.cells) cpu (call_of command) host (front-refused config hold.cells (call_of command) is),
-  by (all_allowed (words_of (call_of command))) (list_all (λ (n : Needed). is_granule config.granules n.granule) (named (call_of command))) refl refl is,
+  by (all_allowed (words_of (call_of command)))
+      (list_all (λ (n : Needed). is_granule config.granules n.granule) (named (call_of command))) refl refl is,
 )
   where
     by : (b d : Bool) → all_allowed (words_of (call_of command)) ≡ b

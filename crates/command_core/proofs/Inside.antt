@@ -1,38 +1,28 @@
 -- A command of a CPU inside a REC is answered from that REC and its realm, as they are held, as by every whole that agrees.
-use Rattle.std.proofs.Common.{◌≡◌, ℕ, Bool, true, false, not, ◌&&◌, ◌||◌, ◌==◌, if◌then◌else◌, List, [], ◌∷◌, Some, Err, refl, sym, ap, ◌∙◌, subst, eqb-true, None, Ok, nat_lt}
-use Rattle.std.specs.Prelude.{is_none, is_some}
-use Rattle.std.proofs.lemmas.Bool.{false≢true, and_parts, or_parts, not-false, and_from}
-use Rattle.rmm_spec.specs.HistoryText.{Config}
-use Rattle.rmm_spec.specs.declared.call.Call.{Call}
+use Rattle.command_core.proofs.Common.{◌&&◌, ◌==◌, ◌||◌, ◌∙◌, ◌∷◌, ◌≡◌, Accepted, Bool, ByHost, Call, Config, Err, HeldCell, Hold, Inside, List, Needed, None, Ok, Rd, RealmRecord, Rec, RecRecord, Some, State, Unchanged, [], and_from, and_parts, ap, cell_in, class_of, eqb-true, false, false≢true, has_tag, has_wrong, if◌then◌else◌, is_granule, is_held, is_none, is_some, named, new_cells, not, realm_at, rec_at, refl, seen_state, subst, sym, tag_of, true, words_of, ℕ}
+use Rattle.std.proofs.Common.{nat_lt}
+use Rattle.std.proofs.lemmas.Bool.{or_parts, not-false}
 use Rattle.rmm_spec.specs.declared.call.Call.TheVariants as call
-use Rattle.rmm_spec.specs.declared.change.Change.TheVariants.{Unchanged, RecordsChanged}
+use Rattle.rmm_spec.specs.declared.change.Change.TheVariants.{RecordsChanged}
 use Rattle.rmm_spec.specs.declared.change.RealmUpdate.TheVariants as realm_update
 use Rattle.rmm_spec.specs.declared.change.RecUpdate.TheVariants as rec_update
 use Rattle.rmm_spec.specs.declared.condition.Condition.TheVariants.{IpaAlign, IpaBound, OwnPending}
 use Rattle.rmm_spec.specs.declared.refusal.Refusal.TheVariants as of
 use Rattle.rmm_spec.specs.declared.tag.Tag.TheVariants as tag
-use Rattle.rmm_spec.specs.Call.{Class, ByHost, ByRealm, ByExit, class_of}
-use Rattle.rmm_spec.specs.State.{State, RecRecord, RealmRecord}
-use Rattle.rmm_spec.specs.Lookup.{is_granule, has_tag, realm_at, rec_at}
-use Rattle.rmm_spec.specs.Rows.{Needed}
+use Rattle.rmm_spec.specs.Call.{Class, ByRealm, ByExit}
 use Rattle.rmm_spec.specs.Step.{commands}
 use Rattle.rmm_spec.specs.Step.Front.{with_front}
-use Rattle.rmm_spec.specs.Step.Terms.{words_of, is_page, needed, named}
+use Rattle.rmm_spec.specs.Step.Terms.{is_page, needed}
 use Rattle.rmm_spec.specs.Step.RealmCall.{answer_to_realm, rec_exit, rec_change, realm_change, ripas_asked, ipa_state_get}
-use Rattle.rmm_spec.specs.Cell.{Cell, Rec, tag_of, Rd}
-use Rattle.rmm_spec.specs.Shape.{Inside}
-use Rattle.rmm_spec.specs.Local.{HeldCell, Hold}
+use Rattle.rmm_spec.specs.Cell.{Cell}
 use Rattle.spec_lemmas.proofs.Members.{Contains-head, Contains-tail}
 use Rattle.command_rows.specs.Answers.{IsInsideBy, class_answer, inside_answer}
 use Rattle.walk_laws.specs.Walking.{way, is_walk_held, is_refused_early}
 use Rattle.walk_laws.proofs.Seen.{realm-same, rec-same}
 use Rattle.walk_laws.proofs.Settled.{get-told}
 use Rattle.rmm_spec.specs.Walk.{half, is_protected}
-use Rattle.rmm_spec.specs.declared.accepted.Accepted.{Accepted}
-use Rattle.command_core.specs.Seen.{cell_in, is_held}
-use Rattle.walk_laws.specs.SeenState.{seen_state, table_behind}
-use Rattle.command_core.specs.Changed.{new_cells, CanAnswer}
-use Rattle.command_core.specs.Named.{has_wrong}
+use Rattle.walk_laws.specs.SeenState.{table_behind}
+use Rattle.command_core.specs.Changed.{CanAnswer}
 use Rattle.command_core.specs.Walks.{way_inside, way_to_read, spare}
 use Rattle.command_core.specs.Unshaped.{has_other_owner, is_misplaced, is_misfit_way, is_misfit}
 use Rattle.command_core.specs.Settled.{is_read_over, is_settled_inside}
@@ -63,7 +53,8 @@ fitting config rec rd held fits =
     let fourth = and_parts (is_granule config.granules rec) (is_granule config.granules rd) third.0 in
     record { of_rec = fourth.0; of_rd = fourth.1; right = second.1; owner = first.1 }
 
-pub fitting-granule : (config : Config) (rec rd : ℕ) (held : List HeldCell) → is_misplaced config rec rd held ≡ false → is_granule config.granules rec ≡ true
+pub fitting-granule : (config : Config) (rec rd : ℕ) (held : List HeldCell)
+    → is_misplaced config rec rd held ≡ false → is_granule config.granules rec ≡ true
 fitting-granule config rec rd held fits = (fitting config rec rd held fits).of_rec
 
 rec-tag : (c : Cell) → tag_of c ≡ tag.Rec → (it : RecRecord) × (c ≡ Rec it)
@@ -78,7 +69,8 @@ record FittingRec (config : Config) (rec rd : ℕ) (held : List HeldCell) : Type
   owner : it.owner ≡ rd
   tagged : has_tag (seen_state config held) rec tag.Rec ≡ true
 
-fitting-rec : (config : Config) (rec rd : ℕ) (held : List HeldCell) → is_misplaced config rec rd held ≡ false → is_held rec held ≡ true → FittingRec config rec rd held
+fitting-rec : (config : Config) (rec rd : ℕ) (held : List HeldCell)
+    → is_misplaced config rec rd held ≡ false → is_held rec held ≡ true → FittingRec config rec rd held
 fitting-rec config rec rd held fits holds =
     let parts = fitting config rec rd held fits in
     let at = named-cell (names rec rd) held parts.right (needed rec tag.Rec) (Contains-head (needed rec tag.Rec) (needed rd tag.Rd ∷ [])) holds in
@@ -122,7 +114,8 @@ or_right : (b c : Bool) → b ≡ false → (b || c) ≡ true → c ≡ true
 or_right false c fails is = is
 or_right true c fails is = absurd (false≢true (sym fails))
 
-pub fitting-place : (config : Config) (c : Call) (rec rd : ℕ) (held : List HeldCell) → is_misfit config c rec rd held ≡ false → is_misplaced config rec rd held ≡ false
+pub fitting-place : (config : Config) (c : Call) (rec rd : ℕ) (held : List HeldCell)
+    → is_misfit config c rec rd held ≡ false → is_misplaced config rec rd held ≡ false
 fitting-place config c rec rd held fits = (or_parts (is_misplaced config rec rd held) (is_misfit_way config held (way_inside c rec rd held)) fits).0
 
 -- what a realm's call holds where it is settled, and its walk is over
@@ -134,7 +127,8 @@ record ReadHeld (config : Config) (c : Call) (rec rd : ℕ) (held : List HeldCel
 read-held : (config : Config) (c : Call) (rec rd : ℕ) (held : List HeldCell) → is_misfit config c rec rd held ≡ false
     → is_settled_inside ByRealm config c rec rd held ≡ true → ReadHeld config c rec rd held
 read-held config c rec rd held fits settled =
-    let all = or_right (is_misfit config c rec rd held) (is_held rec held && is_held rd held && is_read_over config held (way_inside c rec rd held)) fits settled in
+    let all = or_right (is_misfit config c rec rd held)
+    (is_held rec held && is_held rd held && is_read_over config held (way_inside c rec rd held)) fits settled in
     let parts = and_parts (is_held rec held && is_held rd held) (is_read_over config held (way_inside c rec rd held)) all in
     let both = and_parts (is_held rec held) (is_held rd held) parts.0 in
     record { of_rec = both.0; of_rd = both.1; over = parts.1 }
@@ -152,7 +146,8 @@ settled-inside config c rec rd held ByRealm fits settled =
       subst (λ x. has_tag (seen_state config held) x tag.Rd ≡ true) (sym (ap (λ (r : RecRecord). r.owner) one.seen ∙ one.owner)) realm.tagged,
     )
 settled-inside config c rec rd held ByExit fits settled =
-    (fitting-rec config rec rd held (fitting-place config c rec rd held fits) (or_right (is_misfit config c rec rd held) (is_held rec held) fits settled)).tagged
+    (fitting-rec config rec rd held (fitting-place config c rec rd held fits)
+    (or_right (is_misfit config c rec rd held) (is_held rec held) fits settled)).tagged
 
 -- ---- realm calls
 
@@ -162,22 +157,28 @@ unfolding answer_to_realm new_cells commands
 can-call cpu hold s rec (call.MeasurementRead index) held owner =
     can-done cpu hold Unchanged _ (with_front s (call.MeasurementRead index) _) (record { held = tt; tables = tt; here = tt })
 can-call cpu hold s rec (call.MeasurementExtend index size values) held owner =
-    can-done cpu hold (realm_change (rec_at s rec).owner (realm_update.MeasurementExtended index size values)) _ (with_front s (call.MeasurementExtend index size values) _) (record { held = (owner, tt); tables = tt; here = tt })
+    can-done cpu hold (realm_change (rec_at s rec).owner (realm_update.MeasurementExtended index size values)) _
+    (with_front s (call.MeasurementExtend index size values) _) (record { held = (owner, tt); tables = tt; here = tt })
 can-call cpu hold s rec call.RealmConfig held owner =
     can-done cpu hold Unchanged _ (with_front s call.RealmConfig _) (record { held = tt; tables = tt; here = tt })
 can-call cpu hold s rec (call.IpaStateSet base top ripas) held owner =
-    can-done cpu hold (rec_change rec (rec_update.RipasRequested base top (ripas_asked ripas))) _ (with_front s (call.IpaStateSet base top ripas) _) (record { held = (held, tt); tables = tt; here = tt })
+    can-done cpu hold (rec_change rec (rec_update.RipasRequested base top (ripas_asked ripas))) _
+    (with_front s (call.IpaStateSet base top ripas) _) (record { held = (held, tt); tables = tt; here = tt })
 can-call cpu hold s rec (call.HostCall imm) held owner =
-    can-done cpu hold (rec_change rec (rec_update.HostCalled imm)) _ (with_front s (call.HostCall imm) _) (record { held = (held, tt); tables = tt; here = tt })
+    can-done cpu hold (rec_change rec (rec_update.HostCalled imm)) _
+    (with_front s (call.HostCall imm) _) (record { held = (held, tt); tables = tt; here = tt })
 can-call cpu hold s rec call.CpuOff held owner =
     can-done cpu hold (rec_change rec rec_update.TurnedOff) _ (with_front s call.CpuOff _) (record { held = (held, tt); tables = tt; here = tt })
 can-call cpu hold s rec call.SystemOff held owner =
-    can-done cpu hold (RecordsChanged (Some (record { rd = (rec_at s rec).owner; update = realm_update.TurnedOff })) (Some (record { rec = rec; update = rec_update.SystemTurnedOff }))) _ (with_front s call.SystemOff _) (record { held = (owner, (held, tt)); tables = tt; here = tt })
+    can-done cpu hold (RecordsChanged (Some (record { rd = (rec_at s rec).owner; update = realm_update.TurnedOff }))
+    (Some (record { rec = rec; update = rec_update.SystemTurnedOff }))) _
+    (with_front s call.SystemOff _) (record { held = (owner, (held, tt)); tables = tt; here = tt })
 can-call cpu hold s rec (call.IpaStateGet ipa) held owner =
     can-done cpu hold Unchanged _ (with_front s (call.IpaStateGet ipa) _) (record { held = tt; tables = tt; here = tt })
 can-call cpu hold s rec _ held owner = tt
 
-can-exit : (cpu : ℕ) (hold : Hold) (s : State) (rec rd : ℕ) → hold.place ≡ Inside rec rd → is_held rec hold.cells ≡ true → CanAnswer cpu hold (rec_exit s rec)
+can-exit : (cpu : ℕ) (hold : Hold) (s : State) (rec rd : ℕ)
+    → hold.place ≡ Inside rec rd → is_held rec hold.cells ≡ true → CanAnswer cpu hold (rec_exit s rec)
 unfolding rec_exit new_cells
 can-exit cpu hold s rec rd place held =
     can-done cpu hold (rec_change rec rec_update.Exited) _ (with_front s call.Exit _) (record { held = (held, tt); tables = tt; here = (rd, place) })
@@ -196,15 +197,18 @@ refused-get : (t : State) (rec rd ipa : ℕ) (realm : RealmRecord) → (rec_at t
 unfolding ipa_state_get words_of named
 refused-get t rec rd ipa realm owner at unprotected = rw (owner, at) (by _ (is_page ipa) (nat_lt ipa (half realm)) unprotected)
   where
-    by : (a : Accepted) (b d : Bool) → (b && d) ≡ false → is_refused_early (if b then (if d then Ok a else Err (of.Input IpaBound)) else Err (of.Input IpaAlign)) ≡ true
+    by : (a : Accepted) (b d : Bool) → (b && d) ≡ false
+        → is_refused_early (if b then (if d then Ok a else Err (of.Input IpaBound)) else Err (of.Input IpaAlign)) ≡ true
     by a true true is = absurd (false≢true (sym is))
     by a true false is = refl
     by a false d is = refl
 
-row-told : (config : Config) (cpu : ℕ) (hold : Hold) (rec rd : ℕ) (c : Call) (w : Whole config cpu hold) → is_misfit config c rec rd hold.cells ≡ false
+row-told : (config : Config) (cpu : ℕ) (hold : Hold) (rec rd : ℕ) (c : Call) (w : Whole config cpu hold)
+    → is_misfit config c rec rd hold.cells ≡ false
     → is_settled_inside ByRealm config c rec rd hold.cells ≡ true
     → rec_at (state config cpu hold w) rec ≡ rec_at (seen_state config hold.cells) rec
-    → realm_at (state config cpu hold w) (rec_at (state config cpu hold w) rec).owner ≡ realm_at (seen_state config hold.cells) (rec_at (seen_state config hold.cells) rec).owner
+    → realm_at (state config cpu hold w) (rec_at (state config cpu hold w) rec).owner
+    ≡ realm_at (seen_state config hold.cells) (rec_at (seen_state config hold.cells) rec).owner
     → is_none (rec_at (seen_state config hold.cells) rec).pending ≡ true
     → answer_to_realm (state config cpu hold w) rec c ≡ answer_to_realm (seen_state config hold.cells) rec c
 unfolding answer_to_realm way_inside asked
@@ -234,14 +238,19 @@ row-told config cpu hold rec rd (call.IpaStateGet ipa) w fits settled recs realm
     over = subst (λ o. is_read_over config hold.cells (way_to_read rd ipa o (Some (Rd realm.realm))) ≡ true) one.found
         (subst (λ o. is_read_over config hold.cells (way_to_read rd ipa (cell_in rec hold.cells) o) ≡ true) realm.found held.over)
 
-    by : (b : Bool) → is_protected realm.realm ipa ≡ b → (is_walk_held config hold.cells (way rd ipa 3) || is_refused_early (ipa_state_get t rec ipa)) ≡ true
+    by : (b : Bool) → is_protected realm.realm ipa ≡ b
+        → (is_walk_held config hold.cells (way rd ipa 3) || is_refused_early (ipa_state_get t rec ipa)) ≡ true
     by true protected =
         let idle : is_none one.it.pending ≡ true = ap (λ (r : RecRecord). is_none r.pending) (sym one.seen) ∙ ready in
         let walked : is_read_over config hold.cells (Some (way rd ipa 3)) ≡ true =
-        subst (λ b. is_read_over config hold.cells (if b then Some (way rd ipa 3) else None) ≡ true) (and_from (is_none one.it.pending) (is_protected realm.realm ipa) idle protected) over in
-        ap (λ b. b || is_refused_early (ipa_state_get t rec ipa)) (and_parts (is_walk_held config hold.cells (way rd ipa 3)) (is_none (spare config true hold.cells (way rd ipa 3))) walked).0
-    by false unprotected = or_second (is_walk_held config hold.cells (way rd ipa 3)) (is_refused_early (ipa_state_get t rec ipa)) (refused-get t rec rd ipa realm.realm owner realm.seen unprotected)
-row-told config cpu hold rec rd c w fits settled recs realms ready = answer_to_realm-same (state config cpu hold w) (seen_state config hold.cells) rec c refl recs realms
+        subst (λ b. is_read_over config hold.cells (if b then Some (way rd ipa 3) else None) ≡ true)
+        (and_from (is_none one.it.pending) (is_protected realm.realm ipa) idle protected) over in
+        ap (λ b. b || is_refused_early (ipa_state_get t rec ipa))
+        (and_parts (is_walk_held config hold.cells (way rd ipa 3)) (is_none (spare config true hold.cells (way rd ipa 3))) walked).0
+    by false unprotected = or_second (is_walk_held config hold.cells (way rd ipa 3))
+        (is_refused_early (ipa_state_get t rec ipa)) (refused-get t rec rd ipa realm.realm owner realm.seen unprotected)
+row-told config cpu hold rec rd c w fits settled recs realms ready =
+    answer_to_realm-same (state config cpu hold w) (seen_state config hold.cells) rec c refl recs realms
 
 -- ---- any command
 
@@ -251,7 +260,8 @@ pub record IsToldInside (config : Config) (cpu : ℕ) (hold : Hold) (rec : ℕ) 
   pub same : (w : Whole config cpu hold) → inside_answer (state config cpu hold w) rec c ≡ inside_answer (seen_state config hold.cells) rec c
 
 pub fitting-told : (config : Config) (cpu : ℕ) (hold : Hold) (rec rd : ℕ) (c : Call) → hold.place ≡ Inside rec rd
-    → is_misfit config c rec rd hold.cells ≡ false → is_settled_inside (class_of c) config c rec rd hold.cells ≡ true → IsToldInside config cpu hold rec c
+    → is_misfit config c rec rd hold.cells ≡ false
+    → is_settled_inside (class_of c) config c rec rd hold.cells ≡ true → IsToldInside config cpu hold rec c
 unfolding inside_answer
 fitting-told config cpu hold rec rd c place fits settled = record { can = can (class_of c) settled; same = λ w. same w (class_of c) settled }
   where
@@ -269,7 +279,8 @@ fitting-told config cpu hold rec rd c place fits settled = record { can = can (c
         let one = fitting-rec config rec rd hold.cells (fitting-place config c rec rd hold.cells fits) both.0 in
         subst (λ x. is_held x hold.cells ≡ true) (sym (ap (λ (r : RecRecord). r.owner) one.seen ∙ one.owner)) both.1
 
-    can-wait : (b : Bool) → CanAnswer cpu hold (answer_to_realm t rec c) → CanAnswer cpu hold (if b then answer_to_realm t rec c else Err (of.Misplaced OwnPending))
+    can-wait : (b : Bool) → CanAnswer cpu hold (answer_to_realm t rec c)
+        → CanAnswer cpu hold (if b then answer_to_realm t rec c else Err (of.Misplaced OwnPending))
     can-wait true later = later
     can-wait false later = tt
 
@@ -287,12 +298,15 @@ fitting-told config cpu hold rec rd c place fits settled = record { can = can (c
         let s = state config cpu hold w in
         let both = both-held is in
         let recs = rec-same (walk_whole config cpu hold w) rec both.0 in
-        let realms = ap (λ (r : RecRecord). realm_at s r.owner) recs ∙ realm-same (walk_whole config cpu hold w) (rec_at t rec).owner (owner-held both) in
+        let realms =
+        ap (λ (r : RecRecord). realm_at s r.owner) recs ∙ realm-same (walk_whole config cpu hold w) (rec_at t rec).owner (owner-held both) in
         (λ i. if is_none (recs i).pending then answer_to_realm s rec c else Err (of.Misplaced OwnPending))
         ∙ waits (is_none (rec_at t rec).pending) refl (λ ready. row-told config cpu hold rec rd c w fits is recs realms ready)
       where
-        waits : (b : Bool) → is_none (rec_at t rec).pending ≡ b → (is_none (rec_at t rec).pending ≡ true → answer_to_realm (state config cpu hold w) rec c ≡ answer_to_realm t rec c)
-            → (if b then answer_to_realm (state config cpu hold w) rec c else Err (of.Misplaced OwnPending)) ≡ (if b then answer_to_realm t rec c else Err (of.Misplaced OwnPending))
+        waits : (b : Bool) → is_none (rec_at t rec).pending ≡ b
+            → (is_none (rec_at t rec).pending ≡ true → answer_to_realm (state config cpu hold w) rec c ≡ answer_to_realm t rec c)
+            → (if b then answer_to_realm (state config cpu hold w) rec c else Err (of.Misplaced OwnPending))
+            ≡ (if b then answer_to_realm t rec c else Err (of.Misplaced OwnPending))
         waits true ready rows = rows ready
         waits false pending rows = refl
     same w ByExit is = rec_exit-same (state config cpu hold w) t rec (rec-same (walk_whole config cpu hold w) rec (rec-held is))

@@ -1,3 +1,4 @@
+pub mod Common
 pub mod SeenCells
 pub mod Searches
 pub mod Wholes

@@ -1,21 +1,13 @@
 -- What is answered can be made of what is held, or no whole agrees with that.
-use Rattle.std.proofs.Common.{◌≡◌, ℕ, [], ◌∷◌, subst, Bool, true, false, if◌then◌else◌, Result, Ok, Err, sym, ◌∙◌, refl}
-use Rattle.std.proofs.lemmas.Bool.{false≢true}
-use Rattle.rmm_spec.specs.HistoryText.{Config}
-use Rattle.rmm_spec.specs.declared.accepted.Accepted.{Accepted}
-use Rattle.rmm_spec.specs.declared.accepted.Accepted.TheVariants.{Done, Reaches}
-use Rattle.rmm_spec.specs.declared.command.Command.{Command}
-use Rattle.rmm_spec.specs.declared.refusal.Refusal.{Refusal}
-use Rattle.rmm_spec.specs.Call.{call_of}
+use Rattle.command_core.proofs.Common.{◌∙◌, ◌∷◌, ◌≡◌, Accepted, Bool, Command, Config, Done, Err, Hold, IsAnswer, Ok, Reaches, Refusal, Result, [], call_of, can_make, false, false≢true, flat_state, if◌then◌else◌, misshaped, new_cells, refl, subst, sym, true, ℕ}
 use Rattle.rmm_spec.specs.Rows.{ok, reply_of}
 use Rattle.rmm_spec.specs.Step.{CarriesOut, outcome}
-use Rattle.rmm_spec.specs.Flat.{flat_state}
-use Rattle.rmm_spec.specs.Local.{Hold, LocalStep, put_all}
+use Rattle.rmm_spec.specs.Local.{LocalStep, put_all}
 use Rattle.rmm_sound.proofs.Runs.{done_applies}
 use Rattle.shape_laws.specs.Whole.{side_changed}
 use Rattle.shape_laws.proofs.Ties.{well_shaped-is_sound}
-use Rattle.command_core.specs.Changed.{new_cells, new_place, CanAnswer, IsAnswer, can_make}
-use Rattle.command_core.specs.Decided.{made_answer, misshaped}
+use Rattle.command_core.specs.Changed.{new_place, CanAnswer}
+use Rattle.command_core.specs.Decided.{made_answer}
 use Rattle.command_core.proofs.Changes.{is_answer}
 use Rattle.command_core.proofs.Fits.{applied-fits}
 use Rattle.command_core.proofs.Wholes.{Whole, state}
@@ -37,7 +29,8 @@ refused config cpu command hold given refuses step = record {
 }
 
 -- where no whole agrees, anything is a local step
-pub no_whole : (config : Config) (cpu : ℕ) (command : Command) (hold : Hold) → (Whole config cpu hold → ⊥) → IsAnswer config cpu command hold (Err misshaped)
+pub no_whole : (config : Config) (cpu : ℕ) (command : Command) (hold : Hold)
+    → (Whole config cpu hold → ⊥) → IsAnswer config cpu command hold (Err misshaped)
 no_whole config cpu command hold none = is_answer config cpu command hold (Err misshaped) tt (λ w. absurd (none w))
 
 -- what each whole that agrees answers can be made of what is held, or there is no such whole

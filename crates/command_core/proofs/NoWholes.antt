@@ -1,32 +1,24 @@
 -- Cells that no shaped whole has: each case is refuted by the group of the shape that speaks of it.
-use Rattle.std.proofs.Common.{◌≡◌, ℕ, ◌*◌, Bool, true, false, not, ◌&&◌, ◌||◌, ◌==◌, List, [], ◌∷◌, Option, Some, None, ◌⊎◌, inl, inr, refl, sym, ap, ◌∙◌, eqb-true, eq-eqb}
-use Rattle.std.specs.Prelude.{is_none, is_some}
-use Rattle.std.proofs.lemmas.Bool.{false≢true, and_parts, and_from, false_from_ne_true, not-true}
+use Rattle.command_core.proofs.Common.{◌&&◌, ◌*◌, ◌==◌, ◌||◌, ◌∙◌, ◌∷◌, ◌≡◌, Bool, ByHost, Call, Config, HeldCell, Hold, Inside, List, Needed, None, Option, Outside, Rd, RealmRecord, Rec, RecRecord, Rtt, Some, [], and_from, and_parts, ap, cell_in, class_of, eq-eqb, eqb-true, false, false≢true, has_wrong, inl, inr, is_granule, is_held, is_none, is_settled, is_some, is_unshaped, named, not, not-true, realm_in, refl, sym, tag_number, tag_of, true, way_taken, words_fit, ℕ}
+use Rattle.std.proofs.Common.{◌⊎◌}
+use Rattle.std.proofs.lemmas.Bool.{false_from_ne_true}
 use Rattle.std.proofs.lemmas.Option.{same_Some}
-use Rattle.rmm_spec.specs.HistoryText.{Config}
-use Rattle.rmm_spec.specs.declared.call.Call.{Call}
 use Rattle.rmm_spec.specs.declared.call.Call.TheVariants.{RealmDestroy, RecDestroy, RecEnter}
 use Rattle.rmm_spec.specs.declared.tag.Tag.TheVariants as tag
-use Rattle.rmm_spec.specs.Call.{Class, ByHost, ByRealm, ByExit, class_of}
-use Rattle.rmm_spec.specs.State.{RealmRecord, RecRecord}
-use Rattle.rmm_spec.specs.Lookup.{tag_number, is_granule}
-use Rattle.rmm_spec.specs.Rows.{Needed}
+use Rattle.rmm_spec.specs.Call.{Class, ByRealm, ByExit}
 use Rattle.rmm_spec.specs.Table.{TableRecord, place_number}
 use Rattle.rmm_spec.specs.Walk.{table_size}
-use Rattle.rmm_spec.specs.Step.Terms.{needed, named}
-use Rattle.rmm_spec.specs.Cell.{Cell, Rd, Rec, RecAux, Rtt, tag_of, is_aux, table_in, realm_in, rec_in, realms_of, tables_of}
-use Rattle.rmm_spec.specs.Shape.{CpuPlace, Outside, Inside, HoldsTable}
-use Rattle.rmm_spec.specs.Local.{HeldCell, Hold}
+use Rattle.rmm_spec.specs.Step.Terms.{needed}
+use Rattle.rmm_spec.specs.Cell.{Cell, RecAux, is_aux, table_in, rec_in, realms_of, tables_of}
+use Rattle.rmm_spec.specs.Shape.{CpuPlace, HoldsTable}
 use Rattle.world_laws.proofs.Locals.{agrees-at}
 use Rattle.spec_lemmas.proofs.Members.{each_of_two}
-use Rattle.command_core.specs.Seen.{cell_in, is_held}
-use Rattle.command_core.specs.Named.{has_wrong, words_fit}
-use Rattle.command_core.specs.Settled.{is_all_held, is_read_over, is_settled_outside, is_settled_inside, is_settled}
+use Rattle.command_core.specs.Settled.{is_all_held, is_read_over, is_settled_outside, is_settled_inside}
 use Rattle.walk_laws.specs.Walking.{Way}
 use Rattle.walk_laws.specs.Misfits.{is_place, is_other_table, is_misfit_root}
 use Rattle.walk_laws.proofs.Misfits.{misfit-none}
-use Rattle.command_core.specs.Walks.{way_taken, way_inside}
-use Rattle.command_core.specs.Unshaped.{is_other_aux, is_bad_aux, are_bad_auxes, has_bad_aux, can_learn, has_bad_owner, has_other_owner, is_misplaced, is_misfit_way, has_misfit_part, is_unshaped_outside, is_unshaped}
+use Rattle.command_core.specs.Walks.{way_inside}
+use Rattle.command_core.specs.Unshaped.{is_other_aux, is_bad_aux, are_bad_auxes, has_bad_aux, can_learn, has_bad_owner, has_other_owner, is_misplaced, is_misfit_way, has_misfit_part, is_unshaped_outside}
 use Rattle.command_core.proofs.Fronts.{wrong_tag}
 use Rattle.command_core.proofs.Wholes.{Whole, whole_cell, tagged_granule, realm_cell, InsideCells, inside-cells}
 
@@ -37,7 +29,8 @@ or_cases false c is = inr is
 -- a granule that holds something is one
 no_granule : (config : Config) (cpu : ℕ) (hold : Hold) (w : Whole config cpu hold) (g : ℕ) → (tag_number (tag_of (w.cells g)) == 0) ≡ false
     → not (is_granule config.granules g) ≡ true → ⊥
-no_granule config cpu hold w g tagged none = false≢true (sym (not-true (is_granule config.granules g) none) ∙ tagged_granule config cpu hold w g tagged)
+no_granule config cpu hold w g tagged none =
+    false≢true (sym (not-true (is_granule config.granules g) none) ∙ tagged_granule config cpu hold w g tagged)
 
 -- ---- a realm's root
 
@@ -49,7 +42,8 @@ table_tag _ is = absurd (false≢true is)
 root-placed : (config : Config) (cpu : ℕ) (hold : Hold) (w : Whole config cpu hold) (rd : ℕ) (realm : RealmRecord) (t : TableRecord)
     → realms_of w.cells rd ≡ Some realm → tables_of w.cells realm.root ≡ Some t → is_place rd realm.start_level 0 realm.width t.place ≡ true
 root-placed config cpu hold w rd realm t is_realm is_table =
-    and_from (t.place.rd == rd && t.place.level == realm.start_level && t.place.base == 0 * table_size realm.start_level) (t.place.width == realm.width)
+    and_from (t.place.rd == rd && t.place.level == realm.start_level
+    && t.place.base == 0 * table_size realm.start_level) (t.place.width == realm.width)
     (and_from (t.place.rd == rd && t.place.level == realm.start_level) (t.place.base == 0 * table_size realm.start_level)
     (and_from (t.place.rd == rd) (t.place.level == realm.start_level) (eq-eqb t.place.rd rd of_rd) (eq-eqb t.place.level realm.start_level of_level))
     (eq-eqb t.place.base (0 * table_size realm.start_level) base)) (eq-eqb t.place.width realm.width width)
@@ -81,7 +75,8 @@ root-placed config cpu hold w rd realm t is_realm is_table =
 root-none : (config : Config) (cpu : ℕ) (hold : Hold) (w : Whole config cpu hold) (rd : ℕ) (o : Option Cell) → cell_in rd hold.cells ≡ o
     → is_misfit_root config hold.cells rd o ≡ true → ⊥
 root-none config cpu hold w rd (Some (Rd realm)) found bad =
-    by (or_cases (not (is_granule config.granules realm.root)) (is_other_table rd realm.start_level 0 realm.width (cell_in realm.root hold.cells)) bad)
+    by (or_cases (not (is_granule config.granules realm.root))
+    (is_other_table rd realm.start_level 0 realm.width (cell_in realm.root hold.cells)) bad)
   where
     is_realm : realms_of w.cells rd ≡ Some realm
     is_realm = ap realm_in (whole_cell config cpu hold w rd (Rd realm) found)
@@ -99,7 +94,8 @@ root-none config cpu hold w rd (Some (Rd realm)) found bad =
         ∙ root-placed config cpu hold w rd realm t is_realm (ap table_in (whole_cell config cpu hold w realm.root (Rtt t) root)))
     other (Some c) root is = false≢true (no_table c root)
 
-    by : (not (is_granule config.granules realm.root) ≡ true) ⊎ (is_other_table rd realm.start_level 0 realm.width (cell_in realm.root hold.cells) ≡ true) → ⊥
+    by : (not (is_granule config.granules realm.root) ≡ true)
+        ⊎ (is_other_table rd realm.start_level 0 realm.width (cell_in realm.root hold.cells) ≡ true) → ⊥
     by (inl none) = no_granule config cpu hold w realm.root (table_tag (w.cells realm.root) there) none
     by (inr is) = other (cell_in realm.root hold.cells) refl is
 root-none config cpu hold w rd _ found bad = false≢true bad
@@ -110,7 +106,8 @@ aux_tag : (c : Cell) → is_aux c ≡ true → (tag_number (tag_of c) == 0) ≡ 
 aux_tag RecAux is = refl
 aux_tag _ is = absurd (false≢true is)
 
-bad_aux-none : (config : Config) (cpu : ℕ) (hold : Hold) (w : Whole config cpu hold) (aux : ℕ) → is_aux (w.cells aux) ≡ true → is_bad_aux config aux hold.cells ≡ true → ⊥
+bad_aux-none : (config : Config) (cpu : ℕ) (hold : Hold) (w : Whole config cpu hold) (aux : ℕ)
+    → is_aux (w.cells aux) ≡ true → is_bad_aux config aux hold.cells ≡ true → ⊥
 bad_aux-none config cpu hold w aux is_one bad = by (or_cases (not (is_granule config.granules aux)) (is_other_aux (cell_in aux hold.cells)) bad)
   where
     other : (p : Option Cell) → cell_in aux hold.cells ≡ p → is_other_aux p ≡ true → ⊥
@@ -178,7 +175,8 @@ misplaced-none : (config : Config) (cpu : ℕ) (hold : Hold) (w : Whole config c
     → is_misplaced config rec rd hold.cells ≡ true → ⊥
 unfolding is_misplaced
 misplaced-none config cpu hold w rec rd place misfit =
-    by (or_cases (not locks || has_wrong (needed rec tag.Rec ∷ needed rd tag.Rd ∷ []) hold.cells) (has_other_owner rd (cell_in rec hold.cells)) misfit)
+    by (or_cases (not locks || has_wrong (needed rec tag.Rec ∷ needed rd tag.Rd ∷ []) hold.cells)
+    (has_other_owner rd (cell_in rec hold.cells)) misfit)
   where
     locks : Bool
     locks = is_granule config.granules rec && is_granule config.granules rd && not (rec == rd)
@@ -187,7 +185,8 @@ misplaced-none config cpu hold w rec rd place misfit =
     here = inside-cells config cpu hold w rec rd place
 
     apart : (rec == rd) ≡ false
-    apart = false_from_ne_true (rec == rd) (λ same. cells_apart (w.cells rec) (w.cells rd) here.it here.realm here.is_rec here.is_realm (ap w.cells (eqb-true rec rd same)))
+    apart = false_from_ne_true (rec == rd)
+        (λ same. cells_apart (w.cells rec) (w.cells rd) here.it here.realm here.is_rec here.is_realm (ap w.cells (eqb-true rec rd same)))
 
     fits : locks ≡ true
     fits = and_from (is_granule config.granules rec && is_granule config.granules rd) (not (rec == rd))
@@ -206,7 +205,8 @@ misplaced-none config cpu hold w rec rd place misfit =
         false≢true (sym (not-true (it.owner == rd) is) ∙ eq-eqb it.owner rd (ap (λ (r : RecRecord). r.owner) (sym same) ∙ here.is_owner))
     other _ found is = false≢true is
 
-    by : ((not locks || has_wrong (needed rec tag.Rec ∷ needed rd tag.Rd ∷ []) hold.cells) ≡ true) ⊎ (has_other_owner rd (cell_in rec hold.cells) ≡ true) → ⊥
+    by : ((not locks || has_wrong (needed rec tag.Rec ∷ needed rd tag.Rd ∷ []) hold.cells) ≡ true)
+        ⊎ (has_other_owner rd (cell_in rec hold.cells) ≡ true) → ⊥
     by (inl is) = first (or_cases (not locks) (has_wrong (needed rec tag.Rec ∷ needed rd tag.Rd ∷ []) hold.cells) is)
     by (inr is) = other (cell_in rec hold.cells) refl is
 
@@ -224,7 +224,8 @@ way-none config cpu hold w None bad = false≢true bad
 way-none config cpu hold w (Some way) bad =
     misfit-none (record { cells = w.cells; places = w.places; shaped = w.shaped; agrees = w.agrees }) way.rd way.ipa bad
 
-pub unshaped-none : (config : Config) (cpu : ℕ) (hold : Hold) (c : Call) → is_unshaped config c hold.place hold.cells ≡ true → Whole config cpu hold → ⊥
+pub unshaped-none : (config : Config) (cpu : ℕ) (hold : Hold) (c : Call)
+    → is_unshaped config c hold.place hold.cells ≡ true → Whole config cpu hold → ⊥
 unfolding is_unshaped
 unshaped-none config cpu hold c bad w = by hold.place refl bad
   where
@@ -254,7 +255,8 @@ unfolding is_unshaped is_settled
 unshaped-settled config c Outside held unshaped = by (class_of c)
   where
     by : (k : Class) → is_settled_outside k config c held ≡ true
-    by ByHost = or_middle (not (words_fit config c) || has_wrong (named c) held) (is_unshaped_outside config c held) (is_all_held config c held (way_taken c)) unshaped
+    by ByHost = or_middle (not (words_fit config c) || has_wrong (named c) held)
+        (is_unshaped_outside config c held) (is_all_held config c held (way_taken c)) unshaped
     by _ = refl
 unshaped-settled config c (Inside rec rd) held unshaped = by (class_of c)
   where

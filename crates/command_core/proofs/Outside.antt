@@ -1,40 +1,23 @@
 -- A host's command of which all is held that its rows look up is answered from what is held as by every whole that agrees.
-use Rattle.std.proofs.Common.{◌≡◌, ℕ, true, false, ◌&&◌, ◌||◌, List, [], ◌∷◌, Option, Some, None, Result, Err, zero, suc, refl, sym, ap, ◌∙◌, subst}
-use Rattle.std.specs.Prelude.{is_some, is_none, IfSome, slice_get}
-use Rattle.std.specs.List.{list_all}
-use Rattle.std.proofs.lemmas.Bool.{false≢true, and_parts}
-use Rattle.rmm_spec.specs.HistoryText.{Config}
-use Rattle.rmm_spec.specs.declared.accepted.Accepted.{Accepted}
-use Rattle.rmm_spec.specs.declared.call.Call.{Call}
+use Rattle.command_core.proofs.Common.{◌&&◌, ◌||◌, ◌∙◌, ◌∷◌, ◌≡◌, Accepted, ByHost, Call, Config, Err, HeldCell, Hold, List, Needed, None, Option, Rd, RealmRecord, Rec, RecRecord, Refusal, Result, Some, State, [], and_parts, ap, are_recs_counted, cell_in, class_of, false, false≢true, flat_state, has_tag, is_granule, is_held, is_none, is_some, is_vmid_listed, list_all, named, new_cells, outside_answer, realm_at, realm_in, rec_at, refl, seen_state, subst, suc, sym, true, way_of, words_fit, words_of, zero, ℕ}
+use Rattle.std.specs.Prelude.{IfSome, slice_get}
 use Rattle.rmm_spec.specs.declared.call.Call.TheVariants as call
 use Rattle.rmm_spec.specs.declared.change.Change.TheVariants.{RealmDestroyed, RecDestroyed}
 use Rattle.rmm_spec.specs.declared.change.RecUpdate.TheVariants.{Entered}
 use Rattle.rmm_spec.specs.declared.entry.EntryTest.TheVariants.{Link}
 use Rattle.rmm_spec.specs.declared.condition.Condition.TheVariants.{RecState}
-use Rattle.rmm_spec.specs.declared.refusal.Refusal.{Refusal}
 use Rattle.rmm_spec.specs.declared.refusal.Refusal.TheVariants as of
 use Rattle.rmm_spec.specs.declared.tag.Tag.TheVariants as tag
-use Rattle.rmm_spec.specs.Call.{ByHost, class_of}
-use Rattle.rmm_spec.specs.Flat.{flat_state}
-use Rattle.rmm_spec.specs.State.{State, RealmRecord, RecRecord}
-use Rattle.rmm_spec.specs.Lookup.{is_granule, has_tag, realm_at, rec_at, is_vmid_used, has_rec}
-use Rattle.rmm_spec.specs.Rows.{Needed}
+use Rattle.rmm_spec.specs.Lookup.{is_vmid_used, has_rec}
 use Rattle.rmm_spec.specs.Walk.{has_link}
 use Rattle.rmm_spec.specs.Step.{answer_of, commands}
 use Rattle.rmm_spec.specs.Step.Front.{with_front}
-use Rattle.rmm_spec.specs.Step.Terms.{words_of, named}
 use Rattle.rmm_spec.specs.Step.Rec.{rec_destroy, rec_enter}
 use Rattle.rmm_spec.specs.Step.RealmCall.{rec_change}
-use Rattle.rmm_spec.specs.Cell.{Cell, Rd, Rec, realm_in}
-use Rattle.rmm_spec.specs.Local.{HeldCell, Hold}
-use Rattle.command_rows.specs.Answers.{outside_answer}
-use Rattle.command_core.specs.Seen.{cell_in, is_held}
-use Rattle.walk_laws.specs.SeenState.{seen_state}
-use Rattle.command_core.specs.Sides.{is_vmid_listed, are_recs_counted}
-use Rattle.walk_laws.specs.Walking.{way_of}
+use Rattle.rmm_spec.specs.Cell.{Cell}
 use Rattle.walk_laws.proofs.Seen.{tag-same, realm-same, rec-same, held-placed, has_entry-same}
-use Rattle.command_core.specs.Changed.{new_cells, CanAnswer}
-use Rattle.command_core.specs.Named.{words_fit, holds_all}
+use Rattle.command_core.specs.Changed.{CanAnswer}
+use Rattle.command_core.specs.Named.{holds_all}
 use Rattle.command_core.specs.Settled.{is_root_held, are_auxes_held, is_realm_in, is_owner_held, is_complete}
 use Rattle.command_core.proofs.Agreeing.{entered, rooted, SameOwner, SameRoot, SameLookUps, outside_answer-same}
 use Rattle.command_core.proofs.Changes.{can-done}
@@ -47,7 +30,8 @@ told_outside config cpu hold c = outside_answer (is_vmid_listed hold.side) (are_
 -- its change is one of what is held, and each whole that agrees answers the same
 pub record IsToldOutside (config : Config) (cpu : ℕ) (hold : Hold) (c : Call) : Type 0 where
   pub can : CanAnswer cpu hold (told_outside config cpu hold c)
-  pub same : (w : Whole config cpu hold) → outside_answer (is_vmid_used (state config cpu hold w)) (has_rec (state config cpu hold w)) (state config cpu hold w) cpu c
+  pub same : (w : Whole config cpu hold)
+      → outside_answer (is_vmid_used (state config cpu hold w)) (has_rec (state config cpu hold w)) (state config cpu hold w) cpu c
       ≡ told_outside config cpu hold c
 
 held_by : (held : List HeldCell) (g : ℕ) (c : Cell) → cell_in g held ≡ Some c → is_held g held ≡ true
@@ -83,9 +67,12 @@ agreeing config cpu hold w c all owner root =
     let s : State = state config cpu hold w in
     let t : State = seen_state config hold.cells in record {
       version = same_version config cpu hold w;
-      tags = each-named hold.cells (λ n. has_tag s n.granule n.tag ≡ has_tag t n.granule n.tag) (λ n. tag-same (walk_whole config cpu hold w) n.granule n.tag) (named c) all;
-      realms = each-named hold.cells (λ n. realm_at s n.granule ≡ realm_at t n.granule) (λ n. realm-same (walk_whole config cpu hold w) n.granule) (named c) all;
-      recs = each-named hold.cells (λ n. rec_at s n.granule ≡ rec_at t n.granule) (λ n. rec-same (walk_whole config cpu hold w) n.granule) (named c) all;
+      tags = each-named hold.cells (λ n. has_tag s n.granule n.tag ≡ has_tag t n.granule n.tag)
+          (λ n. tag-same (walk_whole config cpu hold w) n.granule n.tag) (named c) all;
+      realms = each-named hold.cells (λ n. realm_at s n.granule ≡ realm_at t n.granule)
+          (λ n. realm-same (walk_whole config cpu hold w) n.granule) (named c) all;
+      recs = each-named hold.cells (λ n. rec_at s n.granule ≡ rec_at t n.granule)
+          (λ n. rec-same (walk_whole config cpu hold w) n.granule) (named c) all;
       owner = owner;
       root = root;
     }
@@ -93,14 +80,18 @@ agreeing config cpu hold w c all owner root =
 -- what they agree on they answer alike
 told-same : (config : Config) (cpu : ℕ) (hold : Hold) (w : Whole config cpu hold) (c : Call) → way_of c ≡ None
     → SameLookUps (state config cpu hold w) (seen_state config hold.cells) c
-    → outside_answer (is_vmid_used (state config cpu hold w)) (has_rec (state config cpu hold w)) (state config cpu hold w) cpu c ≡ told_outside config cpu hold c
+    → outside_answer (is_vmid_used (state config cpu hold w)) (has_rec (state config cpu hold w))
+    (state config cpu hold w) cpu c ≡ told_outside config cpu hold c
 told-same config cpu hold w c walks same =
-    (λ i. outside_answer (λ vmid. is_vmid_used-listed config cpu hold w vmid i) (λ rd. has_rec-counted config cpu hold w rd i) (state config cpu hold w) cpu c)
-    ∙ outside_answer-same (is_vmid_listed hold.side) (are_recs_counted hold.side) (state config cpu hold w) (seen_state config hold.cells) cpu c walks same
+    (λ i. outside_answer (λ vmid. is_vmid_used-listed config cpu hold w vmid i)
+    (λ rd. has_rec-counted config cpu hold w rd i) (state config cpu hold w) cpu c)
+    ∙ outside_answer-same (is_vmid_listed hold.side) (are_recs_counted hold.side)
+    (state config cpu hold w) (seen_state config hold.cells) cpu c walks same
 
 -- ---- a named granule is one
 
-only-granule : (granules : ℕ) (n : Needed) → list_all (λ (m : Needed). is_granule granules m.granule) (n ∷ []) ≡ true → is_granule granules n.granule ≡ true
+only-granule : (granules : ℕ) (n : Needed)
+    → list_all (λ (m : Needed). is_granule granules m.granule) (n ∷ []) ≡ true → is_granule granules n.granule ≡ true
 only-granule granules n all = (and_parts (is_granule granules n.granule) true all).0
 
 realm_destroy-granule : (config : Config) (rd : ℕ) → words_fit config (call.RealmDestroy rd) ≡ true → is_granule config.granules rd ≡ true
@@ -118,19 +109,23 @@ rec_enter-granule config rec fits = only-granule config.granules (record { granu
 -- ---- a realm and its root
 
 -- whether a realm's root that is held links to a table is told as the whole has it
-root-linked : (config : Config) (cpu : ℕ) (hold : Hold) (w : Whole config cpu hold) (rd : ℕ) (realm : RealmRecord) → cell_in rd hold.cells ≡ Some (Rd realm)
-    → is_held realm.root hold.cells ≡ true → has_link (state config cpu hold w) rd realm.start_level 0 ≡ has_link (seen_state config hold.cells) rd realm.start_level 0
+root-linked : (config : Config) (cpu : ℕ) (hold : Hold) (w : Whole config cpu hold) (rd : ℕ) (realm : RealmRecord)
+    → cell_in rd hold.cells ≡ Some (Rd realm)
+    → is_held realm.root hold.cells ≡ true
+    → has_link (state config cpu hold w) rd realm.start_level 0 ≡ has_link (seen_state config hold.cells) rd realm.start_level 0
 root-linked config cpu hold w rd realm found held =
     let whole = walk_whole config cpu hold w in
     let root = w.shaped.tables.roots rd realm (ap realm_in (whole_cell config cpu hold w rd (Rd realm) found)) in
     let placed = held-placed whole realm.root rd realm.start_level 0 held root in
     has_entry-same whole placed.0 rd realm.start_level 0 Link placed.1
 
-realm_destroy-told : (config : Config) (cpu : ℕ) (hold : Hold) (rd : ℕ) → is_granule config.granules rd ≡ true → (o : Option Cell) → cell_in rd hold.cells ≡ o
+realm_destroy-told : (config : Config) (cpu : ℕ) (hold : Hold) (rd : ℕ)
+    → is_granule config.granules rd ≡ true → (o : Option Cell) → cell_in rd hold.cells ≡ o
     → is_root_held o hold.cells ≡ true → IsToldOutside config cpu hold (call.RealmDestroy rd)
 unfolding outside_answer new_cells way_of named holds_all entered rooted
 realm_destroy-told config cpu hold rd granule (Some (Rd realm)) found root = record {
-  can = can-done cpu hold (RealmDestroyed rd (realm_at (seen_state config hold.cells) rd).root) _ (with_front (seen_state config hold.cells) (call.RealmDestroy rd) _)
+  can = can-done cpu hold (RealmDestroyed rd (realm_at (seen_state config hold.cells) rd).root) _
+      (with_front (seen_state config hold.cells) (call.RealmDestroy rd) _)
       (record { held = (held, (subst (λ (r : RealmRecord). is_held r.root hold.cells ≡ true) (sym seen) root, tt)); tables = tt; here = tt });
   same = λ w.
       let s = state config cpu hold w in
@@ -151,7 +146,8 @@ realm_destroy-told config cpu hold rd granule _ found root = absurd (false≢tru
 
 -- ---- a REC, its two others and its realm
 
-rec_destroy-running : (s : State) (rec : ℕ) → has_tag s rec tag.Rec ≡ true → is_none (rec_at s rec).cpu ≡ false → rec_destroy s rec ≡ Err (of.Rec RecState)
+rec_destroy-running : (s : State) (rec : ℕ)
+    → has_tag s rec tag.Rec ≡ true → is_none (rec_at s rec).cpu ≡ false → rec_destroy s rec ≡ Err (of.Rec RecState)
 unfolding rec_destroy words_of named
 rec_destroy-running s rec tag running = rw (tag, running) refl
 
@@ -159,9 +155,11 @@ rec_destroy-can : (cpu : ℕ) (hold : Hold) (s : State) (rec : ℕ) → is_held 
     → is_held (rec_at s rec).aux1 hold.cells ≡ true → CanAnswer cpu hold (rec_destroy s rec)
 unfolding rec_destroy new_cells
 rec_destroy-can cpu hold s rec held aux0 aux1 =
-    can-done cpu hold (RecDestroyed rec (rec_at s rec).aux0 (rec_at s rec).aux1) _ (with_front s (call.RecDestroy rec) _) (record { held = (held, (aux0, (aux1, tt))); tables = tt; here = tt })
+    can-done cpu hold (RecDestroyed rec (rec_at s rec).aux0 (rec_at s rec).aux1) _
+    (with_front s (call.RecDestroy rec) _) (record { held = (held, (aux0, (aux1, tt))); tables = tt; here = tt })
 
-rec_destroy-told : (config : Config) (cpu : ℕ) (hold : Hold) (rec : ℕ) → is_granule config.granules rec ≡ true → (o : Option Cell) → cell_in rec hold.cells ≡ o
+rec_destroy-told : (config : Config) (cpu : ℕ) (hold : Hold) (rec : ℕ)
+    → is_granule config.granules rec ≡ true → (o : Option Cell) → cell_in rec hold.cells ≡ o
     → are_auxes_held o hold.cells ≡ true → IsToldOutside config cpu hold (call.RecDestroy rec)
 unfolding outside_answer answer_of class_of way_of named holds_all entered rooted
 rec_destroy-told config cpu hold rec granule (Some (Rec it)) found auxes = record {
@@ -194,18 +192,21 @@ realm-held : (o : Option Cell) → is_realm_in o ≡ true → is_some o ≡ true
 realm-held (Some c) is = refl
 realm-held None is = absurd (false≢true is)
 
-rec_enter-told : (config : Config) (cpu : ℕ) (hold : Hold) (rec : ℕ) → is_granule config.granules rec ≡ true → (o : Option Cell) → cell_in rec hold.cells ≡ o
+rec_enter-told : (config : Config) (cpu : ℕ) (hold : Hold) (rec : ℕ)
+    → is_granule config.granules rec ≡ true → (o : Option Cell) → cell_in rec hold.cells ≡ o
     → is_owner_held o hold.cells ≡ true → IsToldOutside config cpu hold (call.RecEnter rec)
 unfolding outside_answer answer_of class_of rec_enter new_cells way_of named holds_all entered rooted
 rec_enter-told config cpu hold rec granule (Some (Rec it)) found owner = record {
-  can = can-done cpu hold (rec_change rec (Entered cpu)) _ (with_front (seen_state config hold.cells) (call.RecEnter rec) _) (record { held = (held, tt); tables = tt; here = refl });
+  can = can-done cpu hold (rec_change rec (Entered cpu)) _ (with_front (seen_state config hold.cells) (call.RecEnter rec) _)
+      (record { held = (held, tt); tables = tt; here = refl });
   same = λ w.
       let s = state config cpu hold w in
       let t = seen_state config hold.cells in
       told-same config cpu hold w (call.RecEnter rec) refl
       (agreeing config cpu hold w (call.RecEnter rec) (ap (λ b. b && true) held)
       (ap (λ (r : RecRecord). realm_at s r.owner) (rec-same (walk_whole config cpu hold w) rec held ∙ seen)
-      ∙ (realm-same (walk_whole config cpu hold w) it.owner (realm-held (cell_in it.owner hold.cells) owner) ∙ sym (ap (λ (r : RecRecord). realm_at t r.owner) seen))) tt);
+      ∙ (realm-same (walk_whole config cpu hold w) it.owner (realm-held (cell_in it.owner hold.cells) owner)
+      ∙ sym (ap (λ (r : RecRecord). realm_at t r.owner) seen))) tt);
 }
   where
     held : is_held rec hold.cells ≡ true
@@ -218,7 +219,8 @@ rec_enter-told config cpu hold rec granule _ found owner = absurd (false≢true 
 -- ---- any command
 
 -- where all that is named is held, and nothing else is looked up or changed
-named-told : (config : Config) (cpu : ℕ) (hold : Hold) (c : Call) → way_of c ≡ None → holds_all (named c) hold.cells ≡ true → entered c ≡ None → rooted c ≡ None
+named-told : (config : Config) (cpu : ℕ) (hold : Hold) (c : Call)
+    → way_of c ≡ None → holds_all (named c) hold.cells ≡ true → entered c ≡ None → rooted c ≡ None
     → CanAnswer cpu hold (told_outside config cpu hold c) → IsToldOutside config cpu hold c
 named-told config cpu hold c walks all no_owner no_root can = record {
   can = can;
@@ -241,15 +243,18 @@ complete-told config cpu hold (call.RecEnter rec) walks host fits complete =
 complete-told config cpu hold (call.GranuleDelegate g) walks host fits complete =
     let c = call.GranuleDelegate g in
     named-told config cpu hold c walks complete refl refl
-    (can-done cpu hold _ _ (with_front (seen_state config hold.cells) c _) (record { held = (held-at hold.cells c complete 0, tt); tables = tt; here = tt }))
+    (can-done cpu hold _ _ (with_front (seen_state config hold.cells) c _)
+    (record { held = (held-at hold.cells c complete 0, tt); tables = tt; here = tt }))
 complete-told config cpu hold (call.GranuleUndelegate g) walks host fits complete =
     let c = call.GranuleUndelegate g in
     named-told config cpu hold c walks complete refl refl
-    (can-done cpu hold _ _ (with_front (seen_state config hold.cells) c _) (record { held = (held-at hold.cells c complete 0, tt); tables = tt; here = tt }))
+    (can-done cpu hold _ _ (with_front (seen_state config hold.cells) c _)
+    (record { held = (held-at hold.cells c complete 0, tt); tables = tt; here = tt }))
 complete-told config cpu hold (call.RealmActivate rd) walks host fits complete =
     let c = call.RealmActivate rd in
     named-told config cpu hold c walks complete refl refl
-    (can-done cpu hold _ _ (with_front (seen_state config hold.cells) c _) (record { held = (held-at hold.cells c complete 0, tt); tables = tt; here = tt }))
+    (can-done cpu hold _ _ (with_front (seen_state config hold.cells) c _)
+    (record { held = (held-at hold.cells c complete 0, tt); tables = tt; here = tt }))
 complete-told config cpu hold (call.RealmCreate rd root width level vmid algo) walks host fits complete =
     let c = call.RealmCreate rd root width level vmid algo in
     let at = held-at hold.cells c complete in

@@ -42,7 +42,8 @@ is_held-paired (x ∷ gs) (c ∷ cs) g same = step (x == g) ∙ ap (λ rest. (x 
     step true = refl
     step false = refl
 
-pub is_held-no_place : (gs : List ℕ) (cs : List Cell) (g : ℕ) → length cs ≡ length gs → position (λ x. x == g) gs ≡ None → is_held g (paired gs cs) ≡ false
+pub is_held-no_place : (gs : List ℕ) (cs : List Cell) (g : ℕ)
+    → length cs ≡ length gs → position (λ x. x == g) gs ≡ None → is_held g (paired gs cs) ≡ false
 is_held-no_place gs cs g same none =
     let from : position_from (λ x. x == g) 0 gs ≡ None = sym (position_from-zero (λ x. x == g) gs) ∙ none in
     is_held-paired gs cs g same ∙ (sym (is_some-position_from (λ x. x == g) 0 gs) ∙ ap (λ (o : Option ℕ). is_some o) from)
@@ -51,7 +52,8 @@ no_cell : (o : Option whole.Cell) → is_some o ≡ false → o ≡ None
 no_cell None is = refl
 no_cell (Some c) is = absurd (false≢true (sym is))
 
-pub cell_in-no_place : (gs : List ℕ) (cs : List Cell) (g : ℕ) → length cs ≡ length gs → position (λ x. x == g) gs ≡ None → cell_in g (paired gs cs) ≡ None
+pub cell_in-no_place : (gs : List ℕ) (cs : List Cell) (g : ℕ)
+    → length cs ≡ length gs → position (λ x. x == g) gs ≡ None → cell_in g (paired gs cs) ≡ None
 cell_in-no_place gs cs g same none = no_cell (cell_in g (paired gs cs)) (is_held-no_place gs cs g same none)
 
 pub cell_in-place : (gs : List ℕ) (cs : List Cell) (g i : ℕ) (c : Cell) → length cs ≡ length gs → IsFirst gs g i → c ≡ get_or cs i c
@@ -65,7 +67,8 @@ cell_in-place (x ∷ gs) (y ∷ cs) g (suc i) c same first at =
 
 -- ---- one more
 
-pub paired-push : (gs : List ℕ) (cs : List Cell) (g : ℕ) (c : Cell) → length cs ≡ length gs → paired (gs ++ g ∷ []) (cs ++ c ∷ []) ≡ paired gs cs ++ held_at g (cell_of c) ∷ []
+pub paired-push : (gs : List ℕ) (cs : List Cell) (g : ℕ) (c : Cell)
+    → length cs ≡ length gs → paired (gs ++ g ∷ []) (cs ++ c ∷ []) ≡ paired gs cs ++ held_at g (cell_of c) ∷ []
 paired-push [] [] g c same = refl
 paired-push [] (y ∷ cs) g c same = absurd (omega (arith, same))
 paired-push (x ∷ gs) [] g c same = absurd (omega (arith, same))
@@ -73,7 +76,8 @@ paired-push (x ∷ gs) (y ∷ cs) g c same = ap (λ rest. held_at x (cell_of y) 
 
 -- ---- another in its place
 
-none_replaced : (gs : List ℕ) (cs : List Cell) (g : ℕ) (c : whole.Cell) → list_any (λ x. x == g) gs ≡ false → replaced_cells (paired gs cs) g c ≡ paired gs cs
+none_replaced : (gs : List ℕ) (cs : List Cell) (g : ℕ) (c : whole.Cell)
+    → list_any (λ x. x == g) gs ≡ false → replaced_cells (paired gs cs) g c ≡ paired gs cs
 none_replaced [] cs g c none = refl
 none_replaced (x ∷ gs) [] g c none = refl
 none_replaced (x ∷ gs) (y ∷ cs) g c none =
@@ -99,7 +103,8 @@ paired-slice_set (x ∷ gs) (y ∷ cs) g zero c same first distinct =
     rw first.1 (ap (λ rest. held_at x (cell_of c) ∷ rest) (sym (none_replaced gs cs g (cell_of c) (none_behind x gs g distinct first.1))))
 paired-slice_set (x ∷ gs) (y ∷ cs) g (suc i) c same first distinct =
     let rest = behind x gs g i first in
-    rw rest.0 (ap (λ others. held_at x (cell_of y) ∷ others) (paired-slice_set gs cs g i c (omega (arith, same)) rest.1 (distinct_behind x gs distinct)))
+    rw rest.0 (ap (λ others. held_at x (cell_of y) ∷ others)
+    (paired-slice_set gs cs g i c (omega (arith, same)) rest.1 (distinct_behind x gs distinct)))
 
 -- ---- one taken out
 
@@ -133,4 +138,5 @@ distinct-remove (x ∷ gs) zero less distinct = distinct_behind x gs distinct
 distinct-remove (x ∷ gs) (suc i) less distinct =
     let parts = and_parts (not (list_any (λ z. z == x) gs)) (are_distinct gs) distinct in
     let others = any-remove (λ z. z == x) gs i (omega (arith, less)) (not-true (list_any (λ z. z == x) gs) parts.0) in
-    and_from (not (list_any (λ z. z == x) (remove gs i))) (are_distinct (remove gs i)) (ap not others) (distinct-remove gs i (omega (arith, less)) parts.1)
+    and_from (not (list_any (λ z. z == x) (remove gs i))) (are_distinct (remove gs i))
+    (ap not others) (distinct-remove gs i (omega (arith, less)) parts.1)

@@ -1,23 +1,18 @@
 -- A table that is taken out of its granule, changed and put back last: what else is put in between stays.
-use Rattle.std.proofs.Common.{◌≡◌, ℕ, Bool, true, false, ◌&&◌, ◌==◌, if◌then◌else◌, List, [], ◌∷◌, ◌++◌, Option, Some, None, refl, sym, ap, ◌∙◌, subst, eqb-true, eq-eqb}
-use Rattle.std.specs.Prelude.{IsTrue, is_some, unwrap_or}
+use Rattle.command_core.proofs.Common.{◌&&◌, ◌==◌, ◌∙◌, ◌∷◌, ◌≡◌, Bool, HeldCell, IsTrue, List, None, Option, Rd, RealmRecord, Rtt, Some, Undelegated, [], and_parts, ap, cell_in, eq-eqb, eqb-true, false, false≢true, held_at, if◌then◌else◌, is_some, none-some, refl, replaced_all, replaced_cells, subst, sym, table_held, table_placed, true, ℕ}
+use Rattle.std.proofs.Common.{◌++◌}
+use Rattle.std.specs.Prelude.{unwrap_or}
 use Rattle.std.specs.Option.{option_and_then}
-use Rattle.std.proofs.lemmas.Bool.{false≢true, and_parts}
-use Rattle.std.proofs.lemmas.Option.{none-some}
 use Rattle.rmm_spec.specs.declared.change.Change.TheVariants.{EntriesChanged}
 use Rattle.rmm_spec.specs.declared.change.EntryChange.{EntryChange}
 use Rattle.rmm_spec.specs.declared.change.RealmChange.{RealmChange}
 use Rattle.rmm_spec.specs.declared.change.RecChange.{RecChange}
 use Rattle.rmm_spec.specs.declared.change.TagChange.{TagChange}
 use Rattle.rmm_spec.specs.declared.entry.Entry.{Entry}
-use Rattle.rmm_spec.specs.State.{RealmRecord}
 use Rattle.rmm_spec.specs.Table.{TableRecord}
-use Rattle.rmm_spec.specs.Cell.{Cell, Undelegated, Rd, Rtt, table_in}
-use Rattle.rmm_spec.specs.Local.{HeldCell}
-use Rattle.world_laws.specs.Replaced.{held_at, replaced_cells, replaced_all}
+use Rattle.rmm_spec.specs.Cell.{Cell, table_in}
 use Rattle.shape_laws.specs.Whole.{cell_with_entries, table_changed}
-use Rattle.walk_laws.specs.Held.{cell_in, known_cell}
-use Rattle.walk_laws.specs.SeenState.{table_held, table_placed}
+use Rattle.walk_laws.specs.Held.{known_cell}
 use Rattle.walk_laws.specs.TableCells.{entry_cells, holds_page, holds_realm, holds_rec, holds_change}
 use Rattle.walk_laws.proofs.Found.{placed-holds}
 use Rattle.command_core.specs.Changed.{fits_realm_change, fits_rec_change, fits_page, fits_entries, fits_cells}
@@ -114,7 +109,8 @@ pub tables-taken : (held : List HeldCell) (rd g : ℕ) (realm : RealmRecord) →
 tables-taken held rd g realm is = by (rd == g) refl
   where
     by : (b : Bool) → (rd == g) ≡ b → table_held (replaced_cells held rd Undelegated) g ≡ table_held held g
-    by true same = subst (λ x. table_held (replaced_cells held rd Undelegated) x ≡ table_held held x) (eqb-true rd g same) (table-taken held rd realm is)
+    by true same =
+        subst (λ x. table_held (replaced_cells held rd Undelegated) x ≡ table_held held x) (eqb-true rd g same) (table-taken held rd realm is)
     by false apart = ap (option_and_then table_in) (cell_in-other held rd g Undelegated apart)
 
 -- ---- tables
@@ -162,14 +158,16 @@ pub placed-there : (held : List HeldCell) (rd level number g : ℕ) → table_pl
 placed-there held rd level number g found = ap (λ (t : Option TableRecord). is_some t) (placed-holds held rd level number g found).is_held
 
 -- where entries can be changed, their table is held, and the REC that goes with them is one that can be updated
-pub entries-fit : (held : List HeldCell) (rd level : ℕ) (entries : EntryChange) (page : Option TagChange) (realm : Option RealmChange) (rec : Option RecChange)
+pub entries-fit : (held : List HeldCell) (rd level : ℕ) (entries : EntryChange)
+    (page : Option TagChange) (realm : Option RealmChange) (rec : Option RecChange)
     → IsTrue (fits_cells held (EntriesChanged rd level entries page realm rec))
     → IsTrue (is_some (table_placed held rd level (table_changed entries))) × IsTrue (fits_rec_change held rec)
 unfolding holds_change
 entries-fit held rd level entries page realm rec fits =
     let there : Bool = is_some (table_placed held rd level (table_changed entries)) in
     let parts : Bool = holds_page held page && holds_realm held realm && holds_rec held rec in
-    let of_rec = and_parts (parts && there && fits_page page && fits_entries entries && fits_realm_change held realm) (fits_rec_change held rec) fits in
+    let of_rec =
+    and_parts (parts && there && fits_page page && fits_entries entries && fits_realm_change held realm) (fits_rec_change held rec) fits in
     let of_realm = and_parts (parts && there && fits_page page && fits_entries entries) (fits_realm_change held realm) of_rec.0 in
     let of_entries = and_parts (parts && there && fits_page page) (fits_entries entries) of_realm.0 in
     let of_page = and_parts (parts && there) (fits_page page) of_entries.0 in

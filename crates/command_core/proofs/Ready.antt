@@ -1,43 +1,28 @@
 -- Where what is held settles a command, it allows a local step, whatever the side table has and whichever CPU it is.
-use Rattle.std.proofs.Common.{◌≡◌, ℕ, ◌≤◌, Bool, true, false, not, ◌||◌, if◌then◌else◌, List, Option, Some, None, Result, Ok, Err, inl, inr, refl, sym, ap, ◌∙◌, subst, [], ◌∷◌}
-use Rattle.std.proofs.lemmas.Bool.{false≢true}
-use Rattle.rmm_spec.specs.HistoryText.{Config, granule_limit}
+use Rattle.command_core.proofs.Common.{◌||◌, ◌∙◌, ◌∷◌, ◌≡◌, ◌≤◌, Accepted, Bool, ByHost, Call, Change, Command, Config, Done, Err, HeldCell, Hold, Inside, IsAnswer, List, None, Ok, Option, Outside, Reaches, Refusal, Result, Some, State, Unchanged, [], ap, are_recs_counted, call_of, can_make, class_of, false, false≢true, has_wrong, if◌then◌else◌, inl, inr, is_settled, is_unshaped, is_vmid_listed, misshaped, named, not, outside_answer, refl, seen_state, subst, sym, true, way_taken, words_fit, ℕ}
+use Rattle.rmm_spec.specs.HistoryText.{granule_limit}
 use Rattle.rmm_spec.specs.declared.version.Version.TheVariants.{Large}
-use Rattle.rmm_spec.specs.declared.accepted.Accepted.{Accepted}
-use Rattle.rmm_spec.specs.declared.accepted.Accepted.TheVariants.{Done, Reaches}
-use Rattle.rmm_spec.specs.declared.call.Call.{Call}
 use Rattle.rmm_spec.specs.declared.call.Call.TheVariants as call
-use Rattle.rmm_spec.specs.declared.change.Change.TheVariants.{Unchanged}
-use Rattle.rmm_spec.specs.declared.command.Command.{Command}
 use Rattle.rmm_spec.specs.declared.condition.Condition.TheVariants.{OwnInside}
-use Rattle.rmm_spec.specs.declared.refusal.Refusal.{Refusal}
 use Rattle.rmm_spec.specs.declared.refusal.Refusal.TheVariants as of
 use Rattle.rmm_spec.specs.declared.reply.Reply.TheVariants as reply
-use Rattle.rmm_spec.specs.Call.{Class, ByHost, ByRealm, ByExit, call_of, class_of}
-use Rattle.rmm_spec.specs.State.{State}
+use Rattle.rmm_spec.specs.Call.{Class, ByRealm, ByExit}
 use Rattle.rmm_spec.specs.Rows.{done, reply_of}
-use Rattle.rmm_spec.specs.Step.Terms.{named}
-use Rattle.rmm_spec.specs.Shape.{CpuPlace, Outside, Inside}
-use Rattle.rmm_spec.specs.Local.{HeldCell, Hold}
+use Rattle.rmm_spec.specs.Shape.{CpuPlace}
 use Rattle.spec_lemmas.proofs.Placed.{is_inside-outside, is_inside-inside}
 use Rattle.world_laws.proofs.Refusals.{outside-is_local}
-use Rattle.command_rows.specs.Answers.{host_answer, outside_answer, inside_answer}
+use Rattle.command_rows.specs.Answers.{host_answer, inside_answer}
 use Rattle.command_rows.proofs.Outcomes.{outcome-outside, outcome-inside}
-use Rattle.walk_laws.specs.SeenState.{seen_state}
 use Rattle.rmm_spec.specs.Step.Ripas.{reached_change}
-use Rattle.rmm_spec.specs.declared.change.Change.{Change}
 use Rattle.command_core.proofs.Walked.{walk-ready, taken-way, untaken-way}
 use Rattle.command_core.proofs.Made.{refused, no_whole, made-answered}
 use Rattle.command_core.specs.Furthest.{furthest}
-use Rattle.command_core.specs.Sides.{is_vmid_listed, are_recs_counted}
-use Rattle.command_core.specs.Changed.{hold_changed, Answers, IsAnswer, can_make, CanMakeAnswer}
-use Rattle.command_core.specs.Named.{has_wrong, words_fit}
-use Rattle.command_core.specs.Unshaped.{is_misfit, is_unshaped_outside, is_unshaped}
-use Rattle.command_core.specs.Settled.{is_all_held, is_settled_outside, is_settled_inside, is_settled}
+use Rattle.command_core.specs.Changed.{hold_changed, Answers, CanMakeAnswer}
+use Rattle.command_core.specs.Unshaped.{is_misfit, is_unshaped_outside}
+use Rattle.command_core.specs.Settled.{is_all_held, is_settled_outside, is_settled_inside}
 use Rattle.walk_laws.specs.Walking.{Way}
-use Rattle.command_core.specs.Walks.{way_taken}
 use Rattle.command_core.specs.Plan.{AllowsStep, IsReady}
-use Rattle.command_core.specs.Decided.{rows_answer, made_answer, settled_answer, made_change, misshaped}
+use Rattle.command_core.specs.Decided.{rows_answer, made_answer, settled_answer, made_change}
 use Rattle.command_core.proofs.Fits.{makes}
 use Rattle.command_core.proofs.Fronts.{refused-answer}
 use Rattle.command_core.proofs.Outside.{told_outside, complete-told}
@@ -77,11 +62,12 @@ host-ready config cpu command hold host place shaped settled =
         → IsAnswer config cpu command hold (made_answer config hold.cells hold.side (told_outside config cpu hold (call_of command)))
     by true front =
         let refusal = refused-answer config cpu command hold (is_vmid_listed hold.side) (are_recs_counted hold.side) host place front in
-        subst (λ (answer : Result Accepted Refusal). IsAnswer config cpu command hold (made_answer config hold.cells hold.side answer)) (sym refusal.0.1)
-        (refused config cpu command hold (of.Input refusal.0.0) (λ end same. cc) refusal.1)
+        subst (λ (answer : Result Accepted Refusal). IsAnswer config cpu command hold (made_answer config hold.cells hold.side answer))
+        (sym refusal.0.1) (refused config cpu command hold (of.Input refusal.0.0) (λ end same. cc) refusal.1)
     by false front =
         let parts = settled_by (words_fit config (call_of command)) (has_wrong (named (call_of command)) hold.cells)
-        (is_unshaped_outside config (call_of command) hold.cells) (is_all_held config (call_of command) hold.cells (way_taken (call_of command))) shaped settled front in
+        (is_unshaped_outside config (call_of command) hold.cells)
+        (is_all_held config (call_of command) hold.cells (way_taken (call_of command))) shaped settled front in
         all_held (way_taken (call_of command)) refl parts.0 parts.1
       where
         all_held : (o : Option Way) → way_taken (call_of command) ≡ o → words_fit config (call_of command) ≡ true
@@ -176,7 +162,8 @@ answer-makes config hold (Ok (Reaches stretch)) few =
     change-makes config hold (top ∷ []) (reached_change stretch top) few
 
 -- cells that are unshaped are answered as misplaced
-pub decision-unshaped : (config : Config) (cpu : ℕ) (command : Command) (hold : Hold) (c : Call) (given : Result Accepted Refusal) → c ≡ call_of command
+pub decision-unshaped : (config : Config) (cpu : ℕ) (command : Command) (hold : Hold) (c : Call) (given : Result Accepted Refusal)
+    → c ≡ call_of command
     → given ≡ settled_answer config cpu c hold.cells hold.side hold.place → is_unshaped config (call_of command) hold.place hold.cells ≡ true
     → given ≡ Err misshaped
 unfolding settled_answer

@@ -1,22 +1,14 @@
 -- What passes the tests of a take is a rising take.
-use Rattle.std.proofs.Common.{◌≡◌, ℕ, zero, suc, ◌<◌, ◌≤◌, Bool, true, false, not, ◌&&◌, ◌||◌, ◌==◌, nat_lt, nat_le, if◌then◌else◌, List, [], ◌∷◌, length, get_or, Option, Some, None, inl, inr, refl, sym, ap, ◌∙◌, subst, arith, eqb-true, eq-eqb, ltb-true}
-use Rattle.std.specs.Prelude.{IsTrue, Contains, is_some, slice_get}
-use Rattle.std.specs.List.{list_any, list_all}
-use Rattle.std.proofs.lemmas.Bool.{false≢true, and_parts, not-true}
-use Rattle.std.proofs.lemmas.Bool.Decides.{nat_tests}
-use Rattle.std.proofs.lemmas.Option.{none-some, same_Some}
-use Rattle.rmm_spec.specs.HistoryText.{Config}
+use Rattle.command_core.proofs.Common.{◌&&◌, ◌<◌, ◌==◌, ◌||◌, ◌∙◌, ◌∷◌, ◌≡◌, ◌≤◌, Bool, Config, HeldCell, IsTrue, List, Needed, None, Option, Rd, Rec, Rtt, Some, [], and_parts, ap, are_distinct, arith, cell_in, eq-eqb, eqb-true, false, false≢true, granules_held, held_at, if◌then◌else◌, inl, inr, is_granule, is_held, is_some, length, list_all, list_any, nat_le, nat_tests, none-some, not, not-true, refl, subst, suc, sym, tag_number, tag_of, true, zero, ℕ}
+use Rattle.std.proofs.Common.{nat_lt, get_or, ltb-true}
+use Rattle.std.specs.Prelude.{Contains, slice_get}
+use Rattle.std.proofs.lemmas.Option.{same_Some}
 use Rattle.rmm_spec.specs.declared.entry.Entry.{Entry}
 use Rattle.rmm_spec.specs.declared.tag.Tag.{Tag}
-use Rattle.rmm_spec.specs.Lookup.{tag_number, is_granule}
-use Rattle.rmm_spec.specs.Rows.{Needed}
-use Rattle.rmm_spec.specs.Cell.{Cell, Rd, Rec, tag_of, is_data, Rtt}
-use Rattle.rmm_spec.specs.Local.{HeldCell, granules_held}
+use Rattle.rmm_spec.specs.Cell.{Cell, is_data}
 use Rattle.rmm_spec.specs.Locks.{is_named, leads_to, names_part, depth, IsStray, IsRisingTake}
 use Rattle.spec_lemmas.proofs.TagLaws.{tag_number-injective}
-use Rattle.world_laws.specs.Replaced.{held_at}
 use Rattle.spec_lemmas.proofs.Members.{Contains-nil, Contains-head, Contains-tail}
-use Rattle.command_core.specs.Seen.{cell_in, is_held, are_distinct}
 use Rattle.command_core.specs.Named.{is_wrong_for, fits_below, is_upward, entry_leads, has_part, has_aux_part, depth_in, fits_beside, is_downward}
 
 -- ---- each of what is held
@@ -52,7 +44,8 @@ none_at p (x ∷ held) none h has = by (none_at p held) has.0 has.1 has.2
     by rest (suc k) within is = rest parts.1 h (k, omega arith, is)
 
 -- each held cell is found at its granule
-pub found-own : (held : List HeldCell) → IsTrue (are_distinct (granules_held held)) → (h : HeldCell) → Contains held h → cell_in h.granule held ≡ Some h.cell
+pub found-own : (held : List HeldCell) → IsTrue (are_distinct (granules_held held)) → (h : HeldCell)
+    → Contains held h → cell_in h.granule held ≡ Some h.cell
 found-own [] distinct h has = absurd (Contains-nil h has)
 found-own (x ∷ held) distinct h has = by (found-own held) has.0 has.1 has.2
   where
@@ -64,7 +57,8 @@ found-own (x ∷ held) distinct h has = by (found-own held) has.0 has.1 has.2
     behind apart found = rw apart found
 
     by : (IsTrue (are_distinct (granules_held held)) → (y : HeldCell) → Contains held y → cell_in y.granule held ≡ Some y.cell)
-        → (k : ℕ) → k < length (x ∷ held) → get_or (x ∷ held) k h ≡ h → (if x.granule == h.granule then Some x.cell else cell_in h.granule held) ≡ Some h.cell
+        → (k : ℕ) → k < length (x ∷ held) → get_or (x ∷ held) k h ≡ h
+        → (if x.granule == h.granule then Some x.cell else cell_in h.granule held) ≡ Some h.cell
     by rest zero within is =
         let same : (x.granule == h.granule) ≡ true = eq-eqb x.granule h.granule (ap (λ (y : HeldCell). y.granule) is) in
         rw same (ap (λ (y : HeldCell). Some y.cell) is)
@@ -79,7 +73,8 @@ pub found-contains : (held : List HeldCell) (g : ℕ) (c : Cell) → cell_in g h
 found-contains [] g c is = absurd (none-some c is)
 found-contains (x ∷ held) g c is = by (x.granule == g) refl (found-contains held g c) is
   where
-    by : (b : Bool) → (x.granule == g) ≡ b → (cell_in g held ≡ Some c → Contains held (held_at g c)) → (if b then Some x.cell else cell_in g held) ≡ Some c → Contains (x ∷ held) (held_at g c)
+    by : (b : Bool) → (x.granule == g) ≡ b → (cell_in g held ≡ Some c → Contains held (held_at g c))
+        → (if b then Some x.cell else cell_in g held) ≡ Some c → Contains (x ∷ held) (held_at g c)
     by true same rest found =
         let at : x.granule ≡ g = eqb-true x.granule g same in
         let cell : x.cell ≡ c = same_Some x.cell c found in
@@ -93,7 +88,8 @@ same_tag : (a b : Tag) → (tag_number a == tag_number b) ≡ true → a ≡ b
 same_tag a b is = tag_number-injective a b (eqb-true (tag_number a) (tag_number b) is)
 
 -- a name of the granule has the cell's tag
-pub right_tag : (names : List Needed) (g : ℕ) (c : Cell) → is_wrong_for c g names ≡ false → (n : Needed) → Contains names n → n.granule ≡ g → tag_of c ≡ n.tag
+pub right_tag : (names : List Needed) (g : ℕ) (c : Cell) → is_wrong_for c g names ≡ false → (n : Needed)
+    → Contains names n → n.granule ≡ g → tag_of c ≡ n.tag
 right_tag [] g c right n has same = absurd (Contains-nil n has)
 right_tag (m ∷ names) g c right n has same = by (right_tag names g c) has.0 has.1 has.2
   where
@@ -125,7 +121,8 @@ record FitsBelow (names : List Needed) (next granule : ℕ) (cell : Cell) : Type
   right : is_wrong_for cell granule names ≡ false
   no_data : is_data cell ≡ false
 
-fits_below-parts : (names : List Needed) (next granule : ℕ) (cell : Cell) → fits_below names next granule (Some cell) ≡ true → FitsBelow names next granule cell
+fits_below-parts : (names : List Needed) (next granule : ℕ) (cell : Cell)
+    → fits_below names next granule (Some cell) ≡ true → FitsBelow names next granule cell
 fits_below-parts names next granule cell fits =
     let first = and_parts (is_named names granule && nat_lt granule next && not (is_wrong_for cell granule names)) (not (is_data cell)) fits in
     let second = and_parts (is_named names granule && nat_lt granule next) (not (is_wrong_for cell granule names)) first.0 in
@@ -145,7 +142,8 @@ pub upward-rises : (config : Config) (names : List Needed) (held : List HeldCell
 unfolding is_upward
 upward-rises config names held next distinct passes =
     let each : ℕ → Bool = λ granule. fits_below names next granule (cell_in granule held) in
-    let first = and_parts (is_granule config.granules next && is_named names next && nat_le (length held) 5) (list_all each (granules_held held)) passes in
+    let first =
+    and_parts (is_granule config.granules next && is_named names next && nat_le (length held) 5) (list_all each (granules_held held)) passes in
     let second = and_parts (is_granule config.granules next && is_named names next) (nat_le (length held) 5) first.0 in
     let third = and_parts (is_granule config.granules next) (is_named names next) second.0 in
     let at : (h : HeldCell) → Contains held h → FitsBelow names next h.granule h.cell = λ h has.
@@ -222,13 +220,16 @@ stray held above o is h false unnamed part = by (nat_lt 0 (depth h.cell)) refl p
     by true table has = record { is_part = inl (ltb-true 0 (depth h.cell) table) }
     by false none has = aux o is has
 
-pub downward-rises : (config : Config) (names : List Needed) (held : List HeldCell) (above index next : ℕ) → IsTrue (are_distinct (granules_held held))
+pub downward-rises : (config : Config) (names : List Needed) (held : List HeldCell) (above index next : ℕ)
+    → IsTrue (are_distinct (granules_held held))
     → is_downward config names held above index next ≡ true → IsRisingTake config names held next
 unfolding is_downward
 downward-rises config names held above index next distinct passes =
     let each : ℕ → Bool = λ granule. fits_beside names (cell_in above held) granule (cell_in granule held) in
-    let first = and_parts (is_granule config.granules next && not (is_held next held) && nat_le (length held) 5 && has_part (cell_in above held) index next) (list_all each (granules_held held)) passes in
-    let second = and_parts (is_granule config.granules next && not (is_held next held) && nat_le (length held) 5) (has_part (cell_in above held) index next) first.0 in
+    let first = and_parts (is_granule config.granules next && not (is_held next held) && nat_le (length held) 5
+    && has_part (cell_in above held) index next) (list_all each (granules_held held)) passes in
+    let second = and_parts (is_granule config.granules next && not (is_held next held) && nat_le (length held) 5)
+    (has_part (cell_in above held) index next) first.0 in
     let third = and_parts (is_granule config.granules next && not (is_held next held)) (nat_le (length held) 5) second.0 in
     let fourth = and_parts (is_granule config.granules next) (not (is_held next held)) third.0 in
     let at : (h : HeldCell) → Contains held h → FitsBeside names (cell_in above held) h.granule h.cell = λ h has.
@@ -238,7 +239,8 @@ downward-rises config names held above index next distinct passes =
     record {
       is_lock = fourth.0;
       is_new = λ h has same.
-          (let there : is_held next held ≡ true = ap (λ g. is_held g held) (sym same) ∙ ap (λ (o : Option Cell). is_some o) (found-own held distinct h has) in
+          (let there : is_held next held ≡ true =
+          ap (λ g. is_held g held) (sym same) ∙ ap (λ (o : Option Cell). is_some o) (found-own held distinct h has) in
           false≢true (sym (not-true (is_held next held) fourth.1) ∙ there));
       room = le-true (length held) 5 third.1;
       no_data = λ h has. (at h has).no_data;

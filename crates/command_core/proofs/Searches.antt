@@ -1,7 +1,6 @@
 -- Searches below a number, of what is there once.
-use Rattle.std.proofs.Common.{◌≡◌, ℕ, zero, suc, ◌<◌, Bool, true, false, not, ◌||◌, ◌==◌, if◌then◌else◌, refl, sym, ap, ◌∙◌, arith, eqb-true}
-use Rattle.std.proofs.lemmas.Bool.{false≢true}
-use Rattle.rmm_spec.specs.Lookup.{any_below, greatest_below}
+use Rattle.command_core.proofs.Common.{◌<◌, ◌==◌, ◌||◌, ◌∙◌, ◌≡◌, Bool, any_below, ap, arith, eqb-true, false, false≢true, if◌then◌else◌, not, refl, suc, sym, true, zero, ℕ}
+use Rattle.rmm_spec.specs.Lookup.{greatest_below}
 use Rattle.rmm_spec.specs.Shape.{count_below}
 
 -- the one number that passes is the greatest that does
@@ -27,6 +26,7 @@ any_below-counted (suc n) p = by (p n) (any_below-counted n p)
         by_test true is = absurd (let bad : suc c ≡ 0 = eqb-true (suc c) 0 is in omega arith)
         by_test false is = is
 
-    by : (b : Bool) → any_below n p ≡ not (count_below n p == 0) → (b || any_below n p) ≡ not ((if b then suc (count_below n p) else count_below n p) == 0)
+    by : (b : Bool) → any_below n p ≡ not (count_below n p == 0)
+        → (b || any_below n p) ≡ not ((if b then suc (count_below n p) else count_below n p) == 0)
     by true rest = ap not (sym (some (count_below n p)))
     by false rest = rest

@@ -1,10 +1,6 @@
 -- Which granules are held.
-use Rattle.std.proofs.Common.{◌≡◌, ℕ, Bool, true, false, ◌==◌, if◌then◌else◌, List, [], ◌∷◌, Some, refl}
-use Rattle.std.specs.Prelude.{is_some}
+use Rattle.command_core.proofs.Common.{◌==◌, ◌∷◌, ◌≡◌, Bool, HeldCell, List, Some, [], cell_in, false, if◌then◌else◌, is_held, is_some, refl, replaced_cells, true, ℕ}
 use Rattle.rmm_spec.specs.Cell.{Cell}
-use Rattle.rmm_spec.specs.Local.{HeldCell}
-use Rattle.world_laws.specs.Replaced.{replaced_cells}
-use Rattle.command_core.specs.Seen.{cell_in, is_held}
 pub use Rattle.walk_laws.proofs.Wholes.{held-contains}
 
 -- what is held is held, whatever its cells are

@@ -1,35 +1,29 @@
 -- What a CPU does next where what it holds doesn't settle its command: it takes a lock at a rising take, or frees one that it
 -- holds. That there is always one of the two rests on no plan: with nothing held, what is wanted is a granule that is named.
-use Rattle.std.proofs.Common.{◌≡◌, ℕ, ◌-◌, Bool, true, false, not, ◌&&◌, ◌||◌, ◌==◌, if◌then◌else◌, List, [], ◌∷◌, length, Option, Some, None, refl, sym, ap, ◌∙◌, subst, arith, eq-eqb}
-use Rattle.std.specs.Prelude.{IsTrue, IfSome, Contains, is_some, unwrap_or}
-use Rattle.std.specs.List.{fold, list_all}
-use Rattle.std.proofs.lemmas.Bool.{false≢true, and_parts, or_parts, not-true, not-false}
+use Rattle.command_core.proofs.Common.{◌&&◌, ◌-◌, ◌==◌, ◌||◌, ◌∙◌, ◌∷◌, ◌≡◌, Bool, ByHost, Call, Command, Config, HeldCell, Inside, IsTrue, List, Needed, None, Option, Outside, Rd, Rec, Some, [], and_parts, ap, are_distinct, arith, call_of, cell_in, class_of, eq-eqb, false, false≢true, granules_held, has_wrong, if◌then◌else◌, is_granule, is_held, is_settled, is_some, length, list_all, named, none-some, not, not-true, refl, subst, sym, table_held, true, way_of, way_taken, words_fit, words_of, ℕ}
+use Rattle.std.specs.Prelude.{IfSome, Contains, unwrap_or}
+use Rattle.std.specs.List.{fold}
+use Rattle.std.proofs.lemmas.Bool.{or_parts, not-false}
 use Rattle.std.proofs.lemmas.List.Folds.{list_any_at, fold_stays}
-use Rattle.std.proofs.lemmas.Option.{none-some, same_Some, slice_get-get_or}
-use Rattle.rmm_spec.specs.HistoryText.{Config}
-use Rattle.rmm_spec.specs.declared.call.Call.{Call}
+use Rattle.std.proofs.lemmas.Option.{same_Some, slice_get-get_or}
 use Rattle.rmm_spec.specs.declared.call.Call.TheVariants as call
-use Rattle.rmm_spec.specs.declared.command.Command.{Command}
 use Rattle.rmm_spec.specs.declared.tag.Tag.TheVariants as tag
-use Rattle.rmm_spec.specs.Call.{Class, ByHost, ByRealm, ByExit, call_of, class_of}
-use Rattle.rmm_spec.specs.Lookup.{is_granule}
-use Rattle.rmm_spec.specs.Rows.{Needed, all_allowed}
-use Rattle.rmm_spec.specs.Step.Terms.{words_of, needed, named}
-use Rattle.rmm_spec.specs.Cell.{Cell, Rd, Rec}
-use Rattle.rmm_spec.specs.Shape.{CpuPlace, Outside, Inside}
-use Rattle.rmm_spec.specs.Local.{HeldCell, granules_held}
+use Rattle.rmm_spec.specs.Call.{Class, ByRealm, ByExit}
+use Rattle.rmm_spec.specs.Rows.{all_allowed}
+use Rattle.rmm_spec.specs.Step.Terms.{needed}
+use Rattle.rmm_spec.specs.Cell.{Cell}
+use Rattle.rmm_spec.specs.Shape.{CpuPlace}
 use Rattle.rmm_spec.specs.Locks.{is_named, needs, needs_outside, IsRisingTake}
 use Rattle.spec_lemmas.proofs.Members.{Contains-head, Contains-tail, Contains-from_slice_get}
 use Rattle.command_core.proofs.Walked.{taken-way}
 use Rattle.command_core.specs.declared.next.Next.{Next}
 use Rattle.command_core.specs.declared.next.Next.TheVariants.{Ready}
-use Rattle.command_core.specs.Seen.{cell_in, is_held, are_distinct}
-use Rattle.command_core.specs.Named.{has_wrong, words_fit, is_less, lesser, least_missing, is_upward, is_downward, holds_all}
-use Rattle.walk_laws.specs.SeenState.{table_held, found_or, first_held, table_behind}
-use Rattle.walk_laws.specs.Walking.{Way, way_of, keeps_realm, is_told, are_told}
-use Rattle.command_core.specs.Walks.{Part, way_taken, way_to_read, way_inside, come_to, is_above, is_realm_spare, spare, wanted}
+use Rattle.command_core.specs.Named.{is_less, lesser, least_missing, is_upward, is_downward, holds_all}
+use Rattle.walk_laws.specs.SeenState.{found_or, first_held, table_behind}
+use Rattle.walk_laws.specs.Walking.{Way, keeps_realm, is_told, are_told}
+use Rattle.command_core.specs.Walks.{Part, way_to_read, way_inside, come_to, is_above, is_realm_spare, spare, wanted}
 use Rattle.command_core.specs.Unshaped.{can_learn, has_bad_owner, is_misfit_way, is_misfit, has_misfit_part, is_unshaped_outside}
-use Rattle.command_core.specs.Settled.{is_complete, is_all_held, is_read_over, is_settled_outside, is_settled_inside, is_settled}
+use Rattle.command_core.specs.Settled.{is_complete, is_all_held, is_read_over, is_settled_outside, is_settled_inside}
 use Rattle.command_core.specs.Plan.{IsStep, IsPlanned, is_ready}
 use Rattle.command_core.specs.Next.{last_taken, taken, take_named, take_least, take_part, take_root, take_auxes, next_aux, learn_realm, take_realm, next_to_enter, first_named, free_or_take, next_with_parts, next_to_walk, next_on_way, place_names, next_to_read, next_outside, next_inside, next_unsettled, next}
 use Rattle.command_core.proofs.Inside.{fitting-granule, fitting-place}
@@ -74,7 +68,8 @@ upward-alone config names (h ∷ held) next one none = absurd (some-last h held 
 
 -- a granule that is named is taken, or the last is freed
 named-steps : (config : Config) (c : Call) (place : CpuPlace) (names : List Needed) (held : List HeldCell) (next : ℕ)
-    → IsTrue (are_distinct (granules_held held)) → IsOne config.granules names next → IsStep config c place names held (take_named config names held next)
+    → IsTrue (are_distinct (granules_held held)) → IsOne config.granules names next
+    → IsStep config c place names held (take_named config names held next)
 named-steps config c place names held next distinct one =
     taken-steps config c place names held next (is_upward config names held next) (upward-rises config names held next distinct)
     (upward-alone config names held next one)
@@ -85,7 +80,8 @@ named-has names n has =
     (ap (λ (m : Needed). m.granule == n.granule) has.2 ∙ eq-eqb n.granule n.granule refl)
 
 -- the least that is missing is named
-least-one : (config : Config) (keeps : Bool) (held : List HeldCell) (all names : List Needed) (best : Option ℕ) → ((n : Needed) → Contains names n → is_named all n.granule ≡ true)
+least-one : (config : Config) (keeps : Bool) (held : List HeldCell) (all names : List Needed) (best : Option ℕ)
+    → ((n : Needed) → Contains names n → is_named all n.granule ≡ true)
     → IfSome best (IsOne config.granules all) → IfSome (fold (lesser config keeps held) best names) (IsOne config.granules all)
 least-one config keeps held all [] best each one = one
 least-one config keeps held all (n ∷ names) best each one =
@@ -96,12 +92,16 @@ least-one config keeps held all (n ∷ names) best each one =
         → IfSome (if b then Some n.granule else best) (IsOne config.granules all)
     by true is =
         let parts = and_parts (is_granule config.granules n.granule && not (is_told keeps held n)) (is_less n.granule best) is in
-        record { is_lock = (and_parts (is_granule config.granules n.granule) (not (is_told keeps held n)) parts.0).0; is_one = each n (Contains-head n names) }
+        record {
+          is_lock = (and_parts (is_granule config.granules n.granule) (not (is_told keeps held n)) parts.0).0;
+          is_one = each n (Contains-head n names);
+        }
     by false is = one
 
 -- so is the least that is missing
 least-steps : (config : Config) (c : Call) (place : CpuPlace) (names : List Needed) (keeps : Bool) (held : List HeldCell) (other : ℕ)
-    → IsTrue (are_distinct (granules_held held)) → IsOne config.granules names other → IsStep config c place names held (take_least config keeps names held other)
+    → IsTrue (are_distinct (granules_held held)) → IsOne config.granules names other
+    → IsStep config c place names held (take_least config keeps names held other)
 unfolding least_missing
 least-steps config c place names keeps held other distinct one =
     named-steps config c place names held (unwrap_or (least_missing config keeps names held) other) distinct
@@ -115,19 +115,24 @@ least-steps config c place names keeps held other distinct one =
 
 -- a part of what is held is taken, or the last is freed
 part-steps : (config : Config) (c : Call) (place : CpuPlace) (names : List Needed) (held : List HeldCell) (above index next : ℕ) (cell : Cell)
-    → IsTrue (are_distinct (granules_held held)) → cell_in above held ≡ Some cell → IsStep config c place names held (take_part config names held above index next)
+    → IsTrue (are_distinct (granules_held held)) → cell_in above held ≡ Some cell
+    → IsStep config c place names held (take_part config names held above index next)
 part-steps config c place names held above index next cell distinct found =
-    taken-steps config c place names held next (is_downward config names held above index next) (downward-rises config names held above index next distinct)
+    taken-steps config c place names held next (is_downward config names held above index next)
+    (downward-rises config names held above index next distinct)
     (λ none. absurd (found-last held above cell found none))
 
-root-steps : (config : Config) (c : Call) (place : CpuPlace) (names : List Needed) (held : List HeldCell) (rd : ℕ) → IsTrue (are_distinct (granules_held held))
+root-steps : (config : Config) (c : Call) (place : CpuPlace) (names : List Needed) (held : List HeldCell) (rd : ℕ)
+    → IsTrue (are_distinct (granules_held held))
     → IsOne config.granules names rd → (o : Option Cell) → cell_in rd held ≡ o → IsStep config c place names held (take_root config names held rd o)
 root-steps config c place names held rd distinct one (Some (Rd realm)) found =
     part-steps config c place names held rd 0 realm.root (Rd realm) distinct found
 root-steps config c place names held rd distinct one _ found = named-steps config c place names held rd distinct one
 
-auxes-steps : (config : Config) (c : Call) (place : CpuPlace) (names : List Needed) (held : List HeldCell) (rec : ℕ) → IsTrue (are_distinct (granules_held held))
-    → IsOne config.granules names rec → (o : Option Cell) → cell_in rec held ≡ o → IsStep config c place names held (take_auxes config names held rec o)
+auxes-steps : (config : Config) (c : Call) (place : CpuPlace) (names : List Needed) (held : List HeldCell) (rec : ℕ)
+    → IsTrue (are_distinct (granules_held held))
+    → IsOne config.granules names rec → (o : Option Cell)
+    → cell_in rec held ≡ o → IsStep config c place names held (take_auxes config names held rec o)
 auxes-steps config c place names held rec distinct one (Some (Rec it)) found =
     part-steps config c place names held rec 0 (next_aux it held) (Rec it) distinct found
 auxes-steps config c place names held rec distinct one _ found = named-steps config c place names held rec distinct one
@@ -155,7 +160,8 @@ learn-steps config held rec distinct lock _ found shaped =
     named-steps config (call.RecEnter rec) Outside (named (call.RecEnter rec)) held rec distinct
     (record { is_lock = lock; is_one = named-has (needed rec tag.Rec ∷ []) (needed rec tag.Rec) (Contains-head (needed rec tag.Rec) []) })
 
-realm-steps : (config : Config) (held : List HeldCell) (rec rd : ℕ) → IsTrue (are_distinct (granules_held held)) → is_granule config.granules rec ≡ true
+realm-steps : (config : Config) (held : List HeldCell) (rec rd : ℕ)
+    → IsTrue (are_distinct (granules_held held)) → is_granule config.granules rec ≡ true
     → (o : Option Cell) → cell_in rec held ≡ o
     → IsStep config (call.RecEnter rec) Outside (needs_outside (Some rd) (call.RecEnter rec)) held (take_realm config held rec rd o)
 unfolding named
@@ -173,9 +179,11 @@ realm-steps config held rec rd distinct lock _ found =
           (Contains-tail (needed rd tag.Rd) (needed rec tag.Rec ∷ []) (needed rec tag.Rec) (Contains-head (needed rec tag.Rec) []));
     })
 
-enter-steps : (config : Config) (held : List HeldCell) (rec : ℕ) (learnt : Option ℕ) → IsTrue (are_distinct (granules_held held)) → is_granule config.granules rec ≡ true
+enter-steps : (config : Config) (held : List HeldCell) (rec : ℕ) (learnt : Option ℕ)
+    → IsTrue (are_distinct (granules_held held)) → is_granule config.granules rec ≡ true
     → has_bad_owner config rec (cell_in rec held) ≡ false
-    → IsStep config (call.RecEnter rec) Outside (needs_outside learnt (call.RecEnter rec)) held (next_to_enter config rec (cell_in rec held) held learnt)
+    → IsStep config (call.RecEnter rec) Outside (needs_outside learnt (call.RecEnter rec)) held
+    (next_to_enter config rec (cell_in rec held) held learnt)
 enter-steps config held rec None distinct lock shaped = learn-steps config held rec distinct lock (cell_in rec held) refl shaped
 enter-steps config held rec (Some rd) distinct lock shaped = realm-steps config held rec rd distinct lock (cell_in rec held) refl
 
@@ -191,7 +199,8 @@ first-one granules (n ∷ names) p locks missing = record {
 }
 
 only-one : (granules : ℕ) (n : Needed) → list_all (λ (m : Needed). is_granule granules m.granule) (n ∷ []) ≡ true → IsOne granules (n ∷ []) n.granule
-only-one granules n locks = record { is_lock = (and_parts (is_granule granules n.granule) true locks).0; is_one = named-has (n ∷ []) n (Contains-head n []) }
+only-one granules n locks =
+    record { is_lock = (and_parts (is_granule granules n.granule) true locks).0; is_one = named-has (n ∷ []) n (Contains-head n []) }
 
 -- each command by the names that it has without what is learnt
 plain-steps : (config : Config) (c : Call) (learnt : Option ℕ) (held : List HeldCell) → IsTrue (are_distinct (granules_held held))
@@ -200,9 +209,11 @@ plain-steps : (config : Config) (c : Call) (learnt : Option ℕ) (held : List He
 unfolding is_complete next_with_parts named holds_all
 plain-steps config (call.RecEnter rec) learnt held distinct locks incomplete other = absurd (other rec refl)
 plain-steps config (call.RealmDestroy rd) learnt held distinct locks incomplete other =
-    root-steps config (call.RealmDestroy rd) Outside (named (call.RealmDestroy rd)) held rd distinct (only-one config.granules (needed rd tag.Rd) locks) (cell_in rd held) refl
+    root-steps config (call.RealmDestroy rd) Outside (named (call.RealmDestroy rd)) held rd distinct
+    (only-one config.granules (needed rd tag.Rd) locks) (cell_in rd held) refl
 plain-steps config (call.RecDestroy rec) learnt held distinct locks incomplete other =
-    auxes-steps config (call.RecDestroy rec) Outside (named (call.RecDestroy rec)) held rec distinct (only-one config.granules (needed rec tag.Rec) locks) (cell_in rec held) refl
+    auxes-steps config (call.RecDestroy rec) Outside (named (call.RecDestroy rec)) held rec distinct
+    (only-one config.granules (needed rec tag.Rec) locks) (cell_in rec held) refl
 plain-steps config c learnt held distinct locks incomplete other =
     least-steps config c Outside (named c) true held (first_named (named c)) distinct
     (first-one config.granules (named c) (λ n. is_held n.granule held) locks incomplete)
@@ -224,18 +235,21 @@ first-held : (p : ℕ → Bool) (gs : List ℕ) (g : ℕ) → fold (found_or p) 
 first-held p [] g is = absurd (none-some g is)
 first-held p (x ∷ gs) g is = by (p x) is (first-held p gs g)
   where
-    by : (b : Bool) → fold (found_or p) (if b then Some x else None) gs ≡ Some g → (fold (found_or p) None gs ≡ Some g → Contains gs g) → Contains (x ∷ gs) g
+    by : (b : Bool) → fold (found_or p) (if b then Some x else None) gs ≡ Some g
+        → (fold (found_or p) None gs ≡ Some g → Contains gs g) → Contains (x ∷ gs) g
     by true found rest =
         subst (Contains (x ∷ gs)) (same_Some x g (sym (fold_stays (found_or p) (Some x) (λ y. refl) gs) ∙ found)) (Contains-head x gs)
     by false found rest = Contains-tail x gs g (rest found)
 
 -- what the plan frees is held
-spare-held : (config : Config) (keeps : Bool) (held : List HeldCell) (w : Way) (g : ℕ) → spare config keeps held w ≡ Some g → Contains (granules_held held) g
+spare-held : (config : Config) (keeps : Bool) (held : List HeldCell) (w : Way) (g : ℕ)
+    → spare config keeps held w ≡ Some g → Contains (granules_held held) g
 unfolding spare
 spare-held config keeps held w g is = by (is_realm_spare keeps held w.rd) refl is
   where
     by : (b : Bool) → is_realm_spare keeps held w.rd ≡ b
-        → (if b then Some w.rd else first_held (λ granule. is_above w.rd (come_to config held w) (table_held held granule)) held) ≡ Some g → Contains (granules_held held) g
+        → (if b then Some w.rd else first_held (λ granule. is_above w.rd (come_to config held w) (table_held held granule)) held) ≡ Some g
+        → Contains (granules_held held) g
     by true realm found =
         let parts = and_parts (not keeps) (is_held w.rd held && is_some (table_behind held w.rd)) realm in
         subst (Contains (granules_held held)) (same_Some w.rd g found)
@@ -243,7 +257,8 @@ spare-held config keeps held w g is = by (is_realm_spare keeps held w.rd) refl i
     by false kept found = first-held (λ granule. is_above w.rd (come_to config held w) (table_held held granule)) (granules_held held) g found
 
 -- with something held, what is spare is freed, or what is wanted is taken, or the last is freed
-way-steps : (config : Config) (c : Call) (place : CpuPlace) (names : List Needed) (held : List HeldCell) (rd : ℕ) → IsTrue (are_distinct (granules_held held))
+way-steps : (config : Config) (c : Call) (place : CpuPlace) (names : List Needed) (held : List HeldCell) (rd : ℕ)
+    → IsTrue (are_distinct (granules_held held))
     → (last_taken held ≡ None → ⊥) → (free : Option ℕ) → ((g : ℕ) → free ≡ Some g → Contains (granules_held held) g) → (part : Option Part)
     → IsStep config c place names held (free_or_take config names held rd free part)
 way-steps config c place names held rd distinct some (Some g) frees part = frees g refl
@@ -268,7 +283,8 @@ unfolding are_told
 untold-one c held untold = untold
 
 walk-steps : (config : Config) (c : Call) (w : Way) (held : List HeldCell) → IsTrue (are_distinct (granules_held held)) → way_of c ≡ Some w
-    → list_all (λ (n : Needed). is_granule config.granules n.granule) (named c) ≡ true → IsStep config c Outside (named c) held (next_to_walk config c held w)
+    → list_all (λ (n : Needed). is_granule config.granules n.granule) (named c) ≡ true
+    → IsStep config c Outside (named c) held (next_to_walk config c held w)
 walk-steps config c w held distinct is locks = by (are_told c held) refl
   where
     by : (b : Bool) → are_told c held ≡ b → IsStep config c Outside (named c) held
@@ -296,7 +312,8 @@ outside-steps config c learnt held distinct locks shaped incomplete = by (way_ta
     by : (o : Option Way) → way_taken c ≡ o → is_all_held config c held o ≡ false
         → IsStep config c Outside (needs_outside learnt c) held (next_on_way config c learnt held o)
     by None is open_yet =
-        parts-steps config c learnt held distinct locks (or_parts (has_misfit_part config c held) (is_misfit_way config held (way_taken c)) shaped).0 open_yet
+        parts-steps config c learnt held distinct locks
+        (or_parts (has_misfit_part config c held) (is_misfit_way config held (way_taken c)) shaped).0 open_yet
     by (Some w) is open_yet =
         subst (λ names. IsStep config c Outside names held (next_to_walk config c held w)) (needs-walk learnt c w (taken-way c w is))
         (walk-steps config c w held distinct (taken-way c w is) locks)
@@ -334,26 +351,31 @@ inside-steps k config c rec rd held distinct = by k
         way-steps config c (Inside rec rd) names held w.rd distinct (read-some c rec rd held w is) (spare config true held w)
         (spare-held config true held w) (wanted config c held w)
 
-    by : (kind : Class) → is_settled_inside kind config c rec rd held ≡ false → IsStep config c (Inside rec rd) names held (next_inside kind config c rec rd held)
+    by : (kind : Class) → is_settled_inside kind config c rec rd held ≡ false
+        → IsStep config c (Inside rec rd) names held (next_inside kind config c rec rd held)
     by ByHost open_yet = absurd (false≢true (sym open_yet))
     by ByRealm open_yet =
-        reads (one (or_parts (is_misfit config c rec rd held) (is_held rec held && is_held rd held && is_read_over config held (way_inside c rec rd held)) open_yet).0)
+        reads (one (or_parts (is_misfit config c rec rd held)
+        (is_held rec held && is_held rd held && is_read_over config held (way_inside c rec rd held)) open_yet).0)
         (way_inside c rec rd held) refl
     by ByExit open_yet = named-steps config c (Inside rec rd) names held rec distinct
         (one (or_parts (is_misfit config c rec rd held) (is_held rec held) open_yet).0)
 
 -- ---- any command
 
-unsettled-steps : (config : Config) (c : Call) (place : CpuPlace) (learnt : Option ℕ) (held : List HeldCell) → IsTrue (are_distinct (granules_held held))
+unsettled-steps : (config : Config) (c : Call) (place : CpuPlace) (learnt : Option ℕ) (held : List HeldCell)
+    → IsTrue (are_distinct (granules_held held))
     → is_settled config c place held ≡ false → IsStep config c place (needs place learnt c) held (next_unsettled config c place learnt held)
 unfolding is_settled words_fit
 unsettled-steps config c Outside learnt held distinct unsettled = by (class_of c) unsettled
   where
-    by : (k : Class) → is_settled_outside k config c held ≡ false → IsStep config c Outside (needs_outside learnt c) held (next_outside config c learnt held)
+    by : (k : Class) → is_settled_outside k config c held ≡ false
+        → IsStep config c Outside (needs_outside learnt c) held (next_outside config c learnt held)
     by ByRealm is = absurd (false≢true (sym is))
     by ByExit is = absurd (false≢true (sym is))
     by ByHost is =
-        let parts = or_parts (not (words_fit config c) || has_wrong (named c) held || is_unshaped_outside config c held) (is_all_held config c held (way_taken c)) is in
+        let parts = or_parts (not (words_fit config c) || has_wrong (named c) held || is_unshaped_outside config c held)
+        (is_all_held config c held (way_taken c)) is in
         let front = or_parts (not (words_fit config c) || has_wrong (named c) held) (is_unshaped_outside config c held) parts.0 in
         let fit = not-false (words_fit config c) (or_parts (not (words_fit config c)) (has_wrong (named c) held) front.0).0 in
         outside-steps config c learnt held distinct
@@ -368,13 +390,14 @@ step-planned config command place learnt held Ready step = absurd step
 step-planned config command place learnt held _ step = step
 
 -- a step isn't ready
-step-unready : (config : Config) (c : Call) (place : CpuPlace) (names : List Needed) (held : List HeldCell) (n : Next) → IsStep config c place names held n
-    → false ≡ is_ready n
+step-unready : (config : Config) (c : Call) (place : CpuPlace) (names : List Needed) (held : List HeldCell) (n : Next)
+    → IsStep config c place names held n → false ≡ is_ready n
 step-unready config c place names held Ready step = absurd step
 step-unready config c place names held _ step = refl
 
 -- where a CPU isn't ready, what it does next is a step
-pub next-step : (config : Config) (c : Call) (place : CpuPlace) (learnt : Option ℕ) (held : List HeldCell) → IsTrue (are_distinct (granules_held held))
+pub next-step : (config : Config) (c : Call) (place : CpuPlace) (learnt : Option ℕ) (held : List HeldCell)
+    → IsTrue (are_distinct (granules_held held))
     → is_ready (next config c place learnt held) ≡ false → IsStep config c place (needs place learnt c) held (next config c place learnt held)
 unfolding next
 next-step config c place learnt held distinct = by (is_settled config c place held) refl

@@ -1,10 +1,8 @@
 -- The end that is chosen for a stretch is one that its rows allow, and the greatest.
-use Rattle.std.proofs.Common.{◌≡◌, ℕ, zero, suc, ◌+◌, ◌-◌, ◌*◌, ◌<◌, ◌≤◌, min, Bool, true, false, ◌&&◌, ◌==◌, if◌then◌else◌, refl, sym, ap, ◌∙◌, subst, arith, eqb-true, eq-eqb, add-one, mul-le-mul_right, div-mul-le_self}
-use Rattle.std.proofs.lemmas.Bool.{false≢true, and_parts, and_from}
-use Rattle.std.proofs.lemmas.Bool.Decides.{nat_tests}
+use Rattle.command_core.proofs.Common.{◌&&◌, ◌*◌, ◌+◌, ◌-◌, ◌<◌, ◌==◌, ◌∙◌, ◌≡◌, ◌≤◌, Bool, State, and_from, and_parts, ap, arith, eq-eqb, eqb-true, false, false≢true, if◌then◌else◌, nat_tests, refl, subst, suc, sym, true, zero, ℕ}
+use Rattle.std.proofs.Common.{min, add-one, mul-le-mul_right, div-mul-le_self}
 use Rattle.std.proofs.lemmas.Nat.{le-div, pow_pos}
 use Rattle.rmm_spec.specs.declared.accepted.Stretch.{Stretch}
-use Rattle.rmm_spec.specs.State.{State}
 use Rattle.rmm_spec.specs.Walk.{entry_size, table_size, table_number}
 use Rattle.rmm_spec.specs.Step.Ripas.{IsReached}
 use Rattle.command_core.specs.Furthest.{leading, may_set, most_set, furthest}
@@ -51,7 +49,8 @@ leading-most (suc n) p c within each = by (c == suc n) refl (leading-most n p)
         let long : n ≤ leading n p = rest n (omega arith) (λ k less. each k (omega (arith, less, same))) in
         let few = leading-le n p in
         let all : leading n p ≡ n = omega (arith, long, few) in
-        let whole : (leading n p == n && p n) ≡ true = and_from (leading n p == n) (p n) (eq-eqb (leading n p) n all) (each n (omega (arith, same))) in
+        let whole : (leading n p == n && p n) ≡ true =
+        and_from (leading n p == n) (p n) (eq-eqb (leading n p) n all) (each n (omega (arith, same))) in
         subst (λ b. c ≤ (if b then suc n else leading n p)) (sym whole) (omega (arith, same))
     by false is rest =
         let apart : (c ≡ suc n → ⊥) = λ same. false≢true (sym is ∙ eq-eqb c (suc n) same) in

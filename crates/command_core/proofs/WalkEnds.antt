@@ -1,7 +1,5 @@
 -- Where a walk ends, level by level.
-use Rattle.std.proofs.Common.{◌≡◌, ℕ, zero, suc, ◌-◌, ◌<◌, true, false, refl, arith}
-use Rattle.std.specs.Prelude.{is_some}
-use Rattle.rmm_spec.specs.State.{State}
+use Rattle.command_core.proofs.Common.{◌-◌, ◌<◌, ◌≡◌, State, arith, false, is_some, refl, suc, true, zero, ℕ}
 use Rattle.rmm_spec.specs.Walk.{reach, table_number}
 
 -- no walk ends above level 0
@@ -11,7 +9,8 @@ reach-top s rd ipa zero top = refl
 reach-top s rd ipa (suc level) top = absurd (omega arith)
 
 -- the walk up to a level ends there, where that has a table
-pub reach-here : (s : State) (rd ipa level : ℕ) → 0 < level → is_some (s.table rd level (table_number level ipa)) ≡ true → level ≡ reach s rd ipa level
+pub reach-here : (s : State) (rd ipa level : ℕ)
+    → 0 < level → is_some (s.table rd level (table_number level ipa)) ≡ true → level ≡ reach s rd ipa level
 unfolding reach
 reach-here s rd ipa zero some there = absurd (omega arith)
 reach-here s rd ipa (suc level) some there = rw there refl

@@ -1,51 +1,33 @@
 -- A host's command whose walk is over is answered from what is held as by every whole that agrees, and its change can be made of that.
-use Rattle.std.proofs.Common.{◌≡◌, ℕ, ◌+◌, ◌≤◌, Bool, true, false, ◌&&◌, ◌||◌, if◌then◌else◌, [], ◌∷◌, Option, Some, None, ◌⊎◌, inl, inr, Result, Ok, Err, refl, sym, ap, ◌∙◌, subst}
-use Rattle.std.specs.Prelude.{is_some, is_none}
-use Rattle.std.proofs.lemmas.Bool.{false≢true, and_parts, or_cases}
-use Rattle.rmm_spec.specs.HistoryText.{Config}
-use Rattle.rmm_spec.specs.declared.accepted.Accepted.{Accepted}
-use Rattle.rmm_spec.specs.declared.accepted.Accepted.TheVariants.{Done, Reaches}
+use Rattle.command_core.proofs.Common.{◌&&◌, ◌+◌, ◌||◌, ◌∙◌, ◌∷◌, ◌≡◌, ◌≤◌, Accepted, Bool, Call, Change, Command, Config, Done, Err, Hold, IsAnswer, Needed, None, Ok, Option, Outside, Reaches, Refusal, Result, Some, State, Unchanged, [], and_parts, ap, are_recs_counted, call_of, can_make, class_of, false, false≢true, flat_state, if◌then◌else◌, inl, inr, is_granule, is_none, is_some, is_vmid_listed, list_all, misshaped, named, new_cells, none-some, outside_answer, refl, seen_state, subst, sym, table_placed, true, way_of, way_taken, words_fit, words_of, ℕ}
+use Rattle.std.proofs.Common.{◌⊎◌}
+use Rattle.std.proofs.lemmas.Bool.{or_cases}
 use Rattle.rmm_spec.specs.declared.accepted.Stretch.{Stretch}
 use Rattle.rmm_spec.specs.declared.accepted.StretchUse.{StretchUse}
 use Rattle.rmm_spec.specs.declared.accepted.StretchUse.TheVariants.{Init, Requested}
-use Rattle.rmm_spec.specs.declared.call.Call.{Call}
 use Rattle.rmm_spec.specs.declared.call.Call.TheVariants as call
-use Rattle.rmm_spec.specs.declared.change.Change.{Change}
-use Rattle.rmm_spec.specs.declared.change.Change.TheVariants.{Unchanged, TableMade, TableDestroyed, EntriesChanged}
-use Rattle.rmm_spec.specs.declared.command.Command.{Command}
-use Rattle.rmm_spec.specs.declared.refusal.Refusal.{Refusal}
-use Rattle.rmm_spec.specs.Call.{call_of, class_of}
-use Rattle.rmm_spec.specs.State.{State}
-use Rattle.rmm_spec.specs.Rows.{ok, done, Needed, all_allowed}
+use Rattle.rmm_spec.specs.declared.change.Change.TheVariants.{TableMade, TableDestroyed, EntriesChanged}
+use Rattle.rmm_spec.specs.Rows.{ok, done, all_allowed}
 use Rattle.rmm_spec.specs.Walk.{entry_size, table_number}
 use Rattle.rmm_spec.specs.Step.{answer_of, outcome}
 use Rattle.rmm_spec.specs.Step.Ripas.{IsReached, stretch_change, reached_change}
-use Rattle.rmm_spec.specs.Flat.{flat_state}
-use Rattle.rmm_spec.specs.Shape.{Outside}
-use Rattle.rmm_spec.specs.Local.{Hold, LocalStep}
+use Rattle.rmm_spec.specs.Local.{LocalStep}
 use Rattle.rmm_sound.proofs.Entries.{value_there}
 use Rattle.rmm_sound.proofs.Runs.{reached_applies}
 use Rattle.world_laws.proofs.Refusals.{outcome-host}
 use Rattle.shape_laws.specs.Whole.{side_changed}
 use Rattle.shape_laws.proofs.Ties.{well_shaped-is_sound}
-use Rattle.command_rows.specs.Answers.{outside_answer, IsOwned}
-use Rattle.walk_laws.specs.SeenState.{table_placed, seen_state}
+use Rattle.command_rows.specs.Answers.{IsOwned}
 use Rattle.walk_laws.specs.TableCells.{holds_change, tables_changed}
-use Rattle.walk_laws.specs.Walking.{Way, way_of, keeps_realm, are_told, is_table_error, is_refused_early, seen_answer, is_way_settled}
+use Rattle.walk_laws.specs.Walking.{Way, keeps_realm, are_told, is_table_error, is_refused_early, seen_answer, is_way_settled}
 use Rattle.walk_laws.proofs.Accepted.{accepted-held}
 use Rattle.walk_laws.proofs.Settled.{IsHosts, hosts, stretch-placed, first-reached, reached-told, reached-seen, early-error}
 use Rattle.walk_laws.proofs.Steps.{cells-held, reached-local}
 use Rattle.walk_laws.proofs.Told.{walk-told, early-told}
-use Rattle.std.specs.List.{list_all}
-use Rattle.rmm_spec.specs.Step.Terms.{words_of, named}
-use Rattle.std.proofs.lemmas.Option.{none-some}
-use Rattle.rmm_spec.specs.Lookup.{is_granule}
-use Rattle.command_core.specs.Sides.{is_vmid_listed, are_recs_counted}
-use Rattle.command_core.specs.Named.{words_fit}
-use Rattle.command_core.specs.Changed.{new_cells, new_place, hold_changed, CanChange, IsFurthest, IsAnswer, can_make}
-use Rattle.command_core.specs.Decided.{made_answer, misshaped}
+use Rattle.command_core.specs.Changed.{new_place, hold_changed, CanChange, IsFurthest}
+use Rattle.command_core.specs.Decided.{made_answer}
 use Rattle.command_core.specs.Furthest.{furthest}
-use Rattle.command_core.specs.Walks.{spare, is_walk_over, way_taken}
+use Rattle.command_core.specs.Walks.{spare, is_walk_over}
 use Rattle.command_core.proofs.Changes.{is_answer}
 use Rattle.command_core.proofs.Fits.{applied-fits}
 use Rattle.command_core.proofs.Made.{no_whole, made-answered}
@@ -91,13 +73,15 @@ unfolding new_cells new_place side_changed
 stretch-changed hold Init rd level base first last top = refl
 stretch-changed hold (Requested rec ripas) rd level base first last top = refl
 
-reached-changed : (hold : Hold) (stretch : Stretch) (top : ℕ) → tables_changed hold (reached_change stretch top) ≡ hold_changed hold (reached_change stretch top)
+reached-changed : (hold : Hold) (stretch : Stretch) (top : ℕ)
+    → tables_changed hold (reached_change stretch top) ≡ hold_changed hold (reached_change stretch top)
 unfolding reached_change
 reached-changed hold stretch top = stretch-changed hold stretch.purpose stretch.rd stretch.level stretch.base _ _ top
 
 -- ---- where the walk's end is held
 
-ends-answered : (config : Config) (cpu : ℕ) (command : Command) (hold : Hold) (a : Result Accepted Refusal) → are_told (call_of command) hold.cells ≡ true
+ends-answered : (config : Config) (cpu : ℕ) (command : Command) (hold : Hold) (a : Result Accepted Refusal)
+    → are_told (call_of command) hold.cells ≡ true
     → is_way_settled config (call_of command) hold.cells (way_of (call_of command)) ≡ true
     → answer_of (seen_state config hold.cells) cpu (call_of command) ≡ a
     → ((w : Whole config cpu hold) → outcome (state config cpu hold w) cpu (call_of command) ≡ a)
@@ -163,7 +147,8 @@ ends-answered config cpu command hold (Ok (Reaches stretch)) told settled is eac
 -- ---- any walk
 
 -- the side table tells nothing that a walk asks
-pub outside-walk : (vmids recs : ℕ → Bool) (s : State) (cpu : ℕ) (c : Call) → is_some (way_of c) ≡ true → answer_of s cpu c ≡ outside_answer vmids recs s cpu c
+pub outside-walk : (vmids recs : ℕ → Bool) (s : State) (cpu : ℕ) (c : Call)
+    → is_some (way_of c) ≡ true → answer_of s cpu c ≡ outside_answer vmids recs s cpu c
 unfolding outside_answer way_of class_of
 outside-walk vmids recs s cpu (call.RttCreate rd rtt ipa level) walks = refl
 outside-walk vmids recs s cpu _ walks = cc
@@ -174,7 +159,8 @@ unfolding way_of
 owned-walk s (call.RecEnter rec) walks = absurd (false≢true walks)
 owned-walk s _ walks = tt
 
-pub walk-ready : (config : Config) (cpu : ℕ) (command : Command) (hold : Hold) (way : Way) → way_of (call_of command) ≡ Some way → hold.place ≡ Outside
+pub walk-ready : (config : Config) (cpu : ℕ) (command : Command) (hold : Hold) (way : Way)
+    → way_of (call_of command) ≡ Some way → hold.place ≡ Outside
     → is_walk_over config (call_of command) hold.cells way ≡ true
     → IsAnswer config cpu command hold (made_answer config hold.cells hold.side (told_outside config cpu hold (call_of command)))
 unfolding is_walk_over

@@ -1,21 +1,15 @@
 -- A well-shaped whole that agrees with what is held: its cells there, what the side table tells of it, and where a CPU is.
-use Rattle.std.proofs.Common.{◌≡◌, ℕ, zero, suc, ◌*◌, ◌≤◌, Bool, true, false, not, ◌==◌, if◌then◌else◌, Option, Some, None, refl, sym, ap, ◌∙◌, arith, eqb-true, eq-eqb}
-use Rattle.std.specs.Prelude.{IsTrue, is_some, nat_le, unwrap_or}
-use Rattle.std.proofs.lemmas.Bool.{false≢true, false_from_ne_true}
-use Rattle.std.proofs.lemmas.Bool.Decides.{nat_tests}
-use Rattle.std.proofs.lemmas.Option.{none-some}
-use Rattle.rmm_spec.specs.HistoryText.{Config}
-use Rattle.rmm_spec.specs.State.{State, RealmRecord, RecRecord}
-use Rattle.rmm_spec.specs.Lookup.{tag_number, is_granule, any_below, has_vmid, is_vmid_used, is_owned_by, has_rec, rec_inside, runs_on, no_realm, realm_at, no_rec, rec_at}
-use Rattle.rmm_spec.specs.Cell.{Cell, Undelegated, Rd, Rec, tag_of, realm_in, rec_in, realms_of, recs_of}
-use Rattle.rmm_spec.specs.Flat.{flat_state}
-use Rattle.rmm_spec.specs.Shape.{CpuPlace, Inside, IsWellShaped, count_below}
-use Rattle.rmm_spec.specs.Local.{Hold, Agrees}
+use Rattle.command_core.proofs.Common.{◌*◌, ◌==◌, ◌∙◌, ◌≡◌, ◌≤◌, Bool, Config, Hold, Inside, IsTrue, None, Option, Rd, RealmRecord, Rec, RecRecord, Some, State, Undelegated, any_below, ap, are_recs_counted, arith, cell_in, eq-eqb, eqb-true, false, false≢true, flat_state, if◌then◌else◌, is_granule, is_held, is_some, is_vmid_listed, nat_le, nat_tests, none-some, not, realm_at, realm_in, rec_at, refl, suc, sym, tag_number, tag_of, true, zero, ℕ}
+use Rattle.std.specs.Prelude.{unwrap_or}
+use Rattle.std.proofs.lemmas.Bool.{false_from_ne_true}
+use Rattle.rmm_spec.specs.Lookup.{has_vmid, is_vmid_used, is_owned_by, has_rec, rec_inside, runs_on, no_realm, no_rec}
+use Rattle.rmm_spec.specs.Cell.{Cell, rec_in, realms_of, recs_of}
+use Rattle.rmm_spec.specs.Shape.{CpuPlace, IsWellShaped, count_below}
+use Rattle.rmm_spec.specs.Local.{Agrees}
 use Rattle.spec_lemmas.proofs.Placed.{passing_below, any_below-from, running, runs_on-running, cell_is_granule, cell_granule, rec_granule}
 use Rattle.shape_laws.proofs.Cells.{cell-rec}
 use Rattle.walk_laws.proofs.Wholes as walks
-use Rattle.command_core.specs.Seen.{cell_in, is_held, known_cell}
-use Rattle.command_core.specs.Sides.{is_vmid_listed, are_recs_counted}
+use Rattle.command_core.specs.Seen.{known_cell}
 use Rattle.command_core.proofs.Searches.{greatest_below-one, any_below-counted}
 
 pub record Whole (config : Config) (cpu : ℕ) (hold : Hold) : Type 0 where
@@ -35,22 +29,27 @@ walk_whole config cpu hold w = record { cells = w.cells; places = w.places; shap
 -- ---- cells
 
 -- the whole's cell at a granule that is held
-pub same_at : (config : Config) (cpu : ℕ) (hold : Hold) (w : Whole config cpu hold) (g : ℕ) → IsTrue (is_held g hold.cells) → w.cells g ≡ known_cell hold.cells g
+pub same_at : (config : Config) (cpu : ℕ) (hold : Hold) (w : Whole config cpu hold) (g : ℕ)
+    → IsTrue (is_held g hold.cells) → w.cells g ≡ known_cell hold.cells g
 same_at config cpu hold w g held = walks.same_at (walk_whole config cpu hold w) g held
 
-pub whole_cell : (config : Config) (cpu : ℕ) (hold : Hold) (w : Whole config cpu hold) (g : ℕ) (c : Cell) → cell_in g hold.cells ≡ Some c → w.cells g ≡ c
+pub whole_cell : (config : Config) (cpu : ℕ) (hold : Hold) (w : Whole config cpu hold) (g : ℕ) (c : Cell)
+    → cell_in g hold.cells ≡ Some c → w.cells g ≡ c
 whole_cell config cpu hold w g c found = walks.whole_cell (walk_whole config cpu hold w) g c found
 
 -- a granule that holds something is one of the machine's
-pub tagged_granule : (config : Config) (cpu : ℕ) (hold : Hold) (w : Whole config cpu hold) (g : ℕ) → (tag_number (tag_of (w.cells g)) == 0) ≡ false → is_granule config.granules g ≡ true
+pub tagged_granule : (config : Config) (cpu : ℕ) (hold : Hold) (w : Whole config cpu hold) (g : ℕ)
+    → (tag_number (tag_of (w.cells g)) == 0) ≡ false → is_granule config.granules g ≡ true
 tagged_granule config cpu hold w g other =
-    cell_is_granule config hold.side w.places w.cells w.shaped g (λ undelegated. false≢true (sym other ∙ ap (λ (c : Cell). tag_number (tag_of c) == 0) undelegated))
+    cell_is_granule config hold.side w.places w.cells w.shaped g
+    (λ undelegated. false≢true (sym other ∙ ap (λ (c : Cell). tag_number (tag_of c) == 0) undelegated))
 
 pub realm_cell : (c : Cell) → is_some (realm_in c) ≡ true → (realm : RealmRecord) × (c ≡ Rd realm)
 realm_cell (Rd realm) is = (realm, refl)
 realm_cell _ is = absurd (false≢true is)
 
-pub realm_at-cell : (config : Config) (cells : ℕ → Cell) (rd : ℕ) (realm : RealmRecord) → cells rd ≡ Rd realm → realm_at (flat_state config cells) rd ≡ realm
+pub realm_at-cell : (config : Config) (cells : ℕ → Cell) (rd : ℕ) (realm : RealmRecord)
+    → cells rd ≡ Rd realm → realm_at (flat_state config cells) rd ≡ realm
 unfolding realm_at flat_state
 realm_at-cell config cells rd realm is = ap (λ (c : Cell). unwrap_or (realm_in c) no_realm) is
 
@@ -87,7 +86,8 @@ is_vmid_used-listed config cpu hold w vmid = by (hold.side.vmids vmid) refl
         none-some (found.0 * 4096) (sym is ∙ (ap hold.side.vmids (sym owner.2) ∙ w.shaped.realms.listed (found.0 * 4096) owner.0 owner.1)))
     by (Some rd) is =
         let used = w.shaped.realms.used vmid rd is in
-        let at = cell_granule config hold.side w.places w.cells w.shaped rd (undelegated-rd (w.cells rd) (ap (λ (o : Option RealmRecord). is_some o) used.1)) in
+        let at = cell_granule config hold.side w.places w.cells w.shaped rd
+        (undelegated-rd (w.cells rd) (ap (λ (o : Option RealmRecord). is_some o) used.1)) in
         any_below-from config.granules (λ k. has_vmid vmid (realms_of w.cells (k * 4096))) at.0 at.1
         (ap (has_vmid vmid) (ap (realms_of w.cells) at.2 ∙ used.1) ∙ eq-eqb used.0.vmid vmid used.2)
 
@@ -136,7 +136,8 @@ pub record InsideCells (cells : ℕ → Cell) (rec rd : ℕ) : Type 0 where
   pub realm : RealmRecord
   pub is_realm : cells rd ≡ Rd realm
 
-pub inside-cells : (config : Config) (cpu : ℕ) (hold : Hold) (w : Whole config cpu hold) (rec rd : ℕ) → hold.place ≡ Inside rec rd → InsideCells w.cells rec rd
+pub inside-cells : (config : Config) (cpu : ℕ) (hold : Hold) (w : Whole config cpu hold) (rec rd : ℕ)
+    → hold.place ≡ Inside rec rd → InsideCells w.cells rec rd
 inside-cells config cpu hold w rec rd place =
     let runs = (w.shaped.recs.inside cpu rec rd).0 (w.placed ∙ place) in
     let owned = ap (λ x. is_some (realm_in (w.cells x))) (sym runs.is_owner) ∙ w.shaped.recs.owned rec runs.it runs.is_rec in

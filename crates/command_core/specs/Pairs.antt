@@ -35,4 +35,5 @@ pub pairs-few : (p : HeldPairs) → length (pair_cells p) ≤ 6
 pairs-few p = omega (arith, length-paired p.granules.items p.cells.items p.same_count, p.few)
 
 pub pairs-distinct : (p : HeldPairs) → IsTrue (are_distinct (granules_held (pair_cells p)))
-pairs-distinct p = subst (λ granules. IsTrue (are_distinct granules)) (sym (granules_held-paired p.granules.items p.cells.items p.same_count)) p.distinct
+pairs-distinct p =
+    subst (λ granules. IsTrue (are_distinct granules)) (sym (granules_held-paired p.granules.items p.cells.items p.same_count)) p.distinct

@@ -25,4 +25,5 @@ is_under rd level number (Some table) = is_same_entry rd level number table.plac
 
 -- whether a held table is one level below that of the number, and under it
 unfoldable pub is_above_held : List HeldCell → ℕ → ℕ → ℕ → Bool
-is_above_held held rd level number = nat_lt level 3 && list_any (λ granule. is_under rd (level + 1) number (table_held held granule)) (granules_held held)
+is_above_held held rd level number =
+    nat_lt level 3 && list_any (λ granule. is_under rd (level + 1) number (table_held held granule)) (granules_held held)

@@ -56,7 +56,8 @@ has_other_owner rd _ = false
 -- whether the REC and realm of a CPU's place can't be what the place says
 unfoldable pub is_misplaced : Config → ℕ → ℕ → List HeldCell → Bool
 is_misplaced config rec rd held =
-    not (is_granule config.granules rec && is_granule config.granules rd && not (rec == rd)) || has_wrong (needed rec tag.Rec ∷ needed rd tag.Rd ∷ []) held
+    not (is_granule config.granules rec && is_granule config.granules rd && not (rec == rd))
+    || has_wrong (needed rec tag.Rec ∷ needed rd tag.Rd ∷ []) held
     || has_other_owner rd (cell_in rec held)
 
 abbrev pub is_misfit_way : Config → List HeldCell → Option Way → Bool

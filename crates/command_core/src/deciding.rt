@@ -22,7 +22,8 @@ use granule_state::Config;
 use rmm_spec::{Accepted, Call, Change, Command, Condition, Refusal, Reply, Stretch};
 
 /// The reply and the change of a command that what is held settles. Together they are a step of the machine, whatever
-/// the cells are that aren't held; a refusal changes nothing, and a stretch is set as far as it may be. The change is made by `apply`, with the room that `room` takes.
+/// the cells are that aren't held; a refusal changes nothing, and a stretch is set as far as it may be. The change is made by `apply`, with the room
+/// that `room` takes.
 pub fn decide<H: Held>(
     config: &Config,
     command: &Command,
@@ -96,7 +97,8 @@ fn settled_answer<'a, H: Held>(
     requires { IsTrue (is_settled config.now call.now (place_of place.now) (H.cells held.now)) }
     ensures answer { result ≡ spec.settled_answer config.now cpu call.now (H.cells held.now)
         (side_or_unlisted (option_map side_of (option_copied side.entry))) (place_of place.now) }
-    ensures makes { CanMakeAnswer (hold_of (H.cells held.now) (side_or_unlisted (option_map side_of (option_copied side.entry))) (place_of place.now)) result }
+    ensures makes { CanMakeAnswer (hold_of (H.cells held.now)
+        (side_or_unlisted (option_map side_of (option_copied side.entry))) (place_of place.now)) result }
 {
     let sight = HeldSight { config, held, side };
     if is_unshaped(&sight, call, place) {
@@ -115,7 +117,8 @@ fn rows_answer<H: Held>(
 ) -> Result<Accepted, Refusal>
     requires settled { IsTrue (is_settled sight.now.config.now call.now (place_of place.now) (H.cells sight.now.held.now)) }
     requires shaped { is_unshaped sight.now.config.now call.now (place_of place.now) (H.cells sight.now.held.now) ≡ false }
-    ensures { result ≡ spec.rows_answer sight.now.config.now cpu call.now (H.cells sight.now.held.now) (option_map side_of (option_copied sight.now.side)) (place_of place.now) }
+    ensures { result ≡ spec.rows_answer sight.now.config.now cpu call.now (H.cells sight.now.held.now)
+        (option_map side_of (option_copied sight.now.side)) (place_of place.now) }
 {
     match *place {
         CpuPlace::Outside => answer_outside(sight, cpu, call),

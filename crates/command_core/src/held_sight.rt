@@ -30,7 +30,8 @@ impl<'a, H: Held> HeldSight<'a, H> {
 
     // The state of a granule. That of a realm whose table is held is known.
     fn tag(&self, granule: u64) -> Tag
-        ensures { result ≡ whole.tag_of (spec.cell_or (cell_in granule (H.cells self.now.held.now)) (spec.realm_behind (H.cells self.now.held.now) granule)) }
+        ensures { result
+            ≡ whole.tag_of (spec.cell_or (cell_in granule (H.cells self.now.held.now)) (spec.realm_behind (H.cells self.now.held.now) granule)) }
     {
         match self.held.cell(Pa::new(granule)) {
             Some(cell) => cell.tag(),
@@ -51,7 +52,8 @@ impl<'a, H: Held> HeldSight<'a, H> {
 
     // The realm in a granule.
     fn realm_in(&self, granule: u64) -> Option<Realm>
-        ensures { result ≡ whole.realm_in (spec.cell_or (cell_in granule (H.cells self.now.held.now)) (spec.realm_behind (H.cells self.now.held.now) granule)) }
+        ensures { result
+            ≡ whole.realm_in (spec.cell_or (cell_in granule (H.cells self.now.held.now)) (spec.realm_behind (H.cells self.now.held.now) granule)) }
     {
         match self.held.cell(Pa::new(granule)) {
             Some(Cell::Rd(descriptor)) => Some(*descriptor.realm()),
@@ -62,7 +64,8 @@ impl<'a, H: Held> HeldSight<'a, H> {
 
     // The REC in a granule.
     fn rec_in(&self, granule: u64) -> Option<Rec>
-        ensures { result ≡ whole.rec_in (spec.cell_or (cell_in granule (H.cells self.now.held.now)) (spec.realm_behind (H.cells self.now.held.now) granule)) }
+        ensures { result
+            ≡ whole.rec_in (spec.cell_or (cell_in granule (H.cells self.now.held.now)) (spec.realm_behind (H.cells self.now.held.now) granule)) }
     {
         match self.held.cell(Pa::new(granule)) {
             Some(Cell::Rec(rec)) => Some(*rec),

@@ -128,7 +128,8 @@ fn is_under<H: Held>(held: &H, granule: Pa, rd: u64, level: u8, number: u64) -> 
 
 // Whether one that is held in some granule is.
 fn holds_under<H: Held>(held: &H, rd: u64, level: u8, number: u64) -> bool
-    ensures { result ≡ list_any (λ granule. standing.is_under rd level number (spec.table_held (H.cells held.now) granule)) (granules_held (H.cells held.now)) }
+    ensures { result
+        ≡ list_any (λ granule. standing.is_under rd level number (spec.table_held (H.cells held.now) granule)) (granules_held (H.cells held.now)) }
 {
     held.held()
         .iter()

@@ -44,13 +44,15 @@ pub fn settled_commands_are_ready()
 pub fn tested_takes_rise()
     ensures upward { (config : Config) (names : List Needed) (held : List HeldCell) (next : ℕ) → IsTrue (are_distinct (granules_held held))
         → is_upward config names held next ≡ true → IsRisingTake config names held next }
-    ensures downward { (config : Config) (names : List Needed) (held : List HeldCell) (above index next : ℕ) → IsTrue (are_distinct (granules_held held))
+    ensures downward { (config : Config) (names : List Needed) (held : List HeldCell) (above index next : ℕ)
+        → IsTrue (are_distinct (granules_held held))
         → is_downward config names held above index next ≡ true → IsRisingTake config names held next }
 {}
 
 /// A decided change that is made of what is held is a local step, from what was held to what is held then.
 pub fn applied_decisions_are_local()
-    ensures { (config : Config) (cpu : ℕ) (command : Command) (hold new : Hold) (given : Reply) (change : Change) → Decides config cpu command hold given change
+    ensures { (config : Config) (cpu : ℕ) (command : Command) (hold new : Hold) (given : Reply) (change : Change)
+        → Decides config cpu command hold given change
         → new.cells ≡ replaced_all hold.cells (new_cells hold.cells change) → new.side ≡ side_changed (known_cell hold.cells) hold.side change
         → new.place ≡ new_place hold.cells hold.place change → LocalStep config cpu command given hold new }
 {}

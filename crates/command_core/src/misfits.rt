@@ -128,7 +128,8 @@ impl<'a, H: Held> HeldSight<'a, H> {
 
     // Whether an entry of some held table for the address names such.
     fn has_misfit_table(&self, ipa: u64) -> bool
-        ensures { result ≡ list_any (λ granule. spec.is_misfit_table self.now.config.now (H.cells self.now.held.now) ipa (table_held (H.cells self.now.held.now) granule)) (granules_held (H.cells self.now.held.now)) }
+        ensures { result ≡ list_any (λ granule. spec.is_misfit_table self.now.config.now (H.cells self.now.held.now) ipa
+            (table_held (H.cells self.now.held.now) granule)) (granules_held (H.cells self.now.held.now)) }
     {
         self.held
             .held()

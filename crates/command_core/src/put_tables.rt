@@ -68,7 +68,8 @@ fn change_entries(table: &mut Table, change: EntryChange)
 fn set_entries<H: Held>(held: &mut H, granule: u64, change: EntryChange)
     requires table { IsTrue (is_some (table_held (H.cells held.old) granule)) }
     requires fits { IsTrue (fits_entries change) }
-    ensures cells { H.cells held.new ≡ replaced_all (H.cells held.old) (entry_cells (H.cells held.old) (spec_whole.entries_changed change) (Some granule)) }
+    ensures cells { H.cells held.new
+        ≡ replaced_all (H.cells held.old) (entry_cells (H.cells held.old) (spec_whole.entries_changed change) (Some granule)) }
     ensures kept { (g : ℕ) → is_held g (H.cells held.new) ≡ is_held g (H.cells held.old) }
 {
     let mut table = take_table(held, granule);
@@ -85,14 +86,16 @@ pub(crate) fn put_entries<H: Held>(
     realm: Option<RealmChange>,
     rec: Option<RecChange>,
 )
-    requires held { AreAllHeld (H.cells held.old) (tag_cells (H.cells held.old) page ++ (realm_cells (H.cells held.old) realm ++ (rec_cells (H.cells held.old) rec
+    requires held { AreAllHeld (H.cells held.old)
+        (tag_cells (H.cells held.old) page ++ (realm_cells (H.cells held.old) realm ++ (rec_cells (H.cells held.old) rec
         ++ entry_cells (H.cells held.old) (spec_whole.entries_changed entries) (Some granule)))) }
     requires table { IsTrue (is_some (table_held (H.cells held.old) granule)) }
     requires entries { IsTrue (fits_entries entries) }
     requires page { IsTrue (fits_page page) }
     requires realm { IsTrue (fits_realm_change (H.cells held.old) realm) }
     requires rec { IsTrue (fits_rec_change (H.cells held.old) rec) }
-    ensures { H.cells held.new ≡ replaced_all (H.cells held.old) (tag_cells (H.cells held.old) page ++ (realm_cells (H.cells held.old) realm ++ (rec_cells (H.cells held.old) rec
+    ensures { H.cells held.new ≡ replaced_all (H.cells held.old)
+        (tag_cells (H.cells held.old) page ++ (realm_cells (H.cells held.old) realm ++ (rec_cells (H.cells held.old) rec
         ++ entry_cells (H.cells held.old) (spec_whole.entries_changed entries) (Some granule)))) }
 {
     let new_page = page_after(page);

@@ -80,7 +80,8 @@ impl<'a, H: Held> HeldSight<'a, H> {
 
     // Whether the part below that the command takes out, if it does, is held.
     fn is_part_held(&self, call: &Call, way: &Way) -> bool
-        ensures { result ≡ walking.is_part_held (walking.part_below call.now (walking.end_entry self.now.config.now (H.cells self.now.held.now) (way_seen way.now))) (H.cells self.now.held.now) }
+        ensures { result ≡ walking.is_part_held (walking.part_below call.now
+            (walking.end_entry self.now.config.now (H.cells self.now.held.now) (way_seen way.now))) (H.cells self.now.held.now) }
     {
         match part_below(call, self.end_entry(way)) {
             Some(part) => self.held.cell(Pa::new(part)).is_some(),

@@ -17,14 +17,16 @@ use Rattle.command_log.specs.declared.line.Line.{Line}
 
 -- ---- words at the end leave those before them
 
-words_at-append : (words more : List ℕ) (first count : ℕ) → first + count ≤ length words → words_at (words ++ more) first count ≡ words_at words first count
+words_at-append : (words more : List ℕ) (first count : ℕ)
+    → first + count ≤ length words → words_at (words ++ more) first count ≡ words_at words first count
 words_at-append words more first count within =
     let before : first ≤ length words = omega (arith, within) in
     let enough : count ≤ length (drop first words) = omega (arith, within, length-drop first words) in
     ap (λ (ws : List ℕ). record { items = ws })
     (ap (take count) (drop-append-le first words more before) ∙ take-append-le count (drop first words) more enough)
 
-given_at-append : (words more : List ℕ) (first : ℕ) (g : Given) → first + count_of g ≤ length words → given_at (words ++ more) first g ≡ given_at words first g
+given_at-append : (words more : List ℕ) (first : ℕ) (g : Given)
+    → first + count_of g ≤ length words → given_at (words ++ more) first g ≡ given_at words first g
 given_at-append words more first (given.Ok count) within = ap reply.Ok (words_at-append words more first count within)
 given_at-append words more first (given.Err status index) within = refl
 given_at-append words more first given.Misplaced within = refl
@@ -77,7 +79,8 @@ room_of-pushed lines words new_lines new_words left left_words =
     omega (arith, le-min by_lines by_words)
 
 -- An entry was pushed: its words stand behind all others, the command's before the reply's, and its line tells where.
-pub record IsPushed {T : Type 0} (mark : T) (function : FunctionId) (own : List ℕ) (r : Reply) (words new_words : List ℕ) (lines new_lines : List (Line T)) : Type 0 where
+pub record IsPushed {T : Type 0} (mark : T) (function : FunctionId) (own : List ℕ)
+    (r : Reply) (words new_words : List ℕ) (lines new_lines : List (Line T)) : Type 0 where
   pub first : ℕ
   pub kept : Given
   pub is_words : new_words ≡ (words ++ own) ++ words_of r

@@ -22,7 +22,8 @@ pub exit-row : (s : State) (address : ℕ) (rec : RecRecord) → rec ≡ rec_at 
     → Ok (done (exit_words (request_of rec) rec.pending) (rec_change address Exited)) ≡ rec_exit s address
 unfolding rec_exit words_of named
 exit-row s address rec is =
-    ap (λ (r : RecRecord). let answer : Result Accepted Refusal = Ok (done (exit_words (request_of r) r.pending) (rec_change address Exited)) in answer) is
+    ap (λ (r : RecRecord). let answer : Result Accepted Refusal =
+    Ok (done (exit_words (request_of r) r.pending) (rec_change address Exited)) in answer) is
 
 -- the REC that is entered has a realm at its owner's address
 pub entered_realm : (s : State) (address rd : ℕ) (rec : RecRecord) → Some rec ≡ s.rec address → true ≡ has_tag s address Rec → rd ≡ rec.owner

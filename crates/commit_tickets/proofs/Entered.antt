@@ -14,14 +14,17 @@ use Rattle.commit_tickets.specs.Faults.{HasCause}
 use Rattle.commit_tickets.specs.Left.{HasGained}
 
 -- a fault of a token whose list has more room had its cause with less
-cause-less : (fault : CommitFault) (config : Config) (command : Command) (journal : JournalView) (token : TokenView) (cells : List HeldCell) (room : ℕ)
-    → token.room ≤ room → HasCause fault config command journal (record token { room = room }) cells → HasCause fault config command journal token cells
+cause-less : (fault : CommitFault) (config : Config) (command : Command)
+    (journal : JournalView) (token : TokenView) (cells : List HeldCell) (room : ℕ)
+    → token.room ≤ room → HasCause fault config command journal (record token { room = room }) cells
+    → HasCause fault config command journal token cells
 cause-less NoMemory config command journal token cells room more (inl full) = inl full
 cause-less NoMemory config command journal token cells room more (inr (inl full)) = inr (inl (omega (arith, more, full)))
 cause-less NoMemory config command journal token cells room more (inr (inr table)) = inr (inr table)
 cause-less Disagrees config command journal token cells room more cause = cause
 
-causes-less : (result : Result ℕ CommitFault) (config : Config) (command : Command) (journal : JournalView) (token : TokenView) (cells : List HeldCell)
+causes-less : (result : Result ℕ CommitFault) (config : Config) (command : Command)
+    (journal : JournalView) (token : TokenView) (cells : List HeldCell)
     (room : ℕ) → token.room ≤ room → IfErr result (λ fault. HasCause fault config command journal (record token { room = room }) cells)
     → IfErr result (λ fault. HasCause fault config command journal token cells)
 causes-less (Ok ticket) config command journal token cells room more cause = tt
@@ -49,7 +52,8 @@ IsEntry-less config command before after token drafted new cells draft result is
       kept_draft = entry.kept_draft;
     }
 
-module _ (config : Config) (command : Command) (before after : JournalView) (token entered new : TokenView) (hold new_hold : lock.Hold) (draft : Draft) where
+module _ (config : Config) (command : Command) (before after : JournalView)
+    (token entered new : TokenView) (hold new_hold : lock.Hold) (draft : Draft) where
   -- a draft that was entered and settled is committed
   pub committed : (ticket : ℕ) (reply : Reply) → IsEntry config command before after token entered (hold_cells hold) draft (Ok ticket)
       → reply ≡ given_of draft.answer

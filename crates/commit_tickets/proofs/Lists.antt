@@ -71,7 +71,8 @@ listed-place ticket cpu (first ∷ entries) behind commit at =
     later other (rest behind (ap (λ cs. slice_get cs behind) (sym (listed-other ticket cpu first entries other)) ∙ at))) (cases_eq first.cpu cpu)
   where
     here : first.cpu ≡ cpu → ((k : ℕ) → slice_get (listed_from (suc ticket) cpu entries) k ≡ Some commit → IsListed (suc ticket) cpu entries k commit)
-        → (k : ℕ) → slice_get (commit_at ticket first ∷ listed_from (suc ticket) cpu entries) k ≡ Some commit → IsListed ticket cpu (first ∷ entries) k commit
+        → (k : ℕ) → slice_get (commit_at ticket first ∷ listed_from (suc ticket) cpu entries) k ≡ Some commit
+        → IsListed ticket cpu (first ∷ entries) k commit
     here own rest zero is = record {
       place = 0;
       entry = first;
@@ -185,14 +186,16 @@ module _ (tokens : List TokenView) (entries : List JournalEntry) (ticket : ℕ) 
       (read : token ≡ get_or tokens index token) (is_place : place ≡ number entry.cpu) where
     listed_by_token : slice_get token.mine place ≡ slice_get (mine_of tokens entry.cpu) (number entry.cpu)
     listed_by_token =
-        let found : slice_get tokens entry.cpu ≡ Some token = slice_get_read tokens (length tokens) entry.cpu token refl (omega (arith, within, is_index))
+        let found : slice_get tokens entry.cpu ≡ Some token =
+        slice_get_read tokens (length tokens) entry.cpu token refl (omega (arith, within, is_index))
         (read ∙ ap (λ k. get_or tokens k token) is_index) in
         ap (λ mine. slice_get mine place) (sym (mine_of-some tokens entry.cpu token found)) ∙ ap (slice_get (mine_of tokens entry.cpu)) is_place
 
     pub listed-by_token : AreListed tokens entries → slice_get token.mine place ≡ Some (commit_at ticket entry)
     listed-by_token listed = listed_by_token ∙ listed-next listed
 
-    pub Remain-by_token : (next : ℕ → ℕ) → next ≡ put number entry.cpu (number entry.cpu + 1) → slice_get token.mine place ≡ Some (commit_at ticket entry)
+    pub Remain-by_token : (next : ℕ → ℕ)
+        → next ≡ put number entry.cpu (number entry.cpu + 1) → slice_get token.mine place ≡ Some (commit_at ticket entry)
         → Remain tokens entries (ticket + 1) next
     Remain-by_token next is_next listed = Remain-next next is_next (sym listed_by_token ∙ listed)
 

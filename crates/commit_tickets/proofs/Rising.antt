@@ -17,4 +17,5 @@ pub RiseWithin-append : (end last : ℕ) (commits new : List Committed) (commit 
     → new ≡ commits ++ commit ∷ [] → RiseWithin 0 end commits → RiseWithin 0 last new
 RiseWithin-append end last commits new commit past is_last is_new rise =
     let next : suc commit.ticket ≡ last = omega (arith, is_last) in
-    subst (RiseWithin 0 last) (sym is_new) (subst (λ n. RiseWithin 0 n (commits ++ commit ∷ [])) next (RiseWithin-push 0 end commits commit past rise))
+    subst (RiseWithin 0 last) (sym is_new)
+    (subst (λ n. RiseWithin 0 n (commits ++ commit ∷ [])) next (RiseWithin-push 0 end commits commit past rise))

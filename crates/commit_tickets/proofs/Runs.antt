@@ -13,7 +13,8 @@ pub IsRun-append : (old : State) (entries new : List (Entry ℕ)) (added : Entry
     → IsRun old (map entry_of entries) last → Step last added.mark added.command added.given next → new ≡ entries ++ added ∷ []
     → IsRun old (map entry_of new) next
 IsRun-append old entries new added last next run step is_new =
-    let is_longer : map entry_of new ≡ map entry_of entries ++ entry_of added ∷ [] = ap (map entry_of) is_new ∙ map-append entry_of entries (added ∷ []) in
+    let is_longer : map entry_of new ≡ map entry_of entries ++ entry_of added ∷ [] =
+    ap (map entry_of) is_new ∙ map-append entry_of entries (added ∷ []) in
     subst (λ (es : List JournalEntry). IsRun old es next) (sym is_longer)
     (IsRun-push old (map entry_of entries) (entry_of added) last next run step)
 

@@ -49,8 +49,10 @@ pub(crate) fn enter<S: Site>(
     ensures of_run { IsOfRun S.config journal.old }
     ensures ticket { IfOk result (λ ticket. ticket ≡ length journal.old.entries) }
     ensures journal { OnOk result (HasGained token.old.cpu command.now (given_of draft.new.answer) journal.old journal.new) }
-    ensures side { OnOk result (side_of journal.new.side ≡ side_changed (known_cell (hold_cells hold.now)) (side_of journal.old.side) (spec.change_of draft.new.answer)) }
-    ensures token { IfOk result (λ ticket. HasListed token.old command.now (record { ticket = ticket; reply = given_of draft.new.answer }) token.new) }
+    ensures side { OnOk result
+        (side_of journal.new.side ≡ side_changed (known_cell (hold_cells hold.now)) (side_of journal.old.side) (spec.change_of draft.new.answer)) }
+    ensures token { IfOk result (λ ticket. HasListed token.old command.now
+        (record { ticket = ticket; reply = given_of draft.new.answer }) token.new) }
     ensures owed { OnOk result (IsDecided S.config token.old.cpu command.now (hold_with journal.old token.old (hold_cells hold.now)) draft.new) }
     ensures entered { OnOk result (IsEnteredOn draft.new token.old.cpu (hold_cells hold.now)) }
     ensures told { IfOk result (λ ticket. token.old.seen ≤ ticket) }

@@ -36,7 +36,15 @@ impl<S: Site> Model for CpuToken<S> {
     ghost use Rattle.commit_tickets.specs.Entries.{committed_of};
     ghost use Rattle.commit_tickets.specs.Told.{RiseWithin};
 
-    ghost view = { λ t. record { cpu = t.cpu; place = t.place; is_stopped = t.is_stopped; mine = map committed_of t.mine.logged; room = t.mine.room; fault = t.fault; seen = t.seen } };
+    ghost view = { λ t. record {
+      cpu = t.cpu;
+      place = t.place;
+      is_stopped = t.is_stopped;
+      mine = map committed_of t.mine.logged;
+      room = t.mine.room;
+      fault = t.fault;
+      seen = t.seen;
+    } };
 
     ghost invariant = { λ t. (t.share.parts ≡ 1) × (t.share.amount ≡ length t.mine.logged) × RiseWithin 0 t.seen (map committed_of t.mine.logged) };
 }

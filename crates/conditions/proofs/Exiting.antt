@@ -1,5 +1,5 @@
 -- The REC that would exit is the one that runs on the CPU.
-use Rattle.std.proofs.Common.{◌≡◌, ℕ, zero, suc, ◌*◌, ◌||◌, ap, Bool, true, false, Option, Some, None, Result, Ok, Err, is_some, refl, if◌then◌else◌}
+use Rattle.std.proofs.Common.{◌≡◌, ℕ, zero, suc, ◌*◌, ◌||◌, ap, Bool, true, false, Option, Some, None, Result, is_some, refl, if◌then◌else◌}
 use Rattle.std.specs.Prelude.{IfSome}
 use Rattle.rmm_spec.specs.declared.accepted.Accepted.{Accepted}
 use Rattle.rmm_spec.specs.declared.call.Call.TheVariants as call

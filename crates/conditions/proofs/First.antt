@@ -12,13 +12,15 @@ use Rattle.conditions.specs.Law.{AllPass, IsFirst, IsFound, first_failing}
 use Rattle.conditions.specs.Tests.{passes}
 
 -- in the first part
-pub IsFirst-left : (s : State) (front back : List Asked) (name : Condition) (test : Test) → IsFirst s front name test → IsFirst s (front ++ back) name test
+pub IsFirst-left : (s : State) (front back : List Asked) (name : Condition) (test : Test)
+    → IsFirst s front name test → IsFirst s (front ++ back) name test
 IsFirst-left s [] back name test first = absurd first
 IsFirst-left s (asked ∷ front) back name test (inl later) = inl (later.0, IsFirst-left s front back name test later.1)
 IsFirst-left s (asked ∷ front) back name test (inr here) = inr here
 
 -- in the second, where each of the first passes
-pub IsFirst-right : (s : State) (front back : List Asked) (name : Condition) (test : Test) → AllPass s front → IsFirst s back name test → IsFirst s (front ++ back) name test
+pub IsFirst-right : (s : State) (front back : List Asked) (name : Condition) (test : Test)
+    → AllPass s front → IsFirst s back name test → IsFirst s (front ++ back) name test
 IsFirst-right s [] back name test pass first = first
 IsFirst-right s (asked ∷ front) back name test pass first = inl (pass.0, IsFirst-right s front back name test pass.1 first)
 
@@ -32,7 +34,8 @@ first_failing-none s [] pass = refl
 first_failing-none s (asked ∷ list) pass = rw pass.0 (first_failing-none s list pass.1)
 
 -- the first that fails has its name
-pub first_failing-first : (s : State) (list : List Asked) (name : Condition) (test : Test) → IsFirst s list name test → first_failing s list ≡ Some name
+pub first_failing-first : (s : State) (list : List Asked) (name : Condition) (test : Test)
+    → IsFirst s list name test → first_failing s list ≡ Some name
 first_failing-first s [] name test first = absurd first
 first_failing-first s (asked ∷ list) name test (inl later) = rw later.0 (first_failing-first s list name test later.1)
 first_failing-first s (asked ∷ list) name test (inr here) = rw here.0 (ap (λ (a : Asked). Some a.condition) here.1)
@@ -53,7 +56,8 @@ first-has s (asked ∷ list) name test Says each (inr here) = subst (λ (a : Ask
 -- ---- one by one
 
 -- one more of the first passes
-pub AllPass-next : (s : State) (list : List Asked) (i : ℕ) (asked : Asked) → slice_get list i ≡ Some asked → passes s asked.test ≡ true → AllPass s (take i list)
+pub AllPass-next : (s : State) (list : List Asked) (i : ℕ) (asked : Asked)
+    → slice_get list i ≡ Some asked → passes s asked.test ≡ true → AllPass s (take i list)
     → AllPass s (take (i + 1) list)
 AllPass-next s list i asked is pass below =
     let more = take_more list i asked (slice_get_within list i asked is) in
@@ -65,7 +69,8 @@ pub AllPass-whole : (s : State) (list : List Asked) (i : ℕ) → length list �
 AllPass-whole s list i whole below = subst (AllPass s) (take_all i list whole) below
 
 -- the one after those that pass
-pub IsFirst-at : (s : State) (list : List Asked) (i : ℕ) (asked : Asked) → slice_get list i ≡ Some asked → AllPass s (take i list) → passes s asked.test ≡ false
+pub IsFirst-at : (s : State) (list : List Asked) (i : ℕ) (asked : Asked)
+    → slice_get list i ≡ Some asked → AllPass s (take i list) → passes s asked.test ≡ false
     → IsFirst s list asked.condition asked.test
 IsFirst-at s [] i asked is below fails = none-some asked is
 IsFirst-at s (here ∷ list) zero asked is below fails =
@@ -74,7 +79,8 @@ IsFirst-at s (here ∷ list) (suc i) asked is below fails = inl (below.0, IsFirs
 
 -- ---- where nothing is found
 
-pub none_found : {X : Type 0} (found : Option X) (Otherwise : Type 0) (Says : X → Type 0) → MatchOption found Otherwise Says → ((x : X) → ¬ (found ≡ Some x)) → Otherwise
+pub none_found : {X : Type 0} (found : Option X) (Otherwise : Type 0) (Says : X → Type 0)
+    → MatchOption found Otherwise Says → ((x : X) → ¬ (found ≡ Some x)) → Otherwise
 none_found None Otherwise Says match none = match
 none_found (Some x) Otherwise Says match none = absurd (none x refl)
 

@@ -35,7 +35,8 @@ refused_for-if : (b : Bool) (later : Result Accepted Refusal) (otherwise : Refus
 refused_for-if true later otherwise = refl
 refused_for-if false later otherwise = refl
 
-if-same : (b : Bool) (here there : Option Condition) (other : Condition) → here ≡ there → (if b then here else Some other) ≡ (if b then there else Some other)
+if-same : (b : Bool) (here there : Option Condition) (other : Condition)
+    → here ≡ there → (if b then here else Some other) ≡ (if b then there else Some other)
 if-same true here there other same = same
 if-same false here there other same = refl
 
@@ -46,7 +47,8 @@ refused_for-decided (row ∷ rows) accepted =
     refused_for-if row.holds (decided rows accepted) row.otherwise
     ∙ if-same row.holds (refused_for (decided rows accepted)) (first_row rows) (condition_of row.otherwise) (refused_for-decided rows accepted)
 
-if-both : (b : Bool) (here there : Option Condition) (other : Condition) → (b ≡ true → here ≡ there) → (if b then here else Some other) ≡ (if b then there else Some other)
+if-both : (b : Bool) (here there : Option Condition) (other : Condition)
+    → (b ≡ true → here ≡ there) → (if b then here else Some other) ≡ (if b then there else Some other)
 if-both true here there other same = same refl
 if-both false here there other same = refl
 
@@ -68,7 +70,8 @@ first_row-tagged : (s : State) (names : List Needed) (rows : List Row) (own : Li
 unfolding passes
 first_row-tagged s [] rows own same = same tt
 first_row-tagged s (needed ∷ names) rows own same =
-    if-both (has_tag s needed.granule needed.tag) (first_row (tagged s names rows)) (first_failing s (map tag_condition names ++ own)) condition.GranState
+    if-both (has_tag s needed.granule needed.tag) (first_row (tagged s names rows))
+    (first_failing s (map tag_condition names ++ own)) condition.GranState
     (λ here. first_row-tagged s names rows own (λ others. same (here, others)))
 
 -- ---- the rows behind
@@ -81,7 +84,8 @@ fits level later allowed = by (nat_le level 3) later refl allowed
     by false other is all = absurd cc
 
 rtt_create-same : (s : State) (cpu rd rtt ipa level : ℕ) → all_allowed (words_of (call.RttCreate rd rtt ipa level)) ≡ true
-    → first_row (behind s cpu (call.RttCreate rd rtt ipa level)).0 ≡ first_failing s (own_conditions (rec_inside s cpu) (call.RttCreate rd rtt ipa level))
+    → first_row (behind s cpu (call.RttCreate rd rtt ipa level)).0
+    ≡ first_failing s (own_conditions (rec_inside s cpu) (call.RttCreate rd rtt ipa level))
 unfolding behind own_conditions passes words_of
 rtt_create-same s cpu rd rtt ipa level allowed =
     let realm = realm_at s rd in
@@ -94,7 +98,8 @@ rtt_create-same s cpu rd rtt ipa level allowed =
     (sym (fits level _ allowed))
 
 rtt_remove-same : (s : State) (cpu : ℕ) (removal : Removal) (rd ipa level : ℕ) → all_allowed (words_of (call.RttRemove removal rd ipa level)) ≡ true
-    → first_row (behind s cpu (call.RttRemove removal rd ipa level)).0 ≡ first_failing s (own_conditions (rec_inside s cpu) (call.RttRemove removal rd ipa level))
+    → first_row (behind s cpu (call.RttRemove removal rd ipa level)).0
+    ≡ first_failing s (own_conditions (rec_inside s cpu) (call.RttRemove removal rd ipa level))
 unfolding behind own_conditions passes words_of
 rtt_remove-same s cpu removal rd ipa level allowed =
     let realm = realm_at s rd in
@@ -104,7 +109,8 @@ rtt_remove-same s cpu removal rd ipa level allowed =
     if (walk s rd ipa max).level == level - 1 then
     if is_table (walk s rd ipa max).entry then
     if is_some (ripas_left removal s rd level (table_number level ipa)) then None
-    else Some (left_condition removal) else Some condition.RtteState else Some condition.RttWalk else Some condition.IpaBound else Some condition.LevelBound)
+    else Some (left_condition removal) else Some condition.RtteState else Some condition.RttWalk
+    else Some condition.IpaBound else Some condition.LevelBound)
     (sym (fits level _ allowed))
 
 -- a realm that is there has its RECs
@@ -148,7 +154,8 @@ if-answered true answer otherwise here same = same
 if-answered false answer otherwise here same = refl
 
 -- what one is refused for, by who gives it
-refused_for-placed : (class : Class) (answer : Result Accepted Refusal) (s : State) (cpu : ℕ) (rest : List Asked) → refused_for answer ≡ first_failing s rest
+refused_for-placed : (class : Class) (answer : Result Accepted Refusal) (s : State) (cpu : ℕ) (rest : List Asked)
+    → refused_for answer ≡ first_failing s rest
     → refused_for (if is_placed s cpu class then answer else Err (refusal.Misplaced (misplacement (is_inside s cpu) class)))
     ≡ first_failing s (place_conditions class cpu (rec_inside s cpu) ++ rest)
 unfolding passes
@@ -160,7 +167,8 @@ refused_for-placed ByExit answer s cpu rest same =
     if-answered (is_inside s cpu) answer (refusal.Misplaced condition.OwnInside) (first_failing s rest) same
 
 -- the conditions of a command decide
-pub refused_for-outcome : (s : State) (cpu : ℕ) (given : Call) → refused_for (outcome s cpu given) ≡ first_failing s (conditions cpu (rec_inside s cpu) given)
+pub refused_for-outcome : (s : State) (cpu : ℕ) (given : Call)
+    → refused_for (outcome s cpu given) ≡ first_failing s (conditions cpu (rec_inside s cpu) given)
 unfolding outcome conditions
 refused_for-outcome s cpu given =
     refused_for-placed (class_of given) (answer_of s cpu given) s cpu

@@ -39,17 +39,20 @@ level-same : (level unit ipa : ℕ) (later : Option Condition)
     → (if nat_le level 3 then if is_multiple ipa (entry_size (min unit 3)) then later else Some condition.IpaAlign else Some condition.LevelBound)
     ≡ (if nat_le level 3 then if is_multiple ipa (entry_size unit) then later else Some condition.IpaAlign else Some condition.LevelBound)
 level-same level unit ipa later =
-    ap (λ (size : ℕ). if nat_le level 3 then if is_multiple ipa size then later else Some condition.IpaAlign else Some condition.LevelBound) (entry-last unit)
+    ap (λ (size : ℕ). if nat_le level 3 then if is_multiple ipa size then later else Some condition.IpaAlign else Some condition.LevelBound)
+    (entry-last unit)
 
 -- the first that fails is that of the first word that isn't allowed
-pub first_failing-words : (s : State) (c : Call) (rest : List Asked) → first_failing s (word_conditions c ++ rest) ≡ first_word (words_of c) (first_failing s rest)
+pub first_failing-words : (s : State) (c : Call) (rest : List Asked)
+    → first_failing s (word_conditions c ++ rest) ≡ first_word (words_of c) (first_failing s rest)
 unfolding passes word_conditions words_of
 first_failing-words s (call.RecCreate rd rec mpidr flags aux0 aux1) rest =
     if-three (not (rec == aux0)) (not (rec == aux1)) (not (aux0 == aux1)) _ (Some condition.AuxAlias)
 first_failing-words s (call.RttCreate rd rtt ipa level) rest = level-same level (level - 1) ipa (first_failing s rest)
 first_failing-words s (call.RttRemove removal rd ipa level) rest = level-same level (level - 1) ipa (first_failing s rest)
 first_failing-words s (call.RttMapUnprotected rd ipa page) rest =
-    ap (λ (later : Option Condition). if is_multiple ipa 4096 then later else Some condition.IpaAlign) (if-two _ _ (first_failing s rest) (Some condition.OwnPage))
+    ap (λ (later : Option Condition). if is_multiple ipa 4096 then later else Some condition.IpaAlign)
+    (if-two _ _ (first_failing s rest) (Some condition.OwnPage))
 first_failing-words s (call.RttReadEntry rd ipa level) rest = level-same level level ipa (first_failing s rest)
 first_failing-words s _ rest = refl
 

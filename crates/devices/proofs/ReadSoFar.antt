@@ -74,7 +74,8 @@ IsReadUpTo-end gives left_of has_taken old now taker taken ended so_far =
 -- where it is for a piece, the source gave that
 pub refused_or_given : {S T : Type 0} (gives : S → List ℕ → S → Type 0) (source_refuses : S → S → Type 0) (has_taken : T → List ℕ → List ℕ → Type 0)
     (refuses : T → List ℕ → Type 0) (old new : S) (taker : T)
-    → IsRefused gives source_refuses old new ⊎ RefusesPiece gives has_taken refuses old new taker → IsRefused gives source_refuses old new ⊎ GivesSome gives old new
+    → IsRefused gives source_refuses old new ⊎ RefusesPiece gives has_taken refuses old new taker
+    → IsRefused gives source_refuses old new ⊎ GivesSome gives old new
 refused_or_given gives source_refuses has_taken refuses old new taker (inl refused) = inl refused
 refused_or_given gives source_refuses has_taken refuses old new taker (inr refused) =
     let count : length (refused.text ++ refused.piece) ≡ length refused.text + length refused.piece = length-append refused.text refused.piece in

@@ -15,7 +15,8 @@ replaced-next f zero (x ∷ xs) = refl
 replaced-next f (suc count) (x ∷ xs) = replaced-next f count xs
 
 -- what is said of each pass, and not of what it has heard, stays so
-pub each_hearing : (P : ℕ → CpuView → Type 0) (drained : List Event) (passes : List CpuView) → ((cpu : ℕ) (pass : CpuView) → P cpu pass → P cpu (hearing drained pass))
+pub each_hearing : (P : ℕ → CpuView → Type 0) (drained : List Event) (passes : List CpuView)
+    → ((cpu : ℕ) (pass : CpuView) → P cpu pass → P cpu (hearing drained pass))
     → ((cpu : ℕ) (pass : CpuView) → slice_get passes cpu ≡ Some pass → P cpu pass)
     → (cpu : ℕ) (pass : CpuView) → slice_get (map (hearing drained) passes) cpu ≡ Some pass → P cpu pass
 each_hearing P drained passes stays each cpu pass at =

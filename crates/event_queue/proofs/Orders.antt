@@ -37,11 +37,13 @@ numbered-at number (first ∷ entries) zero entry at =
     let none : number entry.cpu ≡ number entry.cpu + 0 = omega arith in
     ap (λ (e : JournalEntry). Some (commitment e (number e.cpu))) (same_Some first entry at) ∙ ap (λ n. Some (commitment entry n)) none
 numbered-at number (first ∷ entries) (suc place) entry at =
-    numbered-at (next number first) entries place entry at ∙ ap (λ n. Some (commitment entry n)) (counted-first number first (take place entries) entry.cpu)
+    numbered-at (next number first) entries place entry at
+    ∙ ap (λ n. Some (commitment entry n)) (counted-first number first (take place entries) entry.cpu)
 
 -- one entry more has the number that its CPU has come to
 numbered_from-push : (number : ℕ → ℕ) (entries : List JournalEntry) (entry : JournalEntry)
-    → numbered_from number (entries ++ entry ∷ []) ≡ numbered_from number entries ++ commitment entry (number entry.cpu + count_of entry.cpu entries) ∷ []
+    → numbered_from number (entries ++ entry ∷ [])
+    ≡ numbered_from number entries ++ commitment entry (number entry.cpu + count_of entry.cpu entries) ∷ []
 numbered_from-push number [] entry = let same : number entry.cpu ≡ number entry.cpu + 0 = omega arith in ap (λ n. commitment entry n ∷ []) same
 numbered_from-push number (first ∷ entries) entry =
     ap (λ cs. commitment first (number first.cpu) ∷ cs)
@@ -57,7 +59,8 @@ numbered-below number (entry ∷ entries) zero c at =
 numbered-below number (entry ∷ entries) (suc i) c at =
     omega (arith, numbered-below (next number entry) entries i c at, counted-first number entry entries c.cpu)
 
-count-push : (cpu : ℕ) (entries : List JournalEntry) (entry : JournalEntry) → count_of cpu (entries ++ entry ∷ []) ≡ count_of cpu entries + count_of cpu (entry ∷ [])
+count-push : (cpu : ℕ) (entries : List JournalEntry) (entry : JournalEntry)
+    → count_of cpu (entries ++ entry ∷ []) ≡ count_of cpu entries + count_of cpu (entry ∷ [])
 count-push cpu entries entry =
     ap length (filter-append (λ (e : JournalEntry). e.cpu == cpu) entries (entry ∷ [])) ∙ length-append _ _
 
@@ -66,10 +69,12 @@ pub counted-push : (number : ℕ → ℕ) (entries : List JournalEntry) (entry :
     → (cpu : ℕ) → put number entry.cpu (number entry.cpu + 1) cpu ≡ count_of cpu (entries ++ entry ∷ [])
 counted-push number entries entry counted cpu = omega (arith, counted-first number entry [] cpu, count-push cpu entries entry, counted cpu)
 
-pub count-push_own : (entries : List JournalEntry) (entry : JournalEntry) → count_of entry.cpu (entries ++ entry ∷ []) ≡ count_of entry.cpu entries + 1
+pub count-push_own : (entries : List JournalEntry) (entry : JournalEntry)
+    → count_of entry.cpu (entries ++ entry ∷ []) ≡ count_of entry.cpu entries + 1
 count-push_own entries entry = count-push entry.cpu entries entry ∙ (rw (eq-eqb entry.cpu entry.cpu refl) refl)
 
-pub count-push_other : (cpu : ℕ) (entries : List JournalEntry) (entry : JournalEntry) → (entry.cpu ≡ cpu → ⊥) → count_of cpu (entries ++ entry ∷ []) ≡ count_of cpu entries
+pub count-push_other : (cpu : ℕ) (entries : List JournalEntry) (entry : JournalEntry)
+    → (entry.cpu ≡ cpu → ⊥) → count_of cpu (entries ++ entry ∷ []) ≡ count_of cpu entries
 count-push_other cpu entries entry other = count-push cpu entries entry ∙ (rw (ne_eqb entry.cpu cpu other) (omega arith))
 
 -- ---- before anything
@@ -97,12 +102,16 @@ fresh entries cpu bound counted = record {
   below = λ i c at own. omega (arith, numbered-below (λ _. 0) entries i c at, counted, ap (λ k. count_of k entries) own);
 }
 
-pub ordered-recorded : (entries : List JournalEntry) (all : List Event) (event : Event) (stage : Stage) (commits : ℕ) → AreRecorded (numbered entries) all
+pub ordered-recorded : (entries : List JournalEntry) (all : List Event) (event : Event) (stage : Stage) (commits : ℕ)
+    → AreRecorded (numbered entries) all
     → count_of (cpu_of event) entries ≡ commits → IsAt stage (cpu_of event) commits entries all → IsNextEvent stage commits event
     → AreRecorded (numbered entries) (all ++ event ∷ []) × IsAt (stage_after event) (cpu_of event) commits entries (all ++ event ∷ [])
 ordered-recorded entries all (Called cpu number command) stage commits old counted at is_next = (
   AreRecorded-called (numbered entries) all cpu number command old (fresh entries cpu number (counted ∙ sym is_next)),
-  (length all, subst (λ n. IsCalled (all ++ Called cpu number command ∷ []) (length all) cpu n command) is_next (slice_get-push all (Called cpu number command))),
+  (
+    length all,
+    subst (λ n. IsCalled (all ++ Called cpu number command ∷ []) (length all) cpu n command) is_next (slice_get-push all (Called cpu number command)),
+  ),
 )
 ordered-recorded entries all (Returned cpu number given) stage commits old counted at is_next =
     let made = subst (λ s. IsAt s cpu commits entries all) is_next.0 at in
@@ -126,7 +135,8 @@ module _ (entries : List JournalEntry) (all : List Event) (entry : JournalEntry)
   pub ordered-committed : AreRecorded (numbered entries) all → IsAt (Open entry.command) entry.cpu (count_of entry.cpu entries) entries all
       → AreRecorded (numbered (entries ++ entry ∷ [])) all
   ordered-committed old called =
-      subst (λ cs. AreRecorded cs all) (sym longer) (AreRecorded-committed (numbered entries) all (commitment entry (count_of entry.cpu entries)) called.0 old
+      subst (λ cs. AreRecorded cs all) (sym longer)
+      (AreRecorded-committed (numbered entries) all (commitment entry (count_of entry.cpu entries)) called.0 old
       (fresh entries entry.cpu (count_of entry.cpu entries) refl) called.1)
 
   pub IsAt-own : IsAt (Committed entry.given) entry.cpu (count_of entry.cpu entries + 1) (entries ++ entry ∷ []) all
@@ -143,8 +153,11 @@ module _ (entries : List JournalEntry) (all : List Event) (entry : JournalEntry)
   IsAt-committed (Open command) cpu commits at = at
   IsAt-committed (Committed given) cpu commits (number, is_last, has) =
       let there = slice_get-append (numbered entries) (commitment entry (count_of entry.cpu entries) ∷ []) has.index has.it has.is_it in
-      let is_it = ap (λ cs. slice_get cs has.index) longer ∙ there in
-      (number, is_last, record { index = has.index; it = has.it; is_it = is_it; is_cpu = has.is_cpu; is_number = has.is_number; is_given = has.is_given })
+      let is_it = ap (λ cs. slice_get cs has.index) longer ∙ there in (
+        number,
+        is_last,
+        record { index = has.index; it = has.it; is_it = is_it; is_cpu = has.is_cpu; is_number = has.is_number; is_given = has.is_given },
+      )
 
 -- ---- as a certificate
 
@@ -170,5 +183,7 @@ pub in_order-empty : (P : Event → Type 0) (Same : Type 0) (taken : Option Even
     → IfNone taken (AreInOrder events journal)
 in_order-empty P Same (Some event) entries journal drained events same_entries same_events found = tt
 in_order-empty P Same None entries journal drained events same_entries same_events found =
-    let empty : drained ++ found.1.0 ≡ events = ap (λ (es : List Event). drained ++ es) (nil_from_length found.1.0 found.1.1) ∙ append-nil drained ∙ same_events in
-    in_order journal events (subst (λ (y : List JournalEntry × List Event). AreRecorded (numbered y.0) y.1) (λ i. (same_entries i, empty i)) found.1.2)
+    let empty : drained ++ found.1.0 ≡ events =
+    ap (λ (es : List Event). drained ++ es) (nil_from_length found.1.0 found.1.1) ∙ append-nil drained ∙ same_events in
+    in_order journal events
+    (subst (λ (y : List JournalEntry × List Event). AreRecorded (numbered y.0) y.1) (λ i. (same_entries i, empty i)) found.1.2)

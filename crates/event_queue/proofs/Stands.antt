@@ -14,7 +14,8 @@ abbrev standing : List Event → ℕ → Bool → Type 0
 standing events next is_open = stand_from start events ≡ Some (record { next = next; is_open = is_open })
 
 -- after its next call
-stand-called : (events : List Event) (cpu next : ℕ) (command : Command) → standing events next false → standing (events ++ Called cpu next command ∷ []) (next + 1) true
+stand-called : (events : List Event) (cpu next : ℕ) (command : Command)
+    → standing events next false → standing (events ++ Called cpu next command ∷ []) (next + 1) true
 stand-called events cpu next command leads =
     stand_from-push_at events (Called cpu next command) (record { next = next; is_open = false }) leads
     ∙ ap (λ b. if b then Some (record { next = next + 1; is_open = true }) else None) (eq-eqb next next refl)

@@ -16,12 +16,14 @@ use Rattle.event_queue.proofs.Orders.{IsNextEvent, ordered-none, ordered-recorde
 -- ---- records
 
 -- one event more keeps what is recorded of all CPUs
-are_records-push : (cpus : ℕ) (all : List Event) (event : Event) → AreRecords cpus all → IsEvent cpus event → IsRecord (subhistory_of (cpu_of event) (all ++ event ∷ []))
+are_records-push : (cpus : ℕ) (all : List Event) (event : Event)
+    → AreRecords cpus all → IsEvent cpus event → IsRecord (subhistory_of (cpu_of event) (all ++ event ∷ []))
     → AreRecords cpus (all ++ event ∷ [])
 are_records-push cpus all event old is_event goes_on = record {
   each = AllByRecursion-push (IsEvent cpus) all event old.each is_event;
   records = λ cpu. ⊎_elim
-      (λ (same : eqb (cpu_of event) cpu ≡ true). subst (λ c. IsRecord (subhistory_of c (all ++ event ∷ []))) (eqb-true (cpu_of event) cpu same) goes_on)
+      (λ (same : eqb (cpu_of event) cpu ≡ true).
+      subst (λ c. IsRecord (subhistory_of c (all ++ event ∷ []))) (eqb-true (cpu_of event) cpu same) goes_on)
       (λ (other : eqb (cpu_of event) cpu ≡ false). subst IsRecord (sym (subhistory_of-push_other cpu all event other)) (old.records cpu))
       (cases_Bool (eqb (cpu_of event) cpu));
 }
@@ -47,7 +49,8 @@ all-middle P (first ∷ xs) x ys each = all-middle P xs x ys each.1
 IsRecord-beginning : (events more : List Event) → IsRecord (events ++ more) → IsRecord events
 IsRecord-beginning events [] is_record = subst IsRecord (append-nil events) is_record
 IsRecord-beginning events (event ∷ more) is_record =
-    IsRecord-front events event (IsRecord-beginning (events ++ event ∷ []) more (subst IsRecord (sym (append_assoc events (event ∷ []) more)) is_record))
+    IsRecord-front events event
+    (IsRecord-beginning (events ++ event ∷ []) more (subst IsRecord (sym (append_assoc events (event ∷ []) more)) is_record))
 
 -- ---- beginnings
 
@@ -61,7 +64,8 @@ begins_more : (beginning events more : List Event) → IsPrefix beginning events
 begins_more beginning events more is = (is.0 ++ more, sym (append_assoc beginning is.0 more) ∙ ap (λ (es : List Event). es ++ more) is.1)
 
 -- a CPU's part of a beginning begins the CPU's part
-begins_part : (cpu : ℕ) (beginning events : List Event) → IsPrefix beginning events → IsPrefix (subhistory_of cpu beginning) (subhistory_of cpu events)
+begins_part : (cpu : ℕ) (beginning events : List Event)
+    → IsPrefix beginning events → IsPrefix (subhistory_of cpu beginning) (subhistory_of cpu events)
 begins_part cpu beginning events is =
     (subhistory_of cpu is.0, sym (filter-append (λ e. eqb (cpu_of e) cpu) beginning is.0) ∙ ap (subhistory_of cpu) is.1)
 
@@ -126,7 +130,8 @@ unshelved : {A : Type 0} → false ≡ true → A
 unshelved keeps = absurd (false≢true keeps)
 
 -- what one page knows goes to two, of which the second stands at the end
-forked : (ledger after : Ledger) (shelf kept_on : Shelf) (all : List Event) (pages : List Page) (place : ℕ) (left right : Page) → IsKept ledger shelf all pages
+forked : (ledger after : Ledger) (shelf kept_on : Shelf) (all : List Event)
+    (pages : List Page) (place : ℕ) (left right : Page) → IsKept ledger shelf all pages
     → AreRecords after.cpus all → ((cpu : ℕ) → after.seated ≤ cpu → subhistory_of cpu all ≡ []) → AreRecorded (numbered kept_on.entries) all
     → IsPage after kept_on all place left → IsPage after kept_on all (length (set pages place left)) right
     → ((other : ℕ) (p : Page) → other ≢ place → IsPage ledger shelf all other p → IsPage after kept_on all other p)
@@ -165,7 +170,8 @@ begins = (
     first (suc place) page is = absurd (some-ne-none page (sym is))
 
 -- a CPU records an event
-pub records : (n place : ℕ) (page : Page) (event : Event) → page.holder ≡ Cpu (cpu_of event) → IsEvent page.cpus event → IsRecord (page.events ++ event ∷ [])
+pub records : (n place : ℕ) (page : Page) (event : Event)
+    → page.holder ≡ Cpu (cpu_of event) → IsEvent page.cpus event → IsRecord (page.events ++ event ∷ [])
     → IsNextEvent page.stage page.commits event → Pushes IsRecorded n place page event (λ new. new ≡ recorded page event)
 records n place page event holder is_event goes_on is_next queued pages room (ledger, shelf, kept) at =
     let all : List Event = ledger.drained ++ queued in
@@ -256,7 +262,8 @@ drains place page holder event queued pages (ledger, shelf, kept) at =
       ),
       record {
         drained = refl;
-        is_event = subst (λ cpus. IsEvent cpus event) (sym mine.1) (all-middle (IsEvent ledger.cpus) ledger.drained event queued kept.are_records.each);
+        is_event = subst (λ cpus. IsEvent cpus event) (sym mine.1)
+            (all-middle (IsEvent ledger.cpus) ledger.drained event queued kept.are_records.each);
         record_goes_on = subst (λ (es : List Event). IsRecord (subhistory_of cpu (es ++ event ∷ []))) (sym mine.3) beginning;
       },
     )
@@ -272,7 +279,8 @@ counts place page holder none queued pages (ledger, shelf, kept) at =
     let new : Page = record page { cpus = page.cpus + 1 } in (
       after,
       shelf,
-      forked ledger after shelf shelf all pages place new nobody_page kept (are_records-more ledger.cpus all kept.are_records) kept.unseated kept.ordered
+      forked ledger after shelf shelf all pages place new nobody_page kept
+          (are_records-more ledger.cpus all kept.are_records) kept.unseated kept.ordered
           (of_scribe after shelf all place new old.2 old.3 holder (mine.0, ap (λ n. n + 1) mine.1, mine.2, mine.3))
           (of_nobody after shelf all (length (set pages place new)) nobody_page unshelved (begins_with_none ledger.drained) refl)
           (λ other p off was. (
@@ -309,7 +317,8 @@ seats place page holder keeps none queued pages (ledger, shelf, kept) at =
     let right : Page = cpu_page page.cpus page.seated in (
       after,
       shelf,
-      forked ledger after shelf shelf all pages place new right kept kept.are_records (λ cpu past. kept.unseated cpu (omega (arith, past))) kept.ordered
+      forked ledger after shelf shelf all pages place new right kept kept.are_records
+          (λ cpu past. kept.unseated cpu (omega (arith, past))) kept.ordered
           (of_scribe after shelf all place new old.2 old.3 holder (mine.0, mine.1, ap (λ n. n + 1) mine.2, mine.3))
           (subst (λ cpu. IsPage after shelf all last (cpu_page page.cpus cpu)) (sym mine.2)
           (of_cpu after shelf all last (cpu_page page.cpus ledger.seated) unshelved (begins_with_none ledger.drained) ledger.seated refl (
@@ -323,8 +332,14 @@ seats place page holder keeps none queued pages (ledger, shelf, kept) at =
           (λ other p off was. (
             λ cpu is_cpu.
                 let its = was.0 cpu is_cpu in
-                let is_seated = its.0 in
-                (omega (arith, is_seated), seats_with-other ledger.seat ledger.seated last cpu (λ same. omega (arith, same, is_seated)) ∙ its.1, its.2, its.3, its.4, its.5),
+                let is_seated = its.0 in (
+                  omega (arith, is_seated),
+                  seats_with-other ledger.seat ledger.seated last cpu (λ same. omega (arith, same, is_seated)) ∙ its.1,
+                  its.2,
+                  its.3,
+                  its.4,
+                  its.5,
+                ),
             λ scribe. absurd (off (sym (was.1 scribe).0 ∙ mine.0)),
             was.2,
             was.3,
@@ -336,7 +351,8 @@ pub tells : (place : ℕ) (page : Page) → page.holder ≡ Scribe → Forks IsR
 tells place page holder queued pages (ledger, shelf, kept) at =
     let all : List Event = ledger.drained ++ queued in
     let old = kept.each place page at in
-    let told : IsPrefix page.events ledger.drained = subst (λ (es : List Event). IsPrefix es ledger.drained) (sym (old.1 holder).3) (begins_with_all ledger.drained) in (
+    let told : IsPrefix page.events ledger.drained =
+    subst (λ (es : List Event). IsPrefix es ledger.drained) (sym (old.1 holder).3) (begins_with_all ledger.drained) in (
       ledger,
       shelf,
       forked ledger ledger shelf shelf all pages place page (note_of page) kept kept.are_records kept.unseated kept.ordered old
@@ -344,7 +360,8 @@ tells place page holder queued pages (ledger, shelf, kept) at =
     )
 
 -- what two passes know comes to one of them
-joined : (ledger : Ledger) (shelf after : Shelf) (all : List Event) (pages : List Page) (place : ℕ) (new : Page) (other : ℕ) (told : Page) → IsKept ledger shelf all pages
+joined : (ledger : Ledger) (shelf after : Shelf) (all : List Event) (pages : List Page) (place : ℕ) (new : Page) (other : ℕ) (told : Page)
+    → IsKept ledger shelf all pages
     → AreRecorded (numbered after.entries) all → get_elem? (set pages place new) other ≡ some told → other ≢ place
     → (IsPage ledger shelf all other told → IsPage ledger after all place new)
     → ((k : ℕ) (p : Page) → k ≢ other → get_elem? pages k ≡ some p → IsPage ledger shelf all other told → IsPage ledger after all k p)
@@ -358,13 +375,15 @@ joined ledger shelf after all pages place new other told kept ordered there apar
       are_records = kept.are_records;
       unseated = kept.unseated;
       ordered = ordered;
-      each = each_set (IsPage ledger after all) (set pages place new) other nobody_page (of_nobody ledger after all other nobody_page unshelved (begins_with_none ledger.drained) refl)
+      each = each_set (IsPage ledger after all) (set pages place new) other nobody_page
+          (of_nobody ledger after all other nobody_page unshelved (begins_with_none ledger.drained) refl)
           (λ k q away at_k. each_set (λ n p. n ≢ other → IsPage ledger after all n p) pages place new (λ _. mine its)
           (λ n p off is other_than. others n p other_than is its) k q at_k away);
     }
 
 -- a CPU takes in what the scribe wrote down
-pub hears : (place : ℕ) (page : Page) (other : ℕ) (note : Page) → Merges IsRecorded place page other note (record page { seen = note.seen }) nobody_page
+pub hears : (place : ℕ) (page : Page) (other : ℕ) (note : Page)
+    → Merges IsRecorded place page other note (record page { seen = note.seen }) nobody_page
 hears place page other note queued pages (ledger, shelf, kept) at apart there =
     let old = kept.each place page at in (
       ledger,
@@ -457,7 +476,8 @@ commits-entry place page entry holder keeps deciding queued pages (ledger, shelf
           )),
     )
 
-pub commits : (place : ℕ) (page : Page) (said_cpu cpu : ℕ) (said given : Reply) (command : Command) → said_cpu ≡ cpu → said ≡ given → page.holder ≡ Cpu cpu
+pub commits : (place : ℕ) (page : Page) (said_cpu cpu : ℕ) (said given : Reply) (command : Command)
+    → said_cpu ≡ cpu → said ≡ given → page.holder ≡ Cpu cpu
     → page.keeps ≡ true → page.stage ≡ Open command → Forks IsRecorded place page (committed said page) (entered said_cpu said page)
 commits place page said_cpu cpu said given command same_holder same_reply holder keeps deciding =
     subst (λ (es : List JournalEntry). Forks IsRecorded place page (committed said page) (journal_page (page.entries ++ es)))

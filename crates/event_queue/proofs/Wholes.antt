@@ -28,7 +28,8 @@ longer true event events = omega arith
 longer false event events = omega arith
 
 -- each event is in its CPU's part
-all_in_parts : (cpus : ℕ) (events : List Event) → AllByRecursion (IsEvent cpus) events → length events ≤ total (λ cpu. length (subhistory_of cpu events)) cpus
+all_in_parts : (cpus : ℕ) (events : List Event)
+    → AllByRecursion (IsEvent cpus) events → length events ≤ total (λ cpu. length (subhistory_of cpu events)) cpus
 all_in_parts cpus [] each = omega arith
 all_in_parts cpus (event ∷ events) each =
     let own = ap (λ (es : List Event). length es) (subhistory_of-same (cpu_of event) event events refl) in
@@ -36,7 +37,8 @@ all_in_parts cpus (event ∷ events) each =
       arith,
       all_in_parts cpus events each.1,
       total-lt (λ cpu. length (subhistory_of cpu events)) (λ cpu. length (subhistory_of cpu (event ∷ events)))
-          (cpu_of event) cpus (cpu_below cpus event each.0) (omega (arith, own)) (λ cpu. longer (eqb (cpu_of event) cpu) event (subhistory_of cpu events)),
+          (cpu_of event) cpus (cpu_below cpus event each.0) (omega (arith, own))
+          (λ cpu. longer (eqb (cpu_of event) cpu) event (subhistory_of cpu events)),
     )
 
 -- ---- beginnings
@@ -59,13 +61,20 @@ count-cons : (pass : CpuView) (passes : List CpuView) → count_recorded (pass �
 count-cons pass passes = sum_by-cons (λ (p : CpuView). length p.events) pass passes
 
 -- together they are no longer than the lists
-parts-le : (passes : List CpuView) (part : ℕ → List Event) → Begin passes part → total (λ place. length (part place)) (length passes) ≤ count_recorded passes
+parts-le : (passes : List CpuView) (part : ℕ → List Event)
+    → Begin passes part → total (λ place. length (part place)) (length passes) ≤ count_recorded passes
 parts-le [] part each = omega arith
 parts-le (first ∷ passes) part each =
-    omega (arith, count-cons first passes, beginning-le (part 0) first.events (each 0 first refl), parts-le passes (λ place. part (suc place)) (λ place. each (suc place)))
+    omega (
+      arith,
+      count-cons first passes,
+      beginning-le (part 0) first.events (each 0 first refl),
+      parts-le passes (λ place. part (suc place)) (λ place. each (suc place)),
+    )
 
 -- and where they are as long together, each is the whole list
-parts_are_whole : (passes : List CpuView) (part : ℕ → List Event) → Begin passes part → count_recorded passes ≤ total (λ place. length (part place)) (length passes)
+parts_are_whole : (passes : List CpuView) (part : ℕ → List Event) → Begin passes part
+    → count_recorded passes ≤ total (λ place. length (part place)) (length passes)
     → (place : ℕ) (pass : CpuView) → slice_get passes place ≡ Some pass → part place ≡ pass.events
 parts_are_whole [] part each long place pass is = absurd (none-some pass is)
 parts_are_whole (first ∷ passes) part each long zero pass is =
@@ -103,7 +112,8 @@ are_whole passes events each begun all =
 pub no_event_more : (passes : List CpuView) (events : List Event) (event : Event) → cpu_of event < length passes → AreWhole passes events
     → AreBegun passes (events ++ event ∷ []) → ⊥
 no_event_more passes events event below whole begun = ⊎_elim
-    (λ (some : (pass : CpuView) × (cpu_of event < length passes) × (slice_get passes (cpu_of event) ≡ Some pass) × (get_or passes (cpu_of event) pass ≡ pass)).
+    (λ (some : (pass : CpuView) × (cpu_of event < length passes)
+    × (slice_get passes (cpu_of event) ≡ Some pass) × (get_or passes (cpu_of event) pass ≡ pass)).
     omega (
       arith,
       beginning-le (subhistory_of (cpu_of event) (events ++ event ∷ [])) some.0.events (begun (cpu_of event) some.0 some.2),

@@ -42,7 +42,8 @@ pub record OrderView : Type 0 where
 
 -- a CPU's before its first call
 abbrev pub before_calls : TableId → ℕ → ℕ → CpuView
-before_calls queue cpus cpu = record { queue = queue; cpus = cpus; cpu = cpu; events = []; stand = start; stage = Idle; heard = []; is_stopped = false }
+before_calls queue cpus cpu =
+    record { queue = queue; cpus = cpus; cpu = cpu; events = []; stand = start; stage = Idle; heard = []; is_stopped = false }
 
 -- the history is the one that the scribe drains this queue into
 pub record CanDrain (queue : TableId) (scribe : ScribeView) (history : History) : Type 0 where

@@ -174,7 +174,8 @@ impl CpuPass {
         requires queue { queue.now.table.shared.table_id ≡ self.old.queue }
         requires order { order.old.queue ≡ self.old.queue }
         requires open { (command : Command) × (self.old.stage ≡ Open command) }
-        ensures order { order.new ≡ record order.old { entries = order.old.entries ++ entry_at self.old.stage self.old.cpu (reply_seen reply.entry) } }
+        ensures order { order.new
+            ≡ record order.old { entries = order.old.entries ++ entry_at self.old.stage self.old.cpu (reply_seen reply.entry) } }
         ensures committed { self.new ≡ record self.old { stage = Committed (reply_seen reply.entry) } }
     {
         let page = queue.another::<Lends>(&mut order.pass);

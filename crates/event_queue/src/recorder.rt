@@ -95,7 +95,8 @@ impl Recorder {
         requires order { order.old.queue ≡ self.now.queue }
         requires queue { pass.old.queue ≡ self.now.queue }
         requires open { (command : Command) × (pass.old.stage ≡ Open command) }
-        ensures order { order.new ≡ record order.old { entries = order.old.entries ++ entry_at pass.old.stage pass.old.cpu (reply_seen reply.entry) } }
+        ensures order { order.new
+            ≡ record order.old { entries = order.old.entries ++ entry_at pass.old.stage pass.old.cpu (reply_seen reply.entry) } }
         ensures committed { pass.new ≡ record pass.old { stage = Committed (reply_seen reply.entry) } }
     {
         pass.commit(&self.queue, order, reply);
@@ -168,7 +169,8 @@ impl Recorder {
         history: &mut History,
     ) -> Result<bool, AllocError>
         requires { CanDrain self.now.queue scribe.old history.old.recorded }
-        ensures moved { IfOk result (λ moved. IsTrue moved → (event : Event) × (scribe.new ≡ record scribe.old { events = scribe.old.events ++ event ∷ [] })) }
+        ensures moved { IfOk result (λ moved.
+            IsTrue moved → (event : Event) × (scribe.new ≡ record scribe.old { events = scribe.old.events ++ event ∷ [] })) }
         ensures stays { IfOk result (λ moved. moved ≡ false → scribe.new ≡ scribe.old) }
         ensures stopped { IfOk result (λ moved. moved ≡ false → length history.new.recorded.events + 1 < MOST_LINES → 1 ≤ history.new.room) }
         ensures err { OnErr result (scribe.new ≡ scribe.old) }
@@ -212,7 +214,8 @@ fn seat_cpus(
     ensures queue { IsPassOf queue.now scribe.new }
     ensures page { OnOk result (page_of scribe.new ≡ scribe_page cpus cpus) }
     ensures count { IfOk result (λ passes. length passes.items ≡ cpus) }
-    ensures passes { IfOk result (λ passes. (cpu : ℕ) → cpu < cpus → slice_get passes.items cpu ≡ Some (before_calls queue.now.table.shared.table_id cpus cpu)) }
+    ensures passes { IfOk result (λ passes. (cpu : ℕ)
+        → cpu < cpus → slice_get passes.items cpu ≡ Some (before_calls queue.now.table.shared.table_id cpus cpu)) }
 {
     let mut passes = Vec::with_capacity(alloc, usize::from(cpus))?;
     for cpu in 0..cpus {

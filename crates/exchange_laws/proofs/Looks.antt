@@ -47,7 +47,8 @@ Gives-append events old xs ys middle new first rest = record {
   run = run-append first.entries rest.entries old middle new first.run rest.run;
 }
 
-module _ (history : History) (is_history : IsHistory history) (place : ℕ) (lines : List Line) (state : State) (kept : IsKept history place lines state) where
+module _ (history : History) (is_history : IsHistory history) (place : ℕ)
+    (lines : List Line) (state : State) (kept : IsKept history place lines state) where
   -- an order that puts a call in which may as well come last leads nowhere if the order without the call does
   pub nowhere_moved : (front ys : List Line) (x : Line) (new : State) → AreOpen history.events place lines (front ++ (x ∷ ys))
       → Gives history.events state (front ++ (x ∷ ys)) new → Gives history.events state (front ++ (ys ++ x ∷ [])) new
@@ -108,7 +109,8 @@ module _ (history : History) (is_history : IsHistory history) (place : ℕ) (lin
       (nowhere_moved front ys x new opened is_given moved
       (subst (λ (ls : List Line). LeadsNowhere history (lines ++ ls)) (sym without) nowhere))
 
-  module _ (last : Line) (looks : (before : List Line) (new : State) → IsLook history place lines state before last new → LeadsNowhere history (lines ++ (before ++ last ∷ []))) where
+  module _ (last : Line) (looks : (before : List Line) (new : State)
+      → IsLook history place lines state before last new → LeadsNowhere history (lines ++ (before ++ last ∷ []))) where
     -- at most so many calls are put in
     few : (most : ℕ) (before : List Line) (new : State) → length before < most → AreOpen history.events place lines (before ++ last ∷ [])
         → Gives history.events state (before ++ last ∷ []) new → LeadsNowhere history (lines ++ (before ++ last ∷ []))

@@ -147,7 +147,9 @@ module _ (history : History) (is_history : IsHistory history) (count : ℕ) wher
             before = returns.before;
           }
 
-  module _ (front back : List Line) (valid : IsLinearization history (front ++ back)) (known : Each (NamesCall (first_part count history).events) front) (pending : Each (λ line. ¬ IsFinished (first_part count history).events (cpu_named line) (number_named line)) back) where
+  module _ (front back : List Line) (valid : IsLinearization history (front ++ back))
+      (known : Each (NamesCall (first_part count history).events) front)
+      (pending : Each (λ line. ¬ IsFinished (first_part count history).events (cpu_named line) (number_named line)) back) where
     -- the commits of the beginning
     parts : Split history.events front back (opening history.config) valid.last
     parts = split_run history.events front back valid.entries (opening history.config) valid.last valid.run.claimed valid.run.run

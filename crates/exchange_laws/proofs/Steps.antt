@@ -68,7 +68,8 @@ AreOpen-from_each events place lines (x ∷ xs) each apart = (
   AreOpen-from_each events place lines xs each.1 apart.1,
 )
 
-module _ (history : History) (is_history : IsHistory history) (place : ℕ) (lines : List Line) (state : State) (kept : IsKept history place lines state) where
+module _ (history : History) (is_history : IsHistory history) (place : ℕ)
+    (lines : List Line) (state : State) (kept : IsKept history place lines state) where
   -- a call that isn't among the lines and was made before the place is the first of its CPU that isn't
   pub next_number : (line : Line) (called : ℕ) (command : Command) → IsCalled history.events called (cpu_named line) (number_named line) command
       → called < place → count_of (cpu_named line) lines ≤ number_named line → number_named line ≡ count_of (cpu_named line) lines

@@ -64,7 +64,8 @@ IsKept-return history place cpu number given lines state is_returned has kept = 
   made = λ other later called made is below. let early = kept.made other later called made is below in omega (arith, early);
 }
 
-module _ (history : History) (is_history : IsHistory history) (place cpu number : ℕ) (given : Reply) (returned : IsReturned history.events place cpu number given) where
+module _ (history : History) (is_history : IsHistory history) (place cpu number : ℕ)
+    (given : Reply) (returned : IsReturned history.events place cpu number given) where
   -- open calls and then the returning one behind a kept order
   pub IsKept-grown : (lines before : List Line) (old new : State) → IsKept history place lines old
       → AreOpen history.events place lines (before ++ Keep cpu number ∷ []) → Gives history.events old (before ++ Keep cpu number ∷ []) new

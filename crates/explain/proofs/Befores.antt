@@ -1,6 +1,6 @@
 -- What is told of several granules.
-use Rattle.std.proofs.Common.{◌≡◌, ℕ, ◌*◌, ◌/◌, ◌%◌, ◌++◌, List, [], ◌∷◌, Option, Some, None, IsTrue, refl, sym, ◌∙◌, ap, subst, arith}
-use Rattle.std.specs.List.{slice_get}
+use Rattle.explain.proofs.Common.{◌*◌, ◌++◌, ◌∙◌, ◌∷◌, ◌≡◌, IsTrue, List, None, Option, Some, State, [], ap, arith, refl, slice_get, subst, sym, ℕ}
+use Rattle.std.proofs.Common.{◌/◌, ◌%◌}
 use Rattle.std.specs.Prelude.{MatchOption}
 use Rattle.std.proofs.lemmas.Option.{none-some}
 use Rattle.rmm_spec.specs.declared.tag.Tag.{Tag}
@@ -10,13 +10,13 @@ use Rattle.spec_machine.specs.declared.owner_report.OwnerRow.{OwnerRow}
 use Rattle.spec_machine.specs.Report.{AddsOwners, IsOwnerOf}
 use Rattle.explain.proofs.Owners.{is_row-owner_rows}
 use Rattle.rmm_spec.specs.Rows.{Needed}
-use Rattle.rmm_spec.specs.State.{State}
 use Rattle.told.specs.declared.before.GranuleBefore.{GranuleBefore}
 use Rattle.explain.specs.Before.{AreGranulesBefore, IsGranuleBefore}
 use Rattle.explain.specs.Facts.{IsFound}
 
 -- one more
-pub granules_next : (s : State) (names : List Needed) (told : List GranuleBefore) (name : Needed) (last : GranuleBefore) → AreGranulesBefore s names told
+pub granules_next : (s : State) (names : List Needed) (told : List GranuleBefore)
+    (name : Needed) (last : GranuleBefore) → AreGranulesBefore s names told
     → IsGranuleBefore s name.granule last → AreGranulesBefore s (names ++ name ∷ []) (told ++ last ∷ [])
 granules_next s [] [] name last are is = (is, tt)
 granules_next s [] (other ∷ told) name last are is = absurd are

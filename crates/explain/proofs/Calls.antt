@@ -1,10 +1,6 @@
 -- Where the call of a line was made.
-use Rattle.std.proofs.Common.{ℕ, ◌<◌, List, subst}
-use Rattle.rmm_spec.specs.declared.command.Command.{Command}
-use Rattle.rmm_spec.specs.declared.line.Line.{Line}
-use Rattle.rmm_spec.specs.HistoryText.{History, IsHistory}
-use Rattle.rmm_spec.specs.Linearization.{IsCalled, IsTooLate, IsReturned, cpu_named, number_named}
-use Rattle.rmm_spec.specs.declared.reply.Reply.{Reply}
+use Rattle.explain.proofs.Common.{◌<◌, Command, History, IsCalled, IsHistory, Line, List, Reply, cpu_named, number_named, subst, ℕ}
+use Rattle.rmm_spec.specs.Linearization.{IsTooLate, IsReturned}
 use Rattle.checker.proofs.Judging.{HasOnePlaces-from_history}
 use Rattle.explain.specs.Told.{HasLine, IsMadeAfter}
 
@@ -23,7 +19,8 @@ pub HasLine-from_IsTooLate : (history : History) → IsHistory history → (line
     → IsTooLate history.events lines line → HasLine lines (IsMadeAfter history.events returned)
 HasLine-from_IsTooLate history is_history lines line returned is_returned late =
     let before = late.3 in
-    let same = (HasOnePlaces-from_history history is_history).one_return before.returned returned (cpu_named line) (number_named line) before.given is_returned.0
+    let same =
+    (HasOnePlaces-from_history history is_history).one_return before.returned returned (cpu_named line) (number_named line) before.given is_returned.0
     before.is_returned is_returned.1 in
     let made : IsMadeAfter history.events returned late.1 = record {
       called = before.called;

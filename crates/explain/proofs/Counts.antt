@@ -1,13 +1,11 @@
 -- How many of the first events are calls.
-use Rattle.std.proofs.Common.{◌≡◌, Bool, cond, ℕ, ◌+◌, ◌<◌, List, length, take, get_or, Some, false, ap, ◌∙◌, arith, refl}
+use Rattle.explain.proofs.Common.{◌+◌, ◌<◌, ◌∙◌, ◌≡◌, Bool, Command, Event, IsCalled, List, Some, ap, arith, false, length, refl, slice_get_within, take, ℕ}
+use Rattle.std.proofs.Common.{cond, get_or}
 use Rattle.std.specs.List.{filter}
 use Rattle.std.proofs.lemmas.List.Filters.{length-filter_more}
-use Rattle.std.proofs.lemmas.Option.{get_or_from_slice_get, slice_get_within, slice_get-get_or}
-use Rattle.rmm_spec.specs.declared.command.Command.{Command}
-use Rattle.rmm_spec.specs.declared.event.Event.{Event}
+use Rattle.std.proofs.lemmas.Option.{get_or_from_slice_get, slice_get-get_or}
 use Rattle.rmm_spec.specs.declared.event.Event.TheVariants.{Called, Returned}
 use Rattle.rmm_spec.specs.declared.reply.Reply.TheVariants as reply
-use Rattle.rmm_spec.specs.Linearization.{IsCalled}
 use Rattle.explain.specs.Told.{is_call}
 
 -- what stands where nothing does
@@ -31,11 +29,13 @@ is_call-none (Called cpu number command) none = absurd (none cpu number command 
 is_call-none (Returned cpu number given) none = refl
 
 -- another event isn't
-pub calls-other : (events : List Event) (place calls : ℕ) → place < length events → ((cpu number : ℕ) (command : Command) → ¬ IsCalled events place cpu number command)
+pub calls-other : (events : List Event) (place calls : ℕ)
+    → place < length events → ((cpu number : ℕ) (command : Command) → ¬ IsCalled events place cpu number command)
     → calls ≡ length (filter is_call (take place events)) → calls ≡ length (filter is_call (take (place + 1) events))
 calls-other events place calls within none counted =
     let here = slice_get-get_or events place no_event within in
-    let other = is_call-none (get_or events place no_event) (λ cpu number command same. none cpu number command (here ∙ ap (λ (e : Event). Some e) same)) in
+    let other =
+    is_call-none (get_or events place no_event) (λ cpu number command same. none cpu number command (here ∙ ap (λ (e : Event). Some e) same)) in
     let more = length-filter_more is_call events place no_event within
     ∙ ap (λ (b : Bool). length (filter is_call (take place events)) + cond b 1 0) other in
     omega (arith, more, counted)

@@ -1,17 +1,15 @@
 -- What decides is so in the state.
+use Rattle.explain.proofs.Common.{◌∙◌, ◌≡◌, Bool, Command, List, None, Option, Reply, Some, State, ap, false, is_so, refl, subst, sym, true, ℕ}
 use Rattle.std.specs.Prelude.{MatchOption}
-use Rattle.std.proofs.Common.{◌≡◌, ℕ, ◌&&◌, ◌||◌, Bool, true, false, not, List, Ok, Err, Option, Some, None, refl, sym, ◌∙◌, ap, subst}
+use Rattle.std.proofs.Common.{◌&&◌, ◌||◌, not, Ok, Err}
 use Rattle.rmm_spec.specs.declared.accepted.Accepted.{Accepted}
 use Rattle.rmm_spec.specs.declared.accepted.Accepted.TheVariants.{Done, Reaches}
-use Rattle.rmm_spec.specs.declared.command.Command.{Command}
 use Rattle.rmm_spec.specs.declared.condition.Condition.{Condition}
 use Rattle.rmm_spec.specs.declared.refusal.Refusal.{Refusal}
-use Rattle.rmm_spec.specs.declared.reply.Reply.{Reply}
 use Rattle.rmm_spec.specs.declared.reply.Reply.TheVariants as reply
 use Rattle.rmm_spec.specs.Call.{call_of}
 use Rattle.rmm_spec.specs.Change.{changed}
 use Rattle.rmm_spec.specs.Lookup.{rec_inside}
-use Rattle.rmm_spec.specs.State.{State}
 use Rattle.rmm_spec.specs.Step.{CarriesOut, Step, outcome}
 use Rattle.conditions.specs.declared.test.Test.{Test}
 use Rattle.conditions.specs.Law.{IsFirst, IsOfWords, first_failing, refused_for}
@@ -24,7 +22,6 @@ use Rattle.told.specs.declared.explanation.Deciding.TheVariants as deciding
 use Rattle.explain.specs.declared.watch.Watch.{Watch}
 use Rattle.explain.specs.declared.watch.Watch.TheVariants as watch
 use Rattle.explain.specs.Deciding.{IsApart, IsConditionOf, IsDecision, IsFailing}
-use Rattle.explain.specs.Watch.{is_so}
 
 -- a test that fails is so where it stands, or stands in no way
 by_standing : (b : Bool) → ((b || not b) && true) ≡ true
@@ -54,9 +51,10 @@ IsFailing-first s cpu command name t first = (
 pub IsDecision-condition : (s : State) (cpu : ℕ) (command : Command) (claimed : Reply) (t : Test) (d : Deciding) (w : Watch)
     → IsFailing s cpu (call_of command) (outcome s cpu (call_of command)) t → IsOfWords command.words.items t → IsConditionOf s t d w
     → IsDecision s cpu command (outcome s cpu (call_of command)) claimed d w
-IsDecision-condition s cpu command claimed t (deciding.Condition read) (watch.Condition other standing) failing asked (is_same, is_standing, is_fact) =
-    subst (λ (x : Test). IsDecision s cpu command (outcome s cpu (call_of command)) claimed (deciding.Condition read) (watch.Condition x standing)) (sym is_same)
-    (failing, asked, is_standing, is_fact)
+IsDecision-condition s cpu command claimed t (deciding.Condition read)
+    (watch.Condition other standing) failing asked (is_same, is_standing, is_fact) =
+    subst (λ (x : Test). IsDecision s cpu command (outcome s cpu (call_of command)) claimed (deciding.Condition read) (watch.Condition x standing))
+    (sym is_same) (failing, asked, is_standing, is_fact)
 IsDecision-condition s cpu command claimed t (deciding.Condition read) (watch.Accepted other given) failing asked is = absurd is
 IsDecision-condition s cpu command claimed t (deciding.Condition read) (watch.Read source) failing asked is = absurd is
 IsDecision-condition s cpu command claimed t deciding.Accepted w failing asked is = absurd is
@@ -73,7 +71,8 @@ pub IsApart-refused : (s : State) (cpu : ℕ) (command : Command) (accepted : Ac
     → ((next : State) → ¬ Step s cpu command (reply.Ok (record { items = items })) next) → IsApart accepted items
 IsApart-refused s cpu command (Done words change) items is refused = λ same.
     refused (changed s change)
-    (subst (λ answer. CarriesOut answer s (reply.Ok (record { items = items })) (changed s change)) (sym is) (ap (λ xs. reply.Ok (record { items = xs })) (sym same), refl))
+    (subst (λ answer. CarriesOut answer s (reply.Ok (record { items = items })) (changed s change))
+    (sym is) (ap (λ xs. reply.Ok (record { items = xs })) (sym same), refl))
 IsApart-refused s cpu command (Reaches stretch) items is refused = tt
 
 -- ---- what a search answers

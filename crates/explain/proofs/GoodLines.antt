@@ -1,5 +1,6 @@
 -- A certificate's line of its kind, up to the limit and ended by a newline, is no bad line.
-use Rattle.std.proofs.Common.{◌≡◌, ℕ, zero, suc, ◌-◌, ◌≤◌, List, [], ◌∷◌, ◌++◌, length, map, take, inl, inr, refl, sym, ap, ◌∙◌, subst, arith, lit≤}
+use Rattle.explain.proofs.Common.{◌++◌, ◌∙◌, ◌∷◌, ◌≡◌, ◌≤◌, Line, List, [], ap, arith, inl, inr, length, refl, subst, suc, sym, take, zero, ℕ}
+use Rattle.std.proofs.Common.{◌-◌, map, lit≤}
 use Rattle.std.specs.List.{take-map}
 use Rattle.std.proofs.lemmas.List.{append-nil, append_cancel_left, length-append, length-map, length-take, map_push}
 use Rattle.std.proofs.lemmas.List.Splits.{join_with_byte-slice_split}
@@ -9,7 +10,6 @@ use Rattle.spec_lemmas.proofs.Lines.{first_lines-line, first_lines-take, lines_t
 use Rattle.spec_lemmas.proofs.Texts.{AllByRecursion-append}
 use Rattle.rmm_spec.specs.CertificateText.{InCertificates, IsLine, certificate_text, line_parts}
 use Rattle.rmm_spec.specs.Text.{HasNoNewline, IsBadLine, first_lines, line_text, lines_text, parts_of}
-use Rattle.rmm_spec.specs.declared.line.Line.{Line}
 use Rattle.told.specs.declared.flaw.Misplaced.TheVariants as misplaced
 use Rattle.explain.proofs.TextLines.{first_lines-again, first_lines-next, not-HasNoNewline}
 use Rattle.explain.specs.Explained.{IsLineIn, IsMisplaced}
@@ -20,13 +20,15 @@ length-first_lines n lines text is_text =
     let first : certificate_text (take n lines) ≡ certificate_text lines =
     ap lines_text (sym (take-map line_parts n lines)) ∙ sym (first_lines-take n (map line_parts lines) (line_parts-one_line lines))
     ∙ ap (first_lines n) (sym is_text) ∙ first_lines-again n text ∙ is_text in
-    let same = ap length (same_lines (map line_parts (take n lines)) (map line_parts lines) (line_parts-one_line (take n lines)) (line_parts-one_line lines) first) in
+    let same = ap length (same_lines (map line_parts (take n lines)) (map line_parts lines)
+    (line_parts-one_line (take n lines)) (line_parts-one_line lines) first) in
     omega (arith, same, length-map (take n lines) line_parts, length-map lines line_parts, length-take n lines)
 
 -- what stands before the line is in the grammar
 before_line : (n : ℕ) (text : List ℕ) → IsBadLine InCertificates text (suc n) → InCertificates (first_lines n text)
 before_line zero text bad = ([], record { is_certificate = record { each = tt; count = lit≤ tt }; is_text = refl })
-before_line (suc n) text bad = subst (λ (k : ℕ). InCertificates (first_lines k text)) (let e : suc (suc n) - 1 ≡ suc n = omega arith in e) (bad.before (omega arith))
+before_line (suc n) text bad =
+    subst (λ (k : ℕ). InCertificates (first_lines k text)) (let e : suc (suc n) - 1 ≡ suc n = omega arith in e) (bad.before (omega arith))
 
 -- with it the first lines are in the grammar too
 not-IsBadLine-good : (n : ℕ) (text bytes more : List ℕ) → suc n ≤ 1000000 → text ≡ first_lines n text ++ (bytes ++ 10 ∷ more) → HasNoNewline bytes
@@ -61,7 +63,8 @@ not_out_of_turn text bytes line bad here kind turn =
     elim here.first.ends [
       | inl ends ↦
           let rest : here.rest ≡ bytes = here.first.is_text ∙ ap (λ t. bytes ++ t) ends ∙ append-nil bytes in
-          let cut : here.rest ≡ turn.1 ++ 10 ∷ turn.2 = append_cancel_left (first_lines (line - 1) text) here.rest (turn.1 ++ 10 ∷ turn.2) (sym here.is_text ∙ turn.3) in
+          let cut : here.rest ≡ turn.1 ++ 10 ∷ turn.2 =
+          append_cancel_left (first_lines (line - 1) text) here.rest (turn.1 ++ 10 ∷ turn.2) (sym here.is_text ∙ turn.3) in
           not-HasNoNewline turn.1 turn.2 (subst HasNoNewline (sym rest ∙ cut) here.first.no_newline)
       | inr ends ↦
           not-IsBadLine-good (line - 1) text bytes ends.0 (subst (λ (k : ℕ). k ≤ 1000000) next turn.0)

@@ -1,14 +1,7 @@
 -- Later lines that are taken, and calls that overlap.
-use Rattle.std.proofs.Common.{◌≡◌, ℕ, zero, suc, ◌+◌, ◌<◌, Bool, true, false, IsTrue, List, Option, Some, None, refl, ◌∙◌, ap, subst, arith}
-use Rattle.std.specs.List.{slice_get}
+use Rattle.explain.proofs.Common.{◌+◌, ◌<◌, ◌≡◌, Bool, Command, Event, History, IsCalled, IsHistory, IsTrue, Line, List, None, Option, Reply, Some, State, arith, cpu_named, false, number_named, refl, slice_get, subst, suc, true, zero, ℕ}
 use Rattle.std.specs.Prelude.{◌&&◌, IfNone, IfOk, IfSome, MatchOption, Result, Ok, Err, not}
-use Rattle.rmm_spec.specs.declared.command.Command.{Command}
-use Rattle.rmm_spec.specs.declared.event.Event.{Event}
-use Rattle.rmm_spec.specs.declared.line.Line.{Line}
-use Rattle.rmm_spec.specs.declared.reply.Reply.{Reply}
-use Rattle.rmm_spec.specs.HistoryText.{History, IsHistory}
-use Rattle.rmm_spec.specs.Linearization.{IsCalled, IsOfItsKind, IsReplyOf, IsReturned, ReturnsBefore, cpu_named, number_named}
-use Rattle.rmm_spec.specs.State.{State}
+use Rattle.rmm_spec.specs.Linearization.{IsOfItsKind, IsReplyOf, IsReturned, ReturnsBefore}
 use Rattle.rmm_spec.specs.Step.{Step}
 use Rattle.conditions.specs.declared.test.Test.{Test}
 use Rattle.spec_lemmas.proofs.Calls.{same_command, same_reply}
@@ -22,10 +15,12 @@ fails_moved events lines cpu number t first zero old new moved = moved.1
 fails_moved events lines cpu number t first (suc count) old new moved = moved.2
 
 -- with one more
-pub moved_next : (events : List Event) (lines : List Line) (cpu number : ℕ) (t : Test) (first count : ℕ) (old mid new : State) (line : Line) (taken : Bool)
+pub moved_next : (events : List Event) (lines : List Line) (cpu number : ℕ)
+    (t : Test) (first count : ℕ) (old mid new : State) (line : Line) (taken : Bool)
     → IsMoved events lines cpu number t first count old mid → slice_get lines (first + count) ≡ Some line → Moves events cpu number line mid taken new
     → holds new t ≡ false → IsMoved events lines cpu number t first (suc count) old new
-moved_next events lines cpu number t first count old mid new line taken moved is_line moves fails = (mid, moved, fails, (line, is_line, (taken, moves)))
+moved_next events lines cpu number t first count old mid new line taken moved is_line moves fails =
+    (mid, moved, fails, (line, is_line, (taken, moves)))
 
 -- ---- one line
 
@@ -54,7 +49,8 @@ moves_by history is_history cpu number line called command given old new taken o
   kept = kept;
   only = λ is next takes.
       let one = HasOnePlaces-from_history history is_history in
-      let made = same_command history.events one takes.called called (cpu_named line) (number_named line) takes.command command takes.is_called is_called in
+      let made =
+      same_command history.events one takes.called called (cpu_named line) (number_named line) takes.command command takes.is_called is_called in
       let told = same_reply history.events one line takes.given given takes.is_given is_given in
       only is next (subst (λ (r : Reply). Step old (cpu_named line) command r next) told
       (subst (λ (c : Command). Step old (cpu_named line) c takes.given next) made takes.step));
@@ -66,7 +62,8 @@ moves_by history is_history cpu number line called command given old new taken o
 pub returns_before : (history : History) → IsHistory history → (cpu number other_cpu other returned called : ℕ)
     → (given : Reply) × IsReturned history.events returned cpu number given
     → (command : Command) × IsCalled history.events called other_cpu other command
-    → (returned < called → ReturnsBefore history.events cpu number other_cpu other) × (ReturnsBefore history.events cpu number other_cpu other → returned < called)
+    → (returned < called → ReturnsBefore history.events cpu number other_cpu other)
+    × (ReturnsBefore history.events cpu number other_cpu other → returned < called)
 returns_before history is_history cpu number other_cpu other returned called is_returned is_called = (
   λ before. record {
     returned = returned;
@@ -94,7 +91,8 @@ pub not_if : (b : Bool) → (IsTrue b → ⊥) → IsTrue (not b)
 not_if true none = absurd (none refl)
 not_if false none = refl
 
-pub match_both : {X : Type 0} (found : Option X) (Otherwise : Type 0) (P : X → Type 0) → IfNone found Otherwise → IfSome found P → MatchOption found Otherwise P
+pub match_both : {X : Type 0} (found : Option X) (Otherwise : Type 0) (P : X → Type 0)
+    → IfNone found Otherwise → IfSome found P → MatchOption found Otherwise P
 match_both None Otherwise P none some = none
 match_both (Some x) Otherwise P none some = some
 
@@ -118,12 +116,14 @@ pub moved_on : (events : List Event) (lines : List Line) (cpu number : ℕ) (t :
 moved_on events lines cpu number t index i old mid new line did (count, at, moved) is_line moves fails = (
   suc count,
   omega (arith, at),
-  moved_next events lines cpu number t (index + 1) count old mid new line did moved (subst (λ (k : ℕ). slice_get lines k ≡ Some line) at is_line) moves fails,
+  moved_next events lines cpu number t (index + 1) count old mid new line did moved
+      (subst (λ (k : ℕ). slice_get lines k ≡ Some line) at is_line) moves fails,
 )
 
 -- by what an offer answers
 pub moves_ok : {E : Type 0} (history : History) → IsHistory history → (cpu number : ℕ) (line : Line) (called : ℕ) (command : Command) (given : Reply)
-    (old new : State) (result : Result Bool E) → Overlap history.events cpu number (cpu_named line) (number_named line) → IsOfItsKind history.events line
+    (old new : State) (result : Result Bool E)
+    → Overlap history.events cpu number (cpu_named line) (number_named line) → IsOfItsKind history.events line
     → IsCalled history.events called (cpu_named line) (number_named line) command → IsReplyOf history.events line given
     → IfOk result (λ did. IsTrue did → Step old (cpu_named line) command given new) → IfOk result (λ did. did ≡ false → new ≡ old)
     → IfOk result (λ did. did ≡ false → (next : State) → ¬ Step old (cpu_named line) command given next)

@@ -1,3 +1,4 @@
+pub mod Common
 pub mod Befores
 pub mod Calls
 pub mod Counts

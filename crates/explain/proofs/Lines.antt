@@ -1,9 +1,6 @@
 -- A search through the first lines of a certificate for one of which something is said.
-use Rattle.std.proofs.Common.{◌≡◌, ℕ, ◌+◌, ◌<◌, List, take, Some, inl, inr, subst, sym, ◌∙◌, ap, arith}
-use Rattle.std.specs.List.{slice_get}
-use Rattle.std.proofs.lemmas.Bool.{cases_lt}
+use Rattle.explain.proofs.Common.{◌+◌, ◌<◌, ◌∙◌, ◌≡◌, Line, List, Some, ap, arith, cases_lt, inl, inr, slice_get, subst, sym, take, ℕ}
 use Rattle.std.proofs.lemmas.Option.{same_Some}
-use Rattle.rmm_spec.specs.declared.line.Line.{Line}
 use Rattle.lemmas.proofs.Elements.{slice_get-take}
 use Rattle.explain.specs.Told.{HasLine}
 

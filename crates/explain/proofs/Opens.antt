@@ -1,9 +1,6 @@
 -- Calls that never returned, place by place.
-use Rattle.std.proofs.Common.{◌≡◌, ℕ, suc, ◌+◌, ◌++◌, List, [], ◌∷◌, inl, inr, subst, arith}
-use Rattle.rmm_spec.specs.declared.command.Command.{Command}
-use Rattle.rmm_spec.specs.declared.event.Event.{Event}
-use Rattle.rmm_spec.specs.declared.line.Line.{Line}
-use Rattle.rmm_spec.specs.Linearization.{IsCalled, IsFinished}
+use Rattle.explain.proofs.Common.{◌++◌, ◌+◌, ◌∷◌, ◌≡◌, Command, Event, IsCalled, Line, List, [], arith, inl, inr, subst, suc, ℕ}
+use Rattle.rmm_spec.specs.Linearization.{IsFinished}
 use Rattle.told.specs.declared.named_call.UnfinishedCall.{UnfinishedCall}
 use Rattle.explain.specs.Unfinished.{AreUnfinished, IsUnfinished}
 
@@ -12,7 +9,8 @@ next_place place = omega arith
 
 -- one more
 pub next_open : (events : List Event) (lines : List Line) (place : ℕ) (before calls : List UnfinishedCall) (last : UnfinishedCall)
-    → AreUnfinished events lines place before → calls ≡ before ++ last ∷ [] → IsUnfinished events lines place last → AreUnfinished events lines (place + 1) calls
+    → AreUnfinished events lines place before → calls ≡ before ++ last ∷ []
+    → IsUnfinished events lines place last → AreUnfinished events lines (place + 1) calls
 next_open events lines place before calls last are is open_call =
     subst (λ (n : ℕ). AreUnfinished events lines n calls) (next_place place) (inl (before, are, last, is, open_call))
 

@@ -1,11 +1,10 @@
 -- The row of a granule in a report of owners.
-use Rattle.std.proofs.Common.{◌≡◌, ℕ, zero, suc, ◌*◌, ◌/◌, ◌%◌, ◌<◌, List, [], ◌∷◌, ◌++◌, length, Option, Some, None, IsTrue, inl, inr, refl, false, sym, ◌∙◌, ap, subst, arith}
-use Rattle.std.specs.List.{slice_get}
-use Rattle.std.proofs.lemmas.Bool.{cases_lt, false_from_ne_true}
+use Rattle.explain.proofs.Common.{◌*◌, ◌++◌, ◌<◌, ◌∙◌, ◌∷◌, ◌≡◌, IsTrue, List, None, Option, Some, State, [], ap, arith, cases_lt, false, inl, inr, length, refl, slice_get, slice_get_within, subst, suc, sym, zero, ℕ}
+use Rattle.std.proofs.Common.{◌/◌, ◌%◌}
+use Rattle.std.proofs.lemmas.Bool.{false_from_ne_true}
 use Rattle.std.proofs.lemmas.List.{length-append}
-use Rattle.std.proofs.lemmas.Option.{none-some, same_Some, slice_get_within}
+use Rattle.std.proofs.lemmas.Option.{none-some, same_Some}
 use Rattle.rmm_spec.specs.Lookup.{is_granule}
-use Rattle.rmm_spec.specs.State.{State}
 use Rattle.spec_machine.specs.declared.owner_report.OwnerRow.{OwnerRow}
 use Rattle.spec_machine.specs.Report.{AddsOwners, owner_rows}
 use Rattle.machine_cells.proofs.Kept.{granule_placed, place_within, place-granule}

@@ -1,18 +1,10 @@
 -- A line that is refused isn't given the reply that it claims.
-use Rattle.std.proofs.Common.{◌≡◌, ℕ, ◌+◌, List, take, refl, subst, sym, ◌∙◌, ap, arith}
-use Rattle.rmm_spec.specs.declared.command.Command.{Command}
-use Rattle.rmm_spec.specs.declared.event.Event.{Event}
-use Rattle.rmm_spec.specs.declared.line.Line.{Line}
-use Rattle.rmm_spec.specs.declared.reply.Reply.{Reply}
+use Rattle.explain.proofs.Common.{◌+◌, ◌∙◌, ◌≡◌, Command, Event, History, IsCalled, IsHistory, Line, List, Passes, Reply, Some, State, ap, arith, cpu_named, number_named, refl, slice_get, subst, sym, take, ℕ}
 use Rattle.rmm_spec.specs.declared.verdict.Reason.TheVariants as reason
-use Rattle.rmm_spec.specs.FirstFault.{FailsAt, IsRefused, Passes}
-use Rattle.rmm_spec.specs.HistoryText.{History, IsHistory}
-use Rattle.rmm_spec.specs.Linearization.{IsCalled, IsReplyOf, cpu_named, number_named}
-use Rattle.rmm_spec.specs.State.{State}
+use Rattle.rmm_spec.specs.FirstFault.{FailsAt, IsRefused}
+use Rattle.rmm_spec.specs.Linearization.{IsReplyOf}
 use Rattle.rmm_spec.specs.Step.{Step}
-use Rattle.std.specs.List.{slice_get}
 use Rattle.std.proofs.lemmas.Option.{same_Some}
-use Rattle.std.specs.Prelude.{Some}
 use Rattle.explain.proofs.Replaying.{same_state}
 
 -- the command that it names isn't given it

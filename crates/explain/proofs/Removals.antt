@@ -9,7 +9,8 @@ use Rattle.explain.specs.Facts.{in_the_way}
 
 -- where no entry does, it can be taken out
 pub left_there : (removal : Removal) (s : State) (rd level number : ℕ)
-    → has_entry s rd level number (in_the_way removal (entry_at s rd level (512 * number))) ≡ false → is_some (ripas_left removal s rd level number) ≡ true
+    → has_entry s rd level number (in_the_way removal (entry_at s rd level (512 * number))) ≡ false
+    → is_some (ripas_left removal s rd level number) ≡ true
 unfolding ripas_left
 left_there Destroy s rd level number none = rw none refl
 left_there Fold s rd level number none = rw none refl

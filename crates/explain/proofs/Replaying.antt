@@ -1,16 +1,9 @@
 -- Lines that pass are taken once more, and lead to one state.
-use Rattle.std.proofs.Common.{◌≡◌, ℕ, zero, suc, ◌+◌, ◌<◌, ◌≤◌, List, [], ◌∷◌, take, Some, refl, sym, ◌∙◌, ap, subst, arith}
-use Rattle.std.specs.List.{slice_get}
-use Rattle.rmm_spec.specs.declared.command.Command.{Command}
-use Rattle.rmm_spec.specs.declared.event.Event.{Event}
-use Rattle.rmm_spec.specs.declared.line.Line.{Line}
-use Rattle.rmm_spec.specs.declared.reply.Reply.{Reply}
-use Rattle.rmm_spec.specs.HistoryText.{History, IsHistory}
-use Rattle.rmm_spec.specs.State.{State, opening}
+use Rattle.explain.proofs.Common.{◌+◌, ◌<◌, ◌∙◌, ◌∷◌, ◌≡◌, ◌≤◌, Command, Event, History, IsCalled, IsHistory, Line, List, Passes, Reply, Some, State, [], ap, arith, cpu_named, number_named, refl, slice_get, subst, suc, sym, take, zero, ℕ}
+use Rattle.rmm_spec.specs.State.{opening}
 use Rattle.rmm_spec.specs.Step.{Step}
 use Rattle.rmm_spec.specs.Run.{JournalEntry, IsRun}
-use Rattle.rmm_spec.specs.Linearization.{AreEntriesOf, IsCalled, IsNamed, IsOfItsKind, IsReplyOf, IsTooLate, NamesCall, cpu_named, number_named}
-use Rattle.rmm_spec.specs.FirstFault.{Passes}
+use Rattle.rmm_spec.specs.Linearization.{AreEntriesOf, IsNamed, IsOfItsKind, IsReplyOf, IsTooLate, NamesCall}
 use Rattle.rmm_laws.proofs.StepLaws.{step-decides}
 use Rattle.spec_lemmas.proofs.Calls.{HasOnePlaces, SameEntries, same_entry}
 use Rattle.lemmas.proofs.Elements.{slice_get-take, take-next_at}
@@ -43,7 +36,8 @@ same_last events one (l ∷ lines) (e ∷ entries) (f ∷ others) start last oth
     same_last events one lines entries others ran.0 last other claimed.1 (subst (λ (s : State). IsRun s entries last) same run.2) also.1 ran.2
 
 -- lines that pass lead to one state
-pub same_state : (history : History) → IsHistory history → (lines : List Line) (last other : State) → Passes history lines last → Passes history lines other
+pub same_state : (history : History) → IsHistory history → (lines : List Line) (last other : State)
+    → Passes history lines last → Passes history lines other
     → last ≡ other
 same_state history is_history lines last other passes also =
     same_last history.events (HasOnePlaces-from_history history is_history) lines passes.entries also.entries (opening history.config) last other
@@ -52,7 +46,8 @@ same_state history is_history lines last other passes also =
 -- ---- one line more
 
 -- an element below the count is one of the front
-pub slice_get-front : {X : Type 0} (count : ℕ) (xs : List X) (i : ℕ) (x : X) → i < count → slice_get xs i ≡ Some x → slice_get (take count xs) i ≡ Some x
+pub slice_get-front : {X : Type 0} (count : ℕ) (xs : List X) (i : ℕ) (x : X)
+    → i < count → slice_get xs i ≡ Some x → slice_get (take count xs) i ≡ Some x
 slice_get-front zero xs i x below is = absurd (let bad : ⊥ = omega (arith, below) in bad)
 slice_get-front (suc count) [] i x below is = is
 slice_get-front (suc count) (y ∷ xs) zero x below is = is
@@ -85,12 +80,14 @@ module _ (history : History) (is_history : IsHistory history) (lines : List Line
   unnamed : ¬ IsNamed (take i lines) (cpu_named line) (number_named line)
   unnamed (j, other, is_other, same_cpu, same_number) =
       let at = slice_get-take i lines j other is_other in
-      passing.passes.names.once j i other line at.0 (slice_get-front passing.count lines j other (omega (arith, at.0, passing.below)) at.1) here (same_cpu, same_number)
+      passing.passes.names.once j i other line at.0
+      (slice_get-front passing.count lines j other (omega (arith, at.0, passing.below)) at.1) here (same_cpu, same_number)
 
   in_time : ¬ IsTooLate history.events (take i lines) line
   in_time (j, other, is_other, returns) =
       let at = slice_get-take i lines j other is_other in
-      passing.passes.real_time j i other line at.0 (slice_get-front passing.count lines j other (omega (arith, at.0, passing.below)) at.1) here returns
+      passing.passes.real_time j i other line at.0
+      (slice_get-front passing.count lines j other (omega (arith, at.0, passing.below)) at.1) here returns
 
   -- the machine isn't without an answer to it
   pub not-refused : (called : ℕ) (command : Command) (given : Reply) → IsCalled history.events called (cpu_named line) (number_named line) command
@@ -104,7 +101,8 @@ module _ (history : History) (is_history : IsHistory history) (lines : List Line
       (IsRefused-from_step history.events one old line called command given is_called is_given refuses)
 
   -- and with it the lines pass
-  pub Passes-taken : (called : ℕ) (command : Command) (given : Reply) (new : State) → IsCalled history.events called (cpu_named line) (number_named line) command
+  pub Passes-taken : (called : ℕ) (command : Command) (given : Reply) (new : State)
+      → IsCalled history.events called (cpu_named line) (number_named line) command
       → IsReplyOf history.events line given → Step old (cpu_named line) command given new → Passes history (take (i + 1) lines) new
   Passes-taken called command given new is_called is_given step =
       subst (λ (ls : List Line). Passes history ls new) (sym (take-next_at lines i line is_line))

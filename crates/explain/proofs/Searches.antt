@@ -1,8 +1,6 @@
 -- What a loop over numbers, or over the granules of a report, has found so far.
-use Rattle.std.proofs.Common.{◌≡◌, ℕ, suc, ◌+◌, ◌*◌, ◌≤◌, Bool, false, List, [], length, Some, refl, sym, ◌∙◌, ap, subst, arith}
-use Rattle.std.specs.List.{slice_get}
+use Rattle.explain.proofs.Common.{◌*◌, ◌+◌, ◌∙◌, ◌≡◌, ◌≤◌, Bool, List, Some, State, [], ap, arith, false, length, refl, slice_get, subst, suc, sym, ℕ}
 use Rattle.rmm_spec.specs.Lookup.{any_below}
-use Rattle.rmm_spec.specs.State.{State}
 use Rattle.spec_machine.specs.declared.owner_report.OwnerRow.{OwnerRow}
 use Rattle.spec_machine.specs.Report.{AddsOwners}
 use Rattle.explain.proofs.Owners.{is_row-owner_rows, length-owner_rows}
@@ -20,11 +18,13 @@ pub length-report : (s : State) (rows : List OwnerRow) → AddsOwners s [] rows 
 length-report s rows report = ap (λ (xs : List OwnerRow). length xs) report.2 ∙ length-owner_rows s report.0 s.config.granules
 
 -- of its place
-pub granule-row : (s : State) (rows : List OwnerRow) (k : ℕ) (row : OwnerRow) → AddsOwners s [] rows → slice_get rows k ≡ Some row → row.granule ≡ k * 4096
+pub granule-row : (s : State) (rows : List OwnerRow) (k : ℕ) (row : OwnerRow)
+    → AddsOwners s [] rows → slice_get rows k ≡ Some row → row.granule ≡ k * 4096
 granule-row s rows k row report is_row = sym (ap (λ (r : OwnerRow). r.granule) (is_row-owner_rows s rows k row report is_row).1)
 
 -- none of the granules of the rows so far passes, with that of one row more
-pub none_next_row : (s : State) (rows : List OwnerRow) (p : ℕ → Bool) (i granule : ℕ) (row : OwnerRow) → AddsOwners s [] rows → slice_get rows i ≡ Some row
+pub none_next_row : (s : State) (rows : List OwnerRow) (p : ℕ → Bool) (i granule : ℕ) (row : OwnerRow)
+    → AddsOwners s [] rows → slice_get rows i ≡ Some row
     → granule ≡ row.granule → p granule ≡ false → any_below i (λ k. p (k * 4096)) ≡ false → any_below (i + 1) (λ k. p (k * 4096)) ≡ false
 none_next_row s rows p i granule row report is_row same here below =
     none_next i (λ k. p (k * 4096)) (subst (λ (g : ℕ). p g ≡ false) (same ∙ granule-row s rows i row report is_row) here) below

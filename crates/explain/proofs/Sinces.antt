@@ -1,18 +1,15 @@
 -- What was kept says since when it is so.
-use Rattle.std.proofs.Common.{◌≡◌, ◌≢◌, ℕ, ◌+◌, ◌<◌, ◌≤◌, Bool, true, false, not, ◌||◌, List, take, Option, Some, None, inl, inr, refl, sym, ◌∙◌, ap, subst, arith}
+use Rattle.explain.proofs.Common.{◌+◌, ◌<◌, ◌∙◌, ◌≡◌, ◌≤◌, Bool, History, IsHistory, Line, List, None, Option, Passes, Some, State, ap, arith, cases_lt, false, inl, inr, is_so, refl, subst, sym, take, true, ℕ}
+use Rattle.std.proofs.Common.{◌≢◌, not, ◌||◌}
 use Rattle.std.specs.Prelude.{IfNone, IfSome}
-use Rattle.std.proofs.lemmas.Bool.{and_parts, both_ways, cases_lt}
-use Rattle.rmm_spec.specs.declared.line.Line.{Line}
-use Rattle.rmm_spec.specs.FirstFault.{Passes}
-use Rattle.rmm_spec.specs.HistoryText.{History, IsHistory}
-use Rattle.rmm_spec.specs.State.{State}
+use Rattle.std.proofs.lemmas.Bool.{and_parts, both_ways}
 use Rattle.conditions.specs.Tests.{stands}
 use Rattle.told.specs.declared.named_call.EarlierStep.{EarlierStep}
 use Rattle.explain.specs.declared.track.Track.{Track}
 use Rattle.explain.specs.declared.watch.Watch.{Watch}
 use Rattle.explain.specs.declared.watch.Watch.TheVariants as watch
 use Rattle.explain.specs.Track.{IsTrack, since_told}
-use Rattle.explain.specs.Watch.{IsEarlier, IsFrom, IsOfLife, IsSince, Throughout, is_so, is_there, showing, shown}
+use Rattle.explain.specs.Watch.{IsEarlier, IsFrom, IsOfLife, IsSince, Throughout, is_there, showing, shown}
 use Rattle.explain.proofs.Replaying.{same_state}
 
 -- the step after which so many lines were taken, where there is one
@@ -28,7 +25,8 @@ there-so s other (watch.Accepted cpu command) so not_so = refl
 there-so s other (watch.Read source) so not_so = absurd cc
 
 module _ (history : History) (is_history : IsHistory history) (lines : List Line) (index : ℕ) (w : Watch) (last : State)
-    (passes : Passes history (take index lines) last) (so : is_so last w ≡ true) (track : Track) (is : IsTrack history lines w (index + 1) track) where
+    (passes : Passes history (take index lines) last) (so : is_so last w ≡ true)
+    (track : Track) (is : IsTrack history lines w (index + 1) track) where
   -- it is so at the end
   pub since-within : track.turn.since ≤ index
   since-within = elim (cases_lt index track.turn.since) [
@@ -39,7 +37,8 @@ module _ (history : History) (is_history : IsHistory history) (lines : List Line
     | inr within ↦ within
   ]
 
-  from_turn : (earlier : EarlierStep) → earlier.step ≡ track.turn.since → IsEarlier history lines (index + 1) earlier → (there : Bool) → track.turn.was_there ≡ there
+  from_turn : (earlier : EarlierStep) → earlier.step ≡ track.turn.since
+      → IsEarlier history lines (index + 1) earlier → (there : Bool) → track.turn.was_there ≡ there
       → IsFrom history lines index (Some earlier) (λ s. (is_so s w ≡ false) × (is_there s w ≡ there)) (λ s. is_so s w ≡ true)
   from_turn earlier at is_earlier there was =
       let before = is_earlier.0.0 in
@@ -56,7 +55,8 @@ module _ (history : History) (is_history : IsHistory history) (lines : List Line
   from_start count none at other from upto = is.turn.so other (omega (arith, none, at)) (omega (arith, upto))
 
   from_set : (set : Option EarlierStep) → IsStepOf history lines index track.kept.set set
-      → IsFrom history lines index set (λ s. shown s w ≢ showing track.kept.there track.kept.read.items) (λ s. shown s w ≡ showing track.kept.there track.kept.read.items)
+      → IsFrom history lines index set (λ s. shown s w ≢ showing track.kept.there track.kept.read.items)
+      (λ s. shown s w ≡ showing track.kept.there track.kept.read.items)
   from_set None told = λ count from upto. is.kept.read count (omega (arith, told.none)) (omega (arith, upto))
   from_set (Some earlier) told =
       let is_earlier = told.some.1 in
@@ -95,11 +95,16 @@ module _ (history : History) (is_history : IsHistory history) (lines : List Line
       → (made.step ≡ track.turn.since) × IsEarlier history lines (index + 1) made → IsStepOf history lines index track.kept.set set
       → IsSince history lines index w (since_told (Some made) set there)
   by_there made set true was told also = from_turn made told.0 told.1 true was
-  by_there made set false was told also =
-      (from_turn made told.0 told.1 false was, showing track.kept.there track.kept.read.items, from_set set also, of_life made told.0 told.1 was set also)
+  by_there made set false was told also = (
+    from_turn made told.0 told.1 false was,
+    showing track.kept.there track.kept.read.items,
+    from_set set also,
+    of_life made told.0 told.1 was set also,
+  )
 
   -- so it is told
-  pub IsSince-told : (made set : Option EarlierStep) → IsStepOf history lines index track.turn.since made → IsStepOf history lines index track.kept.set set
+  pub IsSince-told : (made set : Option EarlierStep)
+      → IsStepOf history lines index track.turn.since made → IsStepOf history lines index track.kept.set set
       → IsSince history lines index w (since_told made set track.turn.was_there)
   IsSince-told None set told also =
       (from_start track.turn.since told.none refl, showing track.kept.there track.kept.read.items, from_set set also, tt)

@@ -16,7 +16,8 @@ pub IsBehind-next : (text : List ℕ) (count left : ℕ) (rest cut more : List �
     → IsBehind text count (suc left) rest → IsBehind text count left more
 IsBehind-next text count left rest cut more none is_rest behind = record {
   before = behind.before ++ (cut ++ 10 ∷ []);
-  is_text = behind.is_text ∙ ap (λ bytes. behind.before ++ bytes) (is_rest ∙ sym (append_assoc cut (10 ∷ []) more)) ∙ sym (append_assoc behind.before (cut ++ 10 ∷ []) more);
+  is_text = behind.is_text ∙ ap (λ bytes. behind.before ++ bytes) (is_rest ∙ sym (append_assoc cut (10 ∷ []) more))
+      ∙ sym (append_assoc behind.before (cut ++ 10 ∷ []) more);
   lines = behind.lines
       ∙ ap (λ bytes. behind.before ++ first_lines (suc left) bytes) is_rest
       ∙ ap (λ bytes. behind.before ++ bytes) (first_lines-line left cut more none ∙ sym (append_assoc cut (10 ∷ []) (first_lines left more)))
@@ -31,7 +32,8 @@ first_lines-one_line n (byte ∷ text) none =
     ∙ ap (λ bytes. byte ∷ bytes) (first_lines-one_line n text none.1)
 
 -- nothing is left of a text that has too few lines
-pub first_lines-few : (text : List ℕ) (count left : ℕ) (rest : List ℕ) → HasNoNewline rest → IsBehind text count (suc left) rest → text ≡ first_lines count text ++ []
+pub first_lines-few : (text : List ℕ) (count left : ℕ) (rest : List ℕ)
+    → HasNoNewline rest → IsBehind text count (suc left) rest → text ≡ first_lines count text ++ []
 first_lines-few text count left rest none behind =
     behind.is_text
     ∙ ap (λ bytes. behind.before ++ bytes) (sym (first_lines-one_line left rest none))
@@ -45,7 +47,8 @@ first_lines-again (suc n) [] = refl
 first_lines-again (suc n) (byte ∷ text) = ap (λ bytes. byte ∷ bytes) (first_lines-again (if byte == 10 then n else suc n) text)
 
 -- one line more is the first line of the rest
-pub first_lines-next : (n : ℕ) (text rest : List ℕ) → text ≡ first_lines n text ++ rest → first_lines (suc n) text ≡ first_lines n text ++ first_lines 1 rest
+pub first_lines-next : (n : ℕ) (text rest : List ℕ)
+    → text ≡ first_lines n text ++ rest → first_lines (suc n) text ≡ first_lines n text ++ first_lines 1 rest
 first_lines-next zero text rest is_text = ap (first_lines 1) is_text
 first_lines-next (suc n) [] rest is_text = ap (first_lines 1) is_text
 first_lines-next (suc n) (byte ∷ text) rest is_text = by (byte == 10) is_text (λ m is_rest. first_lines-next m text rest is_rest)

@@ -1,15 +1,11 @@
 -- One more state that was seen.
-use Rattle.std.proofs.Common.{◌≡◌, ◌≢◌, ℕ, ◌+◌, ◌<◌, ◌≤◌, true, false, Bool, List, take, inl, inr, sym, ◌∙◌, subst, arith}
-use Rattle.std.proofs.lemmas.Bool.{cases_lt}
-use Rattle.rmm_spec.specs.declared.line.Line.{Line}
-use Rattle.rmm_spec.specs.FirstFault.{Passes}
-use Rattle.rmm_spec.specs.HistoryText.{History}
-use Rattle.rmm_spec.specs.State.{State}
+use Rattle.explain.proofs.Common.{◌+◌, ◌<◌, ◌∙◌, ◌≡◌, ◌≤◌, Bool, History, Line, List, Passes, State, arith, cases_lt, false, inl, inr, is_so, subst, sym, take, true, ℕ}
+use Rattle.std.proofs.Common.{◌≢◌}
 use Rattle.explain.specs.declared.track.Kept.{Kept}
 use Rattle.explain.specs.declared.track.Turn.{Turn}
 use Rattle.explain.specs.declared.watch.Watch.{Watch}
 use Rattle.explain.specs.Track.{IsKept, IsTurn}
-use Rattle.explain.specs.Watch.{At, is_so, is_there, showing, shown}
+use Rattle.explain.specs.Watch.{At, is_there, showing, shown}
 
 module _ (history : History) (lines : List Line) (w : Watch) (seen : ℕ) (s : State) (passes : Passes history (take seen lines) s) where
   -- said of the states so far and of this one
@@ -31,7 +27,8 @@ module _ (history : History) (lines : List Line) (w : Watch) (seen : ℕ) (s : S
   }
 
   -- it isn't
-  pub IsTurn-not : (there : Bool) → is_so s w ≡ false → is_there s w ≡ there → IsTurn history lines w (seen + 1) (record { since = seen + 1; was_there = there })
+  pub IsTurn-not : (there : Bool) → is_so s w ≡ false → is_there s w ≡ there
+      → IsTurn history lines w (seen + 1) (record { since = seen + 1; was_there = there })
   IsTurn-not there not_so is_there_so = record {
     so = λ count from below. absurd (let bad : ⊥ = omega (arith, from, below) in bad);
     turned = λ before is.
@@ -41,7 +38,8 @@ module _ (history : History) (lines : List Line) (w : Watch) (seen : ℕ) (s : S
   }
 
   -- the same is seen
-  pub IsKept-same : (kept : Kept) → shown s w ≡ showing kept.there kept.read.items → IsKept history lines w seen kept → IsKept history lines w (seen + 1) kept
+  pub IsKept-same : (kept : Kept) → shown s w ≡ showing kept.there kept.read.items
+      → IsKept history lines w seen kept → IsKept history lines w (seen + 1) kept
   IsKept-same kept same is = record {
     read = At-next kept.set (λ (x : State). shown x w ≡ showing kept.there kept.read.items) is.read same;
     changed = is.changed;
@@ -49,7 +47,8 @@ module _ (history : History) (lines : List Line) (w : Watch) (seen : ℕ) (s : S
   }
 
   -- something else
-  pub IsKept-other : (old new : Kept) → shown s w ≡ showing new.there new.read.items → new.set ≡ seen → showing new.there new.read.items ≢ showing old.there old.read.items
+  pub IsKept-other : (old new : Kept)
+      → shown s w ≡ showing new.there new.read.items → new.set ≡ seen → showing new.there new.read.items ≢ showing old.there old.read.items
       → IsKept history lines w seen old → IsKept history lines w (seen + 1) new
   IsKept-other old new here at other is = record {
     read = At-next new.set (λ (x : State). shown x w ≡ showing new.there new.read.items)

@@ -1,8 +1,6 @@
 -- Words by their places, and the word for a hash.
-use Rattle.std.proofs.Common.{◌≡◌, ℕ, zero, suc, ◌≤◌, ◌<◌, false, nat_le, List, [], ◌∷◌, length, None, refl, sym, ◌∙◌, ap, arith, inl, inr}
-use Rattle.std.specs.List.{slice_get}
-use Rattle.std.proofs.lemmas.Bool.Decides.{nat_tests}
-use Rattle.std.proofs.lemmas.Bool.{cases_lt}
+use Rattle.explain.proofs.Common.{◌<◌, ◌∙◌, ◌∷◌, ◌≡◌, ◌≤◌, List, None, [], ap, arith, cases_lt, false, inl, inr, length, nat_tests, refl, slice_get, suc, sym, zero, ℕ}
+use Rattle.std.proofs.Common.{nat_le}
 use Rattle.std.proofs.lemmas.Option.{none-some, same_Some}
 use Rattle.rmm_spec.specs.declared.version.Version.{Version}
 use Rattle.rmm_spec.specs.declared.version.Version.TheVariants.{One, Two, Large}

@@ -1,8 +1,8 @@
 -- The words of a reply, by what they are read from.
-use Rattle.std.proofs.Common.{◌≡◌, ℕ, zero, suc, ◌-◌, ◌≤◌, Bool, true, false, nat_le, min, List, [], ◌∷◌, Option, Some, None, Ok, Err, IsTrue, is_some, Result, if◌then◌else◌, refl, sym, ◌∙◌, ap, arith}
+use Rattle.explain.proofs.Common.{◌∙◌, ◌∷◌, ◌≡◌, ◌≤◌, Bool, IsTrue, List, None, Option, Some, State, [], ap, arith, false, nat_tests, refl, suc, sym, true, zero, ℕ}
+use Rattle.std.proofs.Common.{◌-◌, nat_le, min, Ok, Err, is_some, Result, if◌then◌else◌}
 use Rattle.std.specs.List.{AllByRecursion}
 use Rattle.std.proofs.lemmas.Bool.{and_parts}
-use Rattle.std.proofs.lemmas.Bool.Decides.{nat_tests}
 use Rattle.rmm_spec.specs.declared.accepted.Accepted.{Accepted}
 use Rattle.rmm_spec.specs.declared.accepted.Accepted.TheVariants.{Done, Reaches}
 use Rattle.rmm_spec.specs.declared.call.Call.{Call}
@@ -13,7 +13,7 @@ use Rattle.rmm_spec.specs.declared.tag.Tag.TheVariants.{Rd}
 use Rattle.rmm_spec.specs.Lookup.{has_tag, is_inside, realm_at, rec_at, rec_inside, request_of}
 use Rattle.rmm_spec.specs.Rows.{Needed, Word, done}
 use Rattle.rmm_spec.specs.Sound.{IsSound}
-use Rattle.rmm_spec.specs.State.{State, RealmRecord, RecRecord, Request}
+use Rattle.rmm_spec.specs.State.{RealmRecord, RecRecord, Request}
 use Rattle.rmm_spec.specs.Step.{answer_of, is_placed, outcome}
 use Rattle.rmm_spec.specs.Step.Terms.{Class, ByHost, ByRealm, ByExit, class_of, named, words_of}
 use Rattle.spec_lemmas.proofs.Behind.{behind}
@@ -64,7 +64,8 @@ held_inside s cpu sound inside =
     record { held = rec.0; is_held = rec.1; realm = realm.0; is_realm = realm.1; tag = running.owner }
 
 -- what is accepted is placed
-placed_by : (placed : Bool) (here : Result Accepted Refusal) (otherwise : Refusal) (found : Accepted) → (if placed then here else Err otherwise) ≡ Ok found → placed ≡ true
+placed_by : (placed : Bool) (here : Result Accepted Refusal) (otherwise : Refusal) (found : Accepted)
+    → (if placed then here else Err otherwise) ≡ Ok found → placed ≡ true
 placed_by true here otherwise found is = refl
 placed_by false here otherwise found is = absurd cc
 
@@ -80,7 +81,8 @@ needs_by s cpu ByHost sound placed = tt
 needs_by s cpu ByRealm sound placed = held_inside s cpu sound (and_parts (is_inside s cpu) _ placed).0
 needs_by s cpu ByExit sound placed = held_inside s cpu sound placed
 
-asked_base : (found : Option RecRecord) (s : State) (rec : ℕ) → s.rec rec ≡ found → (request_of (rec_at s rec)).base ≡ at 0 (read s (source.Request rec))
+asked_base : (found : Option RecRecord) (s : State) (rec : ℕ)
+    → s.rec rec ≡ found → (request_of (rec_at s rec)).base ≡ at 0 (read s (source.Request rec))
 unfolding read rec_at
 asked_base None s rec is = rw is refl
 asked_base (Some held) s rec is = rw is (by_request held held.request refl)

@@ -117,7 +117,8 @@ IsOnFirstLine text Says = (first : List ℕ) × IsFirstLine text first × Says f
 abbrev pub IsHistoryFlaw : Flaw → List ℕ → ℕ → List (List ℕ) → Type 0
 IsHistoryFlaw told text line parts =
     (line ≡ 1 → IsFlawOf IsHeader told text line parts)
-    × (line ≢ 1 → IsOnFirstLine text (λ header. (config : Config) → IsHeaderOf (parts_of header) config → IsFlawOf (IsEventLine config.cpus) told text line parts))
+    × (line ≢ 1 → IsOnFirstLine text (λ header. (config : Config)
+    → IsHeaderOf (parts_of header) config → IsFlawOf (IsEventLine config.cpus) told text line parts))
 
 -- of a certificate's line, which is never out of turn
 abbrev pub IsCertificateFlaw : Flaw → List ℕ → ℕ → List (List ℕ) → Type 0

@@ -57,7 +57,8 @@ made_by _ = fact.Nothing
 
 -- The step comes after the failing line, and its call overlaps that line's call. The overlapping lines between are taken first, and leave
 -- the condition as it fails; with this one it holds.
-pub record IsLate (events : List Event) (lines : List Line) (index : ℕ) (call : NamedCall) (t : Test) (here : State) (late : LateCommit) : Type 0 where
+pub record IsLate (events : List Event) (lines : List Line) (index : ℕ)
+    (call : NamedCall) (t : Test) (here : State) (late : LateCommit) : Type 0 where
   pub count : ℕ
   pub counted : late.step ≡ index + 1 + count + 1
   pub line : Line

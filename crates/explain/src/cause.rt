@@ -230,7 +230,8 @@ fn told_of(
     requires told { IsTold history.now.recorded.events call.now }
     requires specified { replies.now.specified.now ≡ outcome (state_of machine.now) call.now.cpu (call_of call.now.call.command) }
     requires refused { (next : State) → ¬ Step (state_of machine.now) call.now.cpu call.now.call.command replies.now.claimed.now next }
-    ensures { IfOk result (IsToldOf history.now.recorded certificate.now.lines index (state_of machine.now) call.now replies.now.specified.now replies.now.claimed.now) }
+    ensures { IfOk result (IsToldOf history.now.recorded certificate.now.lines index
+        (state_of machine.now) call.now replies.now.specified.now replies.now.claimed.now) }
 {
     let command = &call.call.command;
     let mut owners = Vec::new(alloc);

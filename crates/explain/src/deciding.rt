@@ -67,7 +67,8 @@ fn failing_condition(
 ) -> Result<Decision, AllocError>
     requires owners { AddsOwners (state_of machine.now) [] owners.now }
     requires refused { (refused : Refused) × (outcome (state_of machine.now) cpu (call_of command.now) ≡ Err refused) }
-    ensures decision { IfOk result (λ d. (claimed : Claimed) → IsDecision (state_of machine.now) cpu command.now (outcome (state_of machine.now) cpu (call_of command.now)) claimed d.deciding d.watch) }
+    ensures decision { IfOk result (λ d. (claimed : Claimed)
+        → IsDecision (state_of machine.now) cpu command.now (outcome (state_of machine.now) cpu (call_of command.now)) claimed d.deciding d.watch) }
     ensures so { IfOk result (λ d. is_so (state_of machine.now) d.watch ≡ true) }
 {
     let _fact = conditions_decide();

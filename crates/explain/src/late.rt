@@ -33,7 +33,8 @@ pub(crate) fn late_commit(
     requires within { index < length certificate.now.lines }
     requires told { IsTold history.now.recorded.events call.now }
     requires fails { holds (state_of machine.now) test ≡ false }
-    ensures { IfOk result (λ found. MatchOption found (HasNoLate history.now.recorded.events certificate.now.lines index call.now test (state_of machine.now))
+    ensures { IfOk result (λ found. MatchOption found
+        (HasNoLate history.now.recorded.events certificate.now.lines index call.now test (state_of machine.now))
         (IsLate history.now.recorded.events certificate.now.lines index call.now test (state_of machine.now))) }
 {
     let Some(places) = history.places_of(call.cpu, call.number) else {
@@ -86,7 +87,8 @@ fn takes(
     places: Places,
 ) -> Result<bool, AllocError>
     requires places { ArePlacesOf history.now.recorded.events call.now.cpu call.now.number places }
-    ensures { IfOk result (λ taken. Moves history.now.recorded.events call.now.cpu call.now.number (line_seen line.entry) (state_of machine.old) taken (state_of machine.new)) }
+    ensures { IfOk result (λ taken. Moves history.now.recorded.events call.now.cpu call.now.number
+        (line_seen line.entry) (state_of machine.old) taken (state_of machine.new)) }
 {
     let _fact = history.well_formed();
     let (cpu, number) = called_by(line);

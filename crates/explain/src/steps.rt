@@ -45,7 +45,8 @@ pub(crate) fn steps_of(
     requires so { is_so (state_of machine.now) decision.now.watch ≡ true }
     ensures since { IfOk result (λ steps. IsSince history.now.recorded certificate.now.lines index decision.now.watch steps.since) }
     ensures put { IfOk result (λ steps. IfSome steps.put (IsPut history.now.recorded certificate.now.lines index decision.now.deciding)) }
-    ensures late { IfOk result (λ steps. IsLateOf history.now.recorded.events certificate.now.lines index call.now decision.now.watch (state_of machine.now) steps.late) }
+    ensures late { IfOk result (λ steps.
+        IsLateOf history.now.recorded.events certificate.now.lines index call.now decision.now.watch (state_of machine.now) steps.late) }
 {
     let since = since_of(alloc, history, certificate, index, &decision.watch)?;
     let put = put_by(

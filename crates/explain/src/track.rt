@@ -71,7 +71,8 @@ pub(crate) fn track_with(track: Track, count: usize, sample: Sample) -> Track
 
 fn turn_with(turn: Turn, count: usize, so: bool, there: bool) -> Turn
     requires { count < 2 ^ 63 }
-    ensures { (history : Recorded) (lines : List Line) (w : Watched) (s : State) → Passes history (take count lines) s → so ≡ is_so s w → there ≡ is_there s w
+    ensures { (history : Recorded) (lines : List Line) (w : Watched) (s : State)
+        → Passes history (take count lines) s → so ≡ is_so s w → there ≡ is_there s w
         → IsTurn history lines w count turn → IsTurn history lines w (count + 1) result }
 {
     if so {
@@ -84,7 +85,8 @@ fn turn_with(turn: Turn, count: usize, so: bool, there: bool) -> Turn
 }
 
 fn kept_with(kept: Kept, count: usize, there: bool, read: ArrayVec<u64, 10>) -> Kept
-    ensures { (history : Recorded) (lines : List Line) (w : Watched) (s : State) → Passes history (take count lines) s → shown s w ≡ showing there read.items
+    ensures { (history : Recorded) (lines : List Line) (w : Watched) (s : State)
+        → Passes history (take count lines) s → shown s w ≡ showing there read.items
         → IsKept history lines w count kept → IsKept history lines w (count + 1) result }
 {
     if is_seen(&kept, there, &read) {

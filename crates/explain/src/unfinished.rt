@@ -18,7 +18,8 @@ pub(crate) fn unfinished_calls(
     history: &History,
     certificate: &Certificate,
 ) -> Result<Vec<UnfinishedCall>, AllocError>
-    ensures { IfOk result (λ calls. AreUnfinished history.now.recorded.events certificate.now.lines (length history.now.recorded.events) calls.items) }
+    ensures { IfOk result (λ calls. AreUnfinished history.now.recorded.events certificate.now.lines
+        (length history.now.recorded.events) calls.items) }
 {
     let mut calls = Vec::new(alloc);
     for place in 0..history.len() {

@@ -11,12 +11,15 @@ use Rattle.explain_page.specs.declared.own.frame.Frame.TheVariants.{Report, End}
 use Rattle.explain_page.specs.Page.{AppendsPage, AppendsReport}
 
 -- three stretches of pieces, one behind the other
-pub texts-three : {M : Type 0} (text : M → List ℕ) (xs ys zs : List (Piece M)) (start a b c : List ℕ) → start ≡ [] → a ≡ start ++ texts text xs → b ≡ a ++ texts text ys
+pub texts-three : {M : Type 0} (text : M → List ℕ) (xs ys zs : List (Piece M)) (start a b c : List ℕ)
+    → start ≡ [] → a ≡ start ++ texts text xs → b ≡ a ++ texts text ys
     → c ≡ b ++ texts text zs → c ≡ texts text (xs ++ ys ++ zs)
 unfolding texts
 texts-three text xs ys zs start a b c none first second third =
-    third ∙ ap (λ (bytes : List ℕ). bytes ++ texts text zs) (second ∙ ap (λ (bytes : List ℕ). bytes ++ texts text ys) (first ∙ ap (λ (bytes : List ℕ). bytes ++ texts text xs) none))
-    ∙ ap (λ (bytes : List ℕ). bytes ++ texts text zs) (sym (flat_map-append (piece_text text) xs ys)) ∙ sym (flat_map-append (piece_text text) (xs ++ ys) zs)
+    third ∙ ap (λ (bytes : List ℕ). bytes ++ texts text zs)
+    (second ∙ ap (λ (bytes : List ℕ). bytes ++ texts text ys) (first ∙ ap (λ (bytes : List ℕ). bytes ++ texts text xs) none))
+    ∙ ap (λ (bytes : List ℕ). bytes ++ texts text zs) (sym (flat_map-append (piece_text text) xs ys))
+    ∙ sym (flat_map-append (piece_text text) (xs ++ ys) zs)
 
 -- the head, the pieces of the body, and behind them the report
 pub AppendsPage-written : {verdict : Verdict} {end old new front text : List ℕ} (lines head body page : List ℕ)
@@ -32,6 +35,7 @@ AppendsPage-written {verdict = verdict} {old = old} lines head body page headed 
       lines = lines;
       says = whole.says ∙ told;
       appended = appended ∙ ap (λ bytes. old ++ bytes) (both ∙ ap (λ bytes. bytes ++ body) headed
-          ∙ ap (λ bytes. texts head_text (head_pieces (verdict_line verdict)) ++ bytes) (whole.written ∙ ap (λ bytes. bytes ++ texts own_text framed) written.written
+          ∙ ap (λ bytes. texts head_text (head_pieces (verdict_line verdict)) ++ bytes)
+          (whole.written ∙ ap (λ bytes. bytes ++ texts own_text framed) written.written
           ∙ sym (flat_map-append (piece_text own_text) written.pieces framed)));
     }

@@ -36,4 +36,5 @@ pub record AppendsPage (verdict : Verdict) (end old new : List ℕ) : Type 0 whe
   pub report : List (Piece own.Own)
   pub lines : List ℕ
   pub says : said report ≡ verdict_line verdict ++ lines ++ end
-  pub appended : new ≡ old ++ (texts head_text (head_pieces (verdict_line verdict)) ++ texts own_text (body ++ (Own (Frame Report) ∷ report ++ Own (Frame End) ∷ [])))
+  pub appended : new ≡ old
+      ++ (texts head_text (head_pieces (verdict_line verdict)) ++ texts own_text (body ++ (Own (Frame Report) ∷ report ++ Own (Frame End) ∷ [])))

@@ -60,5 +60,6 @@ pub record AskInVain {A : Type 0} (command : App) (IsAsked : List Row → A → 
 -- why the arguments ask for nothing: clap finds a request for help or the version, or a fault, or their values fill no form
 abbrev pub AskForNothing : {A : Type 0} → App → (List Row → A → Type 0) → List Text → Refusal → Type 0
 AskForNothing command IsAsked arguments (Shown text) = IsRefusedBy (fault_of command arguments) (Shown text)
-AskForNothing command IsAsked arguments (Arguments text) = IsRefusedBy (fault_of command arguments) (Arguments text) ⊎ AskInVain command IsAsked arguments
+AskForNothing command IsAsked arguments (Arguments text) =
+    IsRefusedBy (fault_of command arguments) (Arguments text) ⊎ AskInVain command IsAsked arguments
 AskForNothing command IsAsked arguments NoMemory = ⊤

@@ -1,41 +1,32 @@
 -- The lines of a call that can come next: its recorded reply, or what the specification answers.
-use Rattle.std.proofs.Common.{◌≡◌, ℕ, ◌+◌, ◌<◌, ◌≤◌, inl, inr, List, [], ◌∷◌, ◌++◌, Option, Some, None, Result, Ok, refl, sym, ap, subst, arith}
+use Rattle.finding.proofs.Common.{◌++◌, ◌+◌, ◌<◌, ◌∷◌, ◌≡◌, ◌≤◌, Choice, Frame, HasOnePlaces-from_history, History, IsFinished, IsHistory, LeadsNowhere, Line, List, None, Option, Reply, Some, State, Unfinished, [], ap, arith, cases_lt, inl, inr, rank_of, refl, subst, sym, ℕ}
+use Rattle.std.proofs.Common.{Result, Ok}
 use Rattle.std.specs.Global.{Box}
 use Rattle.std.specs.Option.{MatchOption}
-use Rattle.std.proofs.lemmas.Bool.{cases_lt}
 use Rattle.std.proofs.lemmas.Option.{none-some, same_Some}
 use Rattle.rmm_spec.specs.declared.accepted.Accepted.{Accepted}
 use Rattle.rmm_spec.specs.declared.accepted.Accepted.TheVariants.{Reaches}
 use Rattle.rmm_spec.specs.declared.accepted.Stretch.{Stretch}
 use Rattle.rmm_spec.specs.declared.command.Command.{Command}
-use Rattle.rmm_spec.specs.declared.line.Line.{Line}
-use Rattle.rmm_spec.specs.declared.line.Line.TheVariants.{Keep, Unfinished}
+use Rattle.rmm_spec.specs.declared.line.Line.TheVariants.{Keep}
 use Rattle.rmm_spec.specs.declared.refusal.Refusal.{Refusal}
-use Rattle.rmm_spec.specs.declared.reply.Reply.{Reply}
 use Rattle.rmm_spec.specs.declared.reply.Reply.TheVariants as reply
 use Rattle.rmm_spec.specs.Call.{call_of}
 use Rattle.rmm_spec.specs.CommandText.{IsReply}
-use Rattle.rmm_spec.specs.HistoryText.{History, IsHistory}
 use Rattle.rmm_spec.specs.Rows.{ok}
 use Rattle.rmm_spec.specs.Run.{JournalEntry}
-use Rattle.rmm_spec.specs.State.{State}
 use Rattle.rmm_spec.specs.Step.{Step, CarriesOut, outcome}
 use Rattle.rmm_spec.specs.Step.Ripas.{IsReached}
-use Rattle.rmm_spec.specs.Linearization.{IsFinished, IsReturned, IsEntryOf}
+use Rattle.rmm_spec.specs.Linearization.{IsReturned, IsEntryOf}
 use Rattle.spec_lemmas.proofs.Places.{call_is_event}
 use Rattle.spec_machine.specs.declared.machine.Machine.{Machine}
 use Rattle.history.specs.Calls.{ArePlacesOf}
 use Rattle.spec_lemmas.proofs.Calls.{same_command}
-use Rattle.checker.proofs.Judging.{HasOnePlaces-from_history}
-use Rattle.order_laws.specs.Order.{LeadsNowhere}
 use Rattle.order_laws.proofs.CallOrder.{few_calls}
 use Rattle.order_laws.proofs.Nowhere.{nowhere_by}
 use Rattle.finding.specs.Attempt.{EndsLeadNowhere, MayTry, IsAnswered, IsAttempt}
-use Rattle.finding.specs.Choice.{rank_of}
 use Rattle.finding.specs.Ends.{IsBelow, IsEnd}
 use Rattle.finding.specs.Tried.{CallLeadsNowhere}
-use Rattle.finding.specs.declared.choice.Choice.{Choice}
-use Rattle.finding.specs.declared.frame.Frame.{Frame}
 
 -- an attempt is one with a machine that is kept before it
 pub IsAttempt-marked : (history : History) (lines : List Line) (choice : Choice) (frame : Frame) (before : Option (Box Machine))
@@ -74,7 +65,8 @@ nowhere_kept history lines cpu number finished nowhere (Keep c n) of_cpu numbere
     subst (λ (x : ℕ). LeadsNowhere history (lines ++ Keep x n ∷ [])) (sym of_cpu)
     (subst (λ (x : ℕ). LeadsNowhere history (lines ++ Keep cpu x ∷ [])) (sym numbered) nowhere)
 nowhere_kept history lines cpu number finished nowhere (Unfinished c n claimed) of_cpu numbered kind =
-    absurd (kind (subst (λ (x : ℕ). IsFinished history.events x n) (sym of_cpu) (subst (λ (x : ℕ). IsFinished history.events cpu x) (sym numbered) finished)))
+    absurd (kind (subst (λ (x : ℕ). IsFinished history.events x n) (sym of_cpu)
+    (subst (λ (x : ℕ). IsFinished history.events cpu x) (sym numbered) finished)))
 
 -- only an unfinished line is of a call's kind that hasn't returned
 nowhere_pending : (history : History) (lines : List Line) (cpu number : ℕ) → ¬ IsFinished history.events cpu number
@@ -85,23 +77,27 @@ nowhere_pending history lines cpu number pending each (Unfinished c n claimed) o
     subst (λ (x : ℕ). LeadsNowhere history (lines ++ Unfinished x n claimed ∷ [])) (sym of_cpu)
     (subst (λ (x : ℕ). LeadsNowhere history (lines ++ Unfinished cpu x claimed ∷ [])) (sym numbered) (each claimed))
 
-module _ (history : History) (lines : List Line) (state : State) (choice : Choice) (above : Option ℕ) (may : MayTry history lines state choice above) (command : Command) (answer : Result Accepted Refusal) (answered : IsAnswered history choice state command answer) where
+module _ (history : History) (lines : List Line) (state : State) (choice : Choice) (above : Option ℕ) (may : MayTry history lines state choice above)
+    (command : Command) (answer : Result Accepted Refusal) (answered : IsAnswered history choice state command answer) where
   pending : ¬ IsFinished history.events choice.cpu choice.number
   pending = pending_at history choice may.places answered.pending
 
   -- what is carried out for a claim is what the specification answers
-  claim_carries : (claimed : Reply) (entry : JournalEntry) (new : State) → IsEntryOf history.events (Unfinished choice.cpu choice.number claimed) entry
+  claim_carries : (claimed : Reply) (entry : JournalEntry) (new : State)
+      → IsEntryOf history.events (Unfinished choice.cpu choice.number claimed) entry
       → Step state entry.cpu entry.command entry.given new → CarriesOut answer state claimed new
   claim_carries claimed entry new is_entry step =
       let one = HasOnePlaces-from_history history may.is_history in
-      let same = same_command history.events one is_entry.called choice.places.called choice.cpu choice.number entry.command command is_entry.is_called answered.is_called in
+      let same = same_command history.events one is_entry.called choice.places.called
+      choice.cpu choice.number entry.command command is_entry.is_called answered.is_called in
       subst (λ (a : Result Accepted Refusal). CarriesOut a state claimed new) (sym answered.answered)
       (subst (λ (g : Reply). CarriesOut (outcome state choice.cpu (call_of command)) state g new) is_entry.given
       (subst (λ (m : Command). CarriesOut (outcome state choice.cpu (call_of m)) state entry.given new) same
       (subst (λ (c : ℕ). CarriesOut (outcome state c (call_of entry.command)) state entry.given new) is_entry.cpu step)))
 
   -- a claim that leads nowhere wherever it is carried out
-  nowhere_claim : (claimed : Reply) → ((new : State) → CarriesOut answer state claimed new → LeadsNowhere history (lines ++ Unfinished choice.cpu choice.number claimed ∷ []))
+  nowhere_claim : (claimed : Reply)
+      → ((new : State) → CarriesOut answer state claimed new → LeadsNowhere history (lines ++ Unfinished choice.cpu choice.number claimed ∷ []))
       → LeadsNowhere history (lines ++ Unfinished choice.cpu choice.number claimed ∷ [])
   nowhere_claim claimed each =
       nowhere_by history may.is_history lines state may.reached (Unfinished choice.cpu choice.number claimed) (λ entry new is_entry step.
@@ -145,7 +141,8 @@ same_word top end same =
     let both : top ∷ [] ≡ end ∷ [] = ap words_in same in
     cc
 
-module _ (history : History) (lines : List Line) (state : State) (choice : Choice) (above : Option ℕ) (may : MayTry history lines state choice above) (command : Command) (stretch : Stretch) (answered : IsAnswered history choice state command (Ok (Reaches stretch))) where
+module _ (history : History) (lines : List Line) (state : State) (choice : Choice) (above : Option ℕ) (may : MayTry history lines state choice above)
+    (command : Command) (stretch : Stretch) (answered : IsAnswered history choice state command (Ok (Reaches stretch))) where
   -- an end that isn't below the bound leads nowhere, and each other is below it
   end_nowhere : (bound : Option ℕ) → EndsLeadNowhere history lines choice bound → (end : ℕ)
       → (IsBelow bound end → LeadsNowhere history (lines ++ Unfinished choice.cpu choice.number (ok (end ∷ [])) ∷ []))
@@ -179,7 +176,8 @@ module _ (history : History) (lines : List Line) (state : State) (choice : Choic
       subst (λ (e : ℕ). LeadsNowhere history (lines ++ Unfinished choice.cpu choice.number (ok (e ∷ [])) ∷ [])) top_is nowhere))
 
   pub IsAttempt-ended : (top : ℕ) → ((end : ℕ) → IsEnd stretch end → IsBelow above end → end ≤ top) → (frame : Frame)
-      → frame.line ≡ Unfinished choice.cpu choice.number (ok (top ∷ [])) → frame.from ≡ rank_of choice → frame.above ≡ Some top → IsReply (ok (top ∷ []))
+      → frame.line ≡ Unfinished choice.cpu choice.number (ok (top ∷ []))
+      → frame.from ≡ rank_of choice → frame.above ≡ Some top → IsReply (ok (top ∷ []))
       → IsAttempt history lines choice frame
   IsAttempt-ended top greatest frame is_line from is_above has_text =
       let at = of_a_line history may.is_history choice may.places in

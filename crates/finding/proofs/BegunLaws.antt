@@ -1,26 +1,18 @@
 -- Orders that are begun, as they grow by a line and stand for others.
-use Rattle.std.proofs.Common.{◌≡◌, ℕ, ◌+◌, inl, inr, List, [], ◌∷◌, ◌++◌, set, Option, Some, sym, ◌∙◌, ap, subst, arith, append_assoc}
-use Rattle.rmm_spec.specs.declared.line.Line.{Line}
-use Rattle.rmm_spec.specs.declared.line.Line.TheVariants.{Unfinished}
-use Rattle.rmm_spec.specs.HistoryText.{History, IsHistory}
+use Rattle.finding.proofs.Common.{◌++◌, ◌+◌, ◌∙◌, ◌∷◌, ◌≡◌, Choice, Frame, History, IsBegun, IsHistory, IsLeast, IsNextCall, LeadsNowhere, Line, List, Option, Some, State, Tried, Unfinished, [], ap, arith, cpu_named, inl, inr, number_named, opening, rank_of, state_of, subst, sym, ℕ}
+use Rattle.std.proofs.Common.{set, append_assoc}
 use Rattle.rmm_spec.specs.FirstFault.{IsRefused}
 use Rattle.rmm_spec.specs.Rows.{ok}
-use Rattle.rmm_spec.specs.State.{State, opening}
-use Rattle.rmm_spec.specs.Linearization.{IsLinearization, IsOfItsKind, cpu_named, number_named}
-use Rattle.spec_machine.specs.View.{state_of}
-use Rattle.order_laws.specs.Order.{count_of, LeadsNowhere, Reaches}
+use Rattle.rmm_spec.specs.Linearization.{IsLinearization, IsOfItsKind}
+use Rattle.order_laws.specs.Order.{count_of, Reaches}
 use Rattle.order_laws.proofs.Growth.{Reaches-nil, Reaches-push}
 use Rattle.order_laws.proofs.Nowhere.{nowhere_by, nowhere_unless}
 use Rattle.finding.specs.Attempt.{IsAttempt, MayTry}
-use Rattle.finding.specs.Begun.{Holds, IsBegun, IsGrown, IsLost, IsSoon, Stays}
-use Rattle.finding.specs.Choice.{rank_of, IsNextCall, IsLeast}
+use Rattle.finding.specs.Begun.{Holds, IsGrown, IsLost, IsSoon, Stays}
 use Rattle.finding.specs.Counts.{AreCounts}
 use Rattle.finding.specs.Front.{IsFront}
 use Rattle.finding.specs.Search.{IsGiven}
-use Rattle.finding.specs.Tried.{Tried}
 use Rattle.finding.specs.declared.begun.Begun.{Begun}
-use Rattle.finding.specs.declared.choice.Choice.{Choice}
-use Rattle.finding.specs.declared.frame.Frame.{Frame}
 use Rattle.finding.proofs.Attempts.{of_a_line}
 use Rattle.finding.proofs.Choices.{rank_pending}
 use Rattle.finding.proofs.KeptLaws.{IsNowhere-of}
@@ -33,11 +25,13 @@ nowhere_longer history lines line nowhere =
     record { none = λ more valid. nowhere.none (line ∷ more) (subst (IsLinearization history) (append_assoc lines (line ∷ []) more) valid) }
 
 -- where one order leads nowhere of which it is held, each does
-pub IsLost-from : (history : History) → IsHistory history → (begun : Begun) (lines : List Line) → Holds history begun lines → LeadsNowhere history lines
+pub IsLost-from : (history : History) → IsHistory history → (begun : Begun) (lines : List Line)
+    → Holds history begun lines → LeadsNowhere history lines
     → IsLost history begun
 IsLost-from history is_history begun lines holds nowhere = record {
   nowhere = λ other also.
-      IsNowhere-of history is_history lines (state_of begun.machine) holds.reached begun.front.counts holds.counts nowhere other also.reached also.counts;
+      IsNowhere-of history is_history lines
+      (state_of begun.machine) holds.reached begun.front.counts holds.counts nowhere other also.reached also.counts;
 }
 
 -- what is held of the one is held of the other
@@ -50,29 +44,36 @@ Holds-alike history one other lines counts state holds = record {
 
 pub IsLost-alike : (history : History) (one other : Begun) → one.front.counts ≡ other.front.counts → state_of one.machine ≡ state_of other.machine
     → IsLost history one → IsLost history other
-IsLost-alike history one other counts state lost = record { nowhere = λ lines holds. lost.nowhere lines (Holds-alike history one other lines counts state holds) }
+IsLost-alike history one other counts state lost =
+    record { nowhere = λ lines holds. lost.nowhere lines (Holds-alike history one other lines counts state holds) }
 
 -- no line
-pub Holds-nil : (history : History) (begun : Begun) → begun.front.counts ≡ 0 ∷ 0 ∷ 0 ∷ 0 ∷ 0 ∷ 0 ∷ 0 ∷ 0 ∷ [] → state_of begun.machine ≡ opening history.config
+pub Holds-nil : (history : History) (begun : Begun)
+    → begun.front.counts ≡ 0 ∷ 0 ∷ 0 ∷ 0 ∷ 0 ∷ 0 ∷ 0 ∷ 0 ∷ [] → state_of begun.machine ≡ opening history.config
     → Holds history begun []
 Holds-nil history begun counts state = record {
   reached = subst (Reaches history []) (sym state) (Reaches-nil history);
   counts = subst (λ (cs : List ℕ). AreCounts cs []) (sym counts) AreCounts-nil;
 }
 
-module _ (history : History) (is_history : IsHistory history) (old new : Begun) (choice : Choice) (line : Line) (next : IsNextCall history old.front.counts 0 choice) (of_cpu : cpu_named line ≡ choice.cpu) (numbered : number_named line ≡ choice.number) (kind : IsOfItsKind history.events line) (soon : IsSoon history old choice) where
-  module _ (given : IsGiven history.events line choice.places.called (state_of old.machine) (state_of new.machine)) (counts : new.front.counts ≡ set old.front.counts choice.cpu (choice.number + 1)) where
+module _ (history : History) (is_history : IsHistory history) (old new : Begun) (choice : Choice)
+    (line : Line) (next : IsNextCall history old.front.counts 0 choice) (of_cpu : cpu_named line ≡ choice.cpu)
+    (numbered : number_named line ≡ choice.number) (kind : IsOfItsKind history.events line) (soon : IsSoon history old choice) where
+  module _ (given : IsGiven history.events line choice.places.called (state_of old.machine) (state_of new.machine))
+      (counts : new.front.counts ≡ set old.front.counts choice.cpu (choice.number + 1)) where
     -- it is held of the order with the line behind it
     Holds-grown : (lines : List Line) → Holds history old lines → Holds history new (lines ++ line ∷ [])
     Holds-grown lines holds =
-        let grows = Grows-given history is_history lines (state_of old.machine) (state_of new.machine) old.front.counts 0 choice line holds.counts next of_cpu
+        let grows =
+        Grows-given history is_history lines (state_of old.machine) (state_of new.machine) old.front.counts 0 choice line holds.counts next of_cpu
         numbered kind (soon lines holds) given in
         let counted : choice.number + 1 ≡ count_of choice.cpu lines + 1 =
         ap (λ (n : ℕ). n + 1) (sym numbered ∙ grows.next.numbered ∙ ap (λ (c : ℕ). count_of c lines) of_cpu) in
         record {
           reached = Reaches-push history is_history lines (state_of old.machine) holds.reached line (state_of new.machine) grows;
           counts = subst (λ (cs : List ℕ). AreCounts cs (lines ++ line ∷ [])) (sym counts)
-              (AreCounts-push old.front.counts lines line choice.cpu (choice.number + 1) holds.counts of_cpu (of_a_line history is_history choice next.places).0 counted);
+              (AreCounts-push old.front.counts lines line choice.cpu (choice.number + 1) holds.counts of_cpu
+              (of_a_line history is_history choice next.places).0 counted);
         }
 
     pub IsGrown-given : IsBegun history old → IsFront history new.front → IsGrown history line old new
@@ -94,12 +95,15 @@ module _ (history : History) (is_history : IsHistory history) (old new : Begun) 
       holds = Holds-alike history new old begun.lines (ap (λ f. f.counts) front) state begun.holds;
     };
     refused = λ lines holds.
-        nowhere_by history is_history lines (state_of old.machine) holds.reached line (λ entry later is_entry step. absurd (refused entry later is_entry step));
+        nowhere_by history is_history lines (state_of old.machine) holds.reached line
+        (λ entry later is_entry step. absurd (refused entry later is_entry step));
   }
 
 -- ---- what is tried behind an order
 
-module _ (history : History) (is_history : IsHistory history) (lines : List Line) (state : State) (reached : Reaches history lines state) (counts : List ℕ) (are : AreCounts counts lines) (from : ℕ) (above : Option ℕ) (choice : Choice) (next : IsNextCall history counts from choice) (is_least : IsLeast history.events counts from history.config.cpus (rank_of choice)) where
+module _ (history : History) (is_history : IsHistory history) (lines : List Line) (state : State) (reached : Reaches history lines state)
+    (counts : List ℕ) (are : AreCounts counts lines) (from : ℕ) (above : Option ℕ) (choice : Choice)
+    (next : IsNextCall history counts from choice) (is_least : IsLeast history.events counts from history.config.cpus (rank_of choice)) where
   -- the call may be tried, with the ends that are left
   pub MayTry-begun : Tried history lines from above → (held : Option ℕ)
       → ((bound : ℕ) → held ≡ Some bound → (above ≡ Some bound) × (rank_of choice ≡ from)) → MayTry history lines state choice held
@@ -107,7 +111,8 @@ module _ (history : History) (is_history : IsHistory history) (lines : List Line
     is_history = is_history;
     reached = reached;
     places = next.places;
-    numbered = next.numbered ∙ are.each choice.cpu (let most = is_history.config.most_cpus in let within = next.of_machine in omega (arith, within, most));
+    numbered = next.numbered
+        ∙ are.each choice.cpu (let most = is_history.config.most_cpus in let within = next.of_machine in omega (arith, within, most));
     ended = λ end bound is within.
         nowhere_unless history is_history lines state reached (Unfinished choice.cpu choice.number (ok (end ∷ []))) (λ is_next.
         let given = left bound is in

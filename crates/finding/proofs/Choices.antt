@@ -1,25 +1,23 @@
 -- The next call that is tried first, CPU by CPU.
-use Rattle.std.proofs.Common.{◌≡◌, ℕ, ◌+◌, ◌^◌, ◌<◌, ◌≤◌, inl, inr, List, get_or, Option, Some, None, refl, sym, subst, arith}
+use Rattle.finding.proofs.Common.{◌+◌, ◌<◌, ◌^◌, ◌≡◌, ◌≤◌, Choice, History, IsFinished, IsHistory, IsLeast, IsNextCall, List, None, Option, Reply, Some, arith, cases_lt, inl, inr, rank_of, refl, slice_get_within, subst, sym, ℕ}
+use Rattle.std.proofs.Common.{get_or}
 use Rattle.std.specs.Option.{MatchOption}
-use Rattle.std.proofs.lemmas.Bool.{cases_lt}
-use Rattle.std.proofs.lemmas.Option.{slice_get_within}
 use Rattle.rmm_spec.specs.declared.event.Event.{Event}
 use Rattle.rmm_spec.specs.declared.event.Event.TheVariants.{Returned}
-use Rattle.rmm_spec.specs.declared.reply.Reply.{Reply}
-use Rattle.rmm_spec.specs.HistoryText.{History, IsHistory}
-use Rattle.rmm_spec.specs.Linearization.{IsReturned, IsKnown, IsFinished}
+use Rattle.rmm_spec.specs.Linearization.{IsReturned, IsKnown}
 use Rattle.history.specs.Calls.{ArePlacesOf}
 use Rattle.history.specs.declared.history.Places.{Places}
 use Rattle.spec_lemmas.proofs.Calls.{HasOnePlaces}
-use Rattle.finding.specs.Choice.{pending_rank, rank_at, rank_of, IsNextCall, IsLeast}
-use Rattle.finding.specs.declared.choice.Choice.{Choice}
+use Rattle.finding.specs.Choice.{pending_rank, rank_at}
 
 -- a finished call is tried at the place of its return
-pub rank_returned : (events : List Event) → HasOnePlaces events → (cpu number place : ℕ) (given : Reply) (places : Places) → ArePlacesOf events cpu number places
+pub rank_returned : (events : List Event) → HasOnePlaces events
+    → (cpu number place : ℕ) (given : Reply) (places : Places) → ArePlacesOf events cpu number places
     → IsReturned events place cpu number given → rank_at cpu places.returned ≡ place
 rank_returned events one cpu number place given places are is_returned = at places.returned are.returned
   where
-    at : (o : Option ℕ) → MatchOption o (¬ IsFinished events cpu number) (λ p. (told : Reply) × IsReturned events p cpu number told) → rank_at cpu o ≡ place
+    at : (o : Option ℕ)
+        → MatchOption o (¬ IsFinished events cpu number) (λ p. (told : Reply) × IsReturned events p cpu number told) → rank_at cpu o ≡ place
     at None pending = absurd (pending (place, given, is_returned))
     at (Some p) told = one.one_return p place cpu number told.0 given told.1 is_returned
 
@@ -38,18 +36,21 @@ pub returned_first : (events : List Event) (choice : Choice) → ArePlacesOf eve
     → (given : Reply) × IsReturned events (rank_of choice) choice.cpu choice.number given
 returned_first events choice are = at choice.places.returned are.returned
   where
-    at : (o : Option ℕ) → MatchOption o (¬ IsFinished events choice.cpu choice.number) (λ p. (told : Reply) × IsReturned events p choice.cpu choice.number told)
+    at : (o : Option ℕ)
+        → MatchOption o (¬ IsFinished events choice.cpu choice.number) (λ p. (told : Reply) × IsReturned events p choice.cpu choice.number told)
         → rank_at choice.cpu o < 1000000 → (given : Reply) × IsReturned events (rank_at choice.cpu o) choice.cpu choice.number given
     at None pending below = absurd (omega (arith, below))
     at (Some p) told below = told
 
 -- every rank is small
-pub rank_small : (history : History) → IsHistory history → (choice : Choice) → ArePlacesOf history.events choice.cpu choice.number choice.places → choice.cpu < 8
+pub rank_small : (history : History) → IsHistory history → (choice : Choice)
+    → ArePlacesOf history.events choice.cpu choice.number choice.places → choice.cpu < 8
     → rank_of choice < 2 ^ 31
 rank_small history is_history choice are few = at choice.places.returned are.returned
   where
     at : (o : Option ℕ)
-        → MatchOption o (¬ IsFinished history.events choice.cpu choice.number) (λ p. (told : Reply) × IsReturned history.events p choice.cpu choice.number told)
+        → MatchOption o (¬ IsFinished history.events choice.cpu choice.number)
+        (λ p. (told : Reply) × IsReturned history.events p choice.cpu choice.number told)
         → rank_at choice.cpu o < 2 ^ 31
     at None pending = omega (arith, few)
     at (Some p) told =
@@ -80,7 +81,8 @@ IsLeast-past events one counts from bound least so_far unknown = record {
 pub IsLeast-lower : (events : List Event) (counts : List ℕ) (from bound least lower : ℕ) → lower ≤ least → IsLeast events counts from bound least
     → IsLeast events counts from bound lower
 IsLeast-lower events counts from bound least lower low so_far = record {
-  returned = λ cpu place given within is_returned late. let least = so_far.returned cpu place given within is_returned late in omega (arith, low, least);
+  returned = λ cpu place given within is_returned late.
+      let least = so_far.returned cpu place given within is_returned late in omega (arith, low, least);
   pending = λ cpu within known none late. let least = so_far.pending cpu within known none late in omega (arith, low, least);
 }
 

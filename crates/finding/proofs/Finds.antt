@@ -1,12 +1,8 @@
 -- What was found, by how a search or a look return by return ends.
-use Rattle.std.proofs.Common.{◌≡◌, ℕ, ◌+◌, [], take, refl, subst}
-use Rattle.rmm_spec.specs.HistoryText.{History, IsHistory}
-use Rattle.order_laws.specs.Order.{LeadsNowhere}
+use Rattle.finding.proofs.Common.{◌+◌, ◌≡◌, History, IsHistory, IsSearch, LeadsNowhere, Search, [], refl, subst, take, ℕ}
 use Rattle.order_laws.proofs.Nowhere.{none-from_nowhere}
 use Rattle.finding.specs.Found.{HasNone, HasNoneUpTo}
-use Rattle.finding.specs.Search.{IsSearch}
 use Rattle.finding.specs.declared.offers.Offers.{Offers}
-use Rattle.finding.specs.declared.search.Search.{Search}
 use Rattle.finding.proofs.Searches.{IsSearch-tried}
 
 -- other offers were made
@@ -20,7 +16,8 @@ pub HasNone-nowhere : (history : History) → LeadsNowhere history [] → HasNon
 HasNone-nowhere history nowhere = λ lines. none-from_nowhere history lines nowhere
 
 -- of a first part
-pub HasNoneUpTo-nowhere : (history part : History) (place count : ℕ) → count ≡ place + 1 → part ≡ record history { events = take count history.events }
+pub HasNoneUpTo-nowhere : (history part : History) (place count : ℕ)
+    → count ≡ place + 1 → part ≡ record history { events = take count history.events }
     → LeadsNowhere part [] → HasNoneUpTo history place
 HasNoneUpTo-nowhere history part place count counted are nowhere =
     subst (λ (n : ℕ). HasNone (record history { events = take n history.events })) counted (subst HasNone are (HasNone-nowhere part nowhere))

@@ -1,17 +1,15 @@
 -- The next call of each CPU, as one CPU after another is looked up.
-use Rattle.std.proofs.Common.{◌≡◌, ◌≢◌, ℕ, ◌+◌, ◌^◌, ◌<◌, ◌≤◌, ◌⊎◌, inl, inr, List, length, slice_index, get_or, set, Option, Some, None, sym, ◌∙◌, ap, subst, arith, get_or-set_same, get_or-set_other}
-use Rattle.std.specs.List.{slice_get}
+use Rattle.finding.proofs.Common.{◌+◌, ◌<◌, ◌^◌, ◌∙◌, ◌≡◌, ◌≤◌, Choice, History, IsLeast, IsNextCall, List, None, Option, Some, ap, arith, inl, inr, length, slice_get, slice_get_within, subst, sym, ℕ}
+use Rattle.std.proofs.Common.{◌≢◌, ◌⊎◌, slice_index, get_or, set, get_or-set_same, get_or-set_other}
 use Rattle.std.specs.Option.{IfSome}
 use Rattle.std.proofs.lemmas.Bool.Decides.{eqb_tells}
 use Rattle.std.proofs.lemmas.List.{length-set}
-use Rattle.std.proofs.lemmas.Option.{get_or_from_slice_get, slice_get_within, slice_get-get_or}
-use Rattle.rmm_spec.specs.HistoryText.{History}
+use Rattle.std.proofs.lemmas.Option.{get_or_from_slice_get, slice_get-get_or}
 use Rattle.rmm_spec.specs.Linearization.{IsKnown}
 use Rattle.spec_lemmas.proofs.Calls.{HasOnePlaces}
-use Rattle.finding.specs.Choice.{IsLeast, IsNextCall, IsNextOf, least_of}
+use Rattle.finding.specs.Choice.{IsNextOf, least_of}
 use Rattle.finding.proofs.Choices.{IsLeast-lower, IsLeast-past, IsLeast-sooner}
 use Rattle.finding.specs.Front.{IsFront, IsNextAt}
-use Rattle.finding.specs.declared.choice.Choice.{Choice}
 use Rattle.finding.specs.declared.front.Front.{Front}
 
 -- the next calls of the first CPUs, so many, are known
@@ -27,7 +25,8 @@ set_cases xs i x at o is P here there = elim (eqb_tells at i) [
       let within = slice_get_within (set xs i x) at o is in
       let size = length-set xs i x in
       let lt : i < length xs = omega (arith, within, size, same.1) in
-      let read : get_or (set xs i x) i None ≡ o = ap (λ (n : ℕ). get_or (set xs i x) n None) (sym same.1) ∙ get_or_from_slice_get (set xs i x) at o None is in
+      let read : get_or (set xs i x) i None ≡ o =
+      ap (λ (n : ℕ). get_or (set xs i x) n None) (sym same.1) ∙ get_or_from_slice_get (set xs i x) at o None is in
       subst P (sym (get_or-set_same xs i x None lt) ∙ read) (here same.1)
   | inr differ ↦
       let within = slice_get_within (set xs i x) at o is in
@@ -48,7 +47,8 @@ module _ (history : History) where
       → AreNexts history counts (set nexts bound next) (set ranks bound (least_of next)) (bound + 1)
   AreNexts-set counts nexts ranks bound next inside are is = λ cpu found within at.
       set_cases nexts bound next cpu found at (IsNextAt history counts (set ranks bound (least_of next)) cpu)
-      (λ same. subst (λ (c : ℕ). IsNextAt history counts (set ranks bound (least_of next)) c next) (sym same) (here history counts ranks bound next inside is))
+      (λ same. subst (λ (c : ℕ). IsNextAt history counts (set ranks bound (least_of next)) c next)
+      (sym same) (here history counts ranks bound next inside is))
       (λ differs before.
       let was = are cpu found (omega (arith, within, differs)) before in
       record { known = was.known; rank = get_or-set_other ranks bound cpu (least_of next) 0 differs ∙ was.rank })
@@ -72,7 +72,12 @@ module _ (history : History) where
   -- a CPU of the machine has come further
   pub IsFront-set : (front : Front) (cpu count : ℕ) (next : Option Choice) (refusals : ℕ) → cpu < 8 → IsFront history front
       → IsNextOf history (set front.counts cpu count) cpu next
-      → IsFront history (record { counts = set front.counts cpu count; nexts = set front.nexts cpu next; ranks = set front.ranks cpu (least_of next); refusals = refusals })
+      → IsFront history (record {
+        counts = set front.counts cpu count;
+        nexts = set front.nexts cpu next;
+        ranks = set front.ranks cpu (least_of next);
+        refusals = refusals;
+      })
   IsFront-set front cpu count next refusals inside is_front is =
       let eight = is_front.ranks in
       let within : cpu < length front.ranks = omega (arith, inside, eight) in
@@ -101,14 +106,18 @@ module _ (history : History) where
     ranks = is_front.ranks;
     each = λ other found within before.
         let was = is_front.each other found within before in
-        record { known = elsewhere front.counts cpu count other found (λ same. absurd (omega (arith, past, within, same))) was.known; rank = was.rank };
+        record {
+          known = elsewhere front.counts cpu count other found (λ same. absurd (omega (arith, past, within, same))) was.known;
+          rank = was.rank;
+        };
   }
 
   -- ---- the first of them
 
   -- a CPU's next call is tried before the rank, or isn't there
   pub IsLeast-next : HasOnePlaces history.events → (counts : List ℕ) (from bound least new : ℕ) (next : Option Choice)
-      → IsLeast history.events counts from bound least → IsNextOf history counts bound next → new ≤ least → (from ≤ least_of next → new ≤ least_of next)
+      → IsLeast history.events counts from bound least → IsNextOf history counts bound next
+      → new ≤ least → (from ≤ least_of next → new ≤ least_of next)
       → IsLeast history.events counts from (bound + 1) new
   IsLeast-next one counts from bound least new None so_far none no_later sooner =
       IsLeast-past history.events one counts from bound new (IsLeast-lower history.events counts from bound least new no_later so_far) none

@@ -1,14 +1,9 @@
 -- What is kept leads nowhere, by whichever order it is come to.
-use Rattle.std.proofs.Common.{◌≡◌, ℕ, ◌≤◌, List, [], ◌∷◌, ◌++◌, Some, inl, inr, sym, ◌∙◌, subst, arith}
-use Rattle.std.specs.List.{slice_get}
-use Rattle.std.proofs.lemmas.Bool.{cases_lt}
+use Rattle.finding.proofs.Common.{◌++◌, ◌∙◌, ◌∷◌, ◌≡◌, ◌≤◌, History, IsHistory, LeadsNowhere, Line, List, Some, State, [], arith, cases_lt, inl, inr, slice_get, subst, sym, ℕ}
 use Rattle.spec_lemmas.proofs.Places.{call_is_event}
-use Rattle.rmm_spec.specs.declared.line.Line.{Line}
-use Rattle.rmm_spec.specs.HistoryText.{History, IsHistory}
-use Rattle.rmm_spec.specs.State.{State}
 use Rattle.lemmas.proofs.Elements.{slice_get_push_cases}
 use Rattle.machine_cells.specs.Kept.{kept_state}
-use Rattle.order_laws.specs.Order.{count_of, LeadsNowhere, Reaches}
+use Rattle.order_laws.specs.Order.{count_of, Reaches}
 use Rattle.order_laws.proofs.Configurations.{nowhere_alike}
 use Rattle.finding.specs.Counts.{AreCounts}
 use Rattle.finding.specs.Kept.{Adds, AreNowhere, HasKept, IsNowhere, IsOf}
@@ -30,7 +25,8 @@ module _ (history : History) (is_history : IsHistory history) (lines : List Line
   ]
 
 -- two orders of the same counts have as many calls of each CPU
-same_counts : (history : History) → IsHistory history → (one other : List Line) (state : State) → Reaches history one state → Reaches history other state
+same_counts : (history : History) → IsHistory history → (one other : List Line) (state : State)
+    → Reaches history one state → Reaches history other state
     → (counts : List ℕ) → AreCounts counts one → AreCounts counts other → (cpu : ℕ) → count_of cpu one ≡ count_of cpu other
 same_counts history is_history one other state reached also counts are others cpu = elim (cases_lt cpu 8) [
   | inl within ↦ sym (are.each cpu within) ∙ others.each cpu within
@@ -41,10 +37,12 @@ same_counts history is_history one other state reached also counts are others cp
 pub IsNowhere-of : (history : History) → IsHistory history → (lines : List Line) (state : State) → Reaches history lines state → (counts : List ℕ)
     → AreCounts counts lines → LeadsNowhere history lines → IsNowhere history counts state
 IsNowhere-of history is_history lines state reached counts are nowhere = λ other also others.
-    nowhere_alike history is_history lines other state reached also (same_counts history is_history lines other state reached also counts are others) nowhere
+    nowhere_alike history is_history lines other state reached also
+    (same_counts history is_history lines other state reached also counts are others) nowhere
 
 -- one more is kept
-pub AreNowhere-added : (history : History) (old new : List Configuration) (counts : List ℕ) (state : State) → AreNowhere history old → Adds old new counts state
+pub AreNowhere-added : (history : History) (old new : List Configuration) (counts : List ℕ) (state : State)
+    → AreNowhere history old → Adds old new counts state
     → IsNowhere history counts state → AreNowhere history new
 AreNowhere-added history old new counts state are adds nowhere = λ i configuration is. elim (adds i configuration is) [
   | inl there ↦ are there.0 configuration there.1
@@ -54,7 +52,8 @@ AreNowhere-added history old new counts state are adds nowhere = λ i configurat
 ]
 
 -- what is kept is known to lead nowhere
-pub nowhere_kept : (history : History) (kept : List Configuration) (counts : List ℕ) (state : State) → AreNowhere history kept → HasKept kept counts state
+pub nowhere_kept : (history : History) (kept : List Configuration) (counts : List ℕ) (state : State)
+    → AreNowhere history kept → HasKept kept counts state
     → (lines : List Line) → Reaches history lines state → AreCounts counts lines → LeadsNowhere history lines
 nowhere_kept history kept counts state are (i, configuration, is, one) lines reached counted =
     are i configuration is lines (subst (Reaches history lines) (sym one.stands) reached)

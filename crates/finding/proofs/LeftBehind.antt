@@ -1,24 +1,20 @@
 -- The machine that a judgement leaves behind lines that pass is behind all of them, and lines of frames make a certificate.
-use Rattle.std.proofs.Common.{◌≡◌, ℕ, zero, suc, ◌+◌, List, [], ◌∷◌, ◌++◌, take, Some, ◌∙◌, ap, subst, arith}
-use Rattle.std.specs.List.{slice_get, AllByRecursion}
+use Rattle.finding.proofs.Common.{◌++◌, ◌+◌, ◌∙◌, ◌∷◌, ◌≡◌, Frame, History, Line, List, Passes, Some, State, [], ap, arith, lines_of, opening, slice_get, subst, take, ℕ}
+use Rattle.std.proofs.Common.{zero, suc}
+use Rattle.std.specs.List.{AllByRecursion}
 use Rattle.std.proofs.lemmas.List.{take_all}
 use Rattle.std.proofs.lemmas.Option.{none-some, same_Some}
-use Rattle.rmm_spec.specs.declared.line.Line.{Line}
 use Rattle.rmm_spec.specs.declared.verdict.Reason.{Reason}
 use Rattle.rmm_spec.specs.declared.verdict.Reason.TheVariants as reason
 use Rattle.rmm_spec.specs.declared.verdict.Verdict.{Verdict}
 use Rattle.rmm_spec.specs.declared.verdict.Verdict.TheVariants as verdict
 use Rattle.rmm_spec.specs.CertificateText.{IsLine}
-use Rattle.rmm_spec.specs.HistoryText.{History}
-use Rattle.rmm_spec.specs.State.{State, opening}
-use Rattle.rmm_spec.specs.FirstFault.{FirstFault, Passes}
+use Rattle.rmm_spec.specs.FirstFault.{FirstFault}
 use Rattle.rmm_spec.specs.Judgement.{JudgesOrder}
 use Rattle.checker.specs.Judged.{IsLeftBy}
 use Rattle.spec_lemmas.proofs.Calls.{HasOnePlaces}
 use Rattle.lemmas.proofs.Elements.{slice_get-take, take-next_at}
 use Rattle.rmm_laws.proofs.EntryRuns.{not-IsRefused}
-use Rattle.finding.specs.Search.{lines_of}
-use Rattle.finding.specs.declared.frame.Frame.{Frame}
 use Rattle.finding.proofs.Searches.{lines_of-push}
 
 module _ (history : History) (one : HasOnePlaces history.events) (lines : List Line) (old state : State) (passes : Passes history lines old) where
@@ -49,7 +45,8 @@ module _ (history : History) (one : HasOnePlaces history.events) (lines : List L
   Passes-left (verdict.No step why) judges left = left_by why step judges left.0 left.1 left.2
 
 -- a frame's line has a text
-pub IsLine-frame : (frames : List Frame) (i : ℕ) (frame : Frame) → AllByRecursion IsLine (lines_of frames) → slice_get frames i ≡ Some frame → IsLine frame.line
+pub IsLine-frame : (frames : List Frame) (i : ℕ) (frame : Frame)
+    → AllByRecursion IsLine (lines_of frames) → slice_get frames i ≡ Some frame → IsLine frame.line
 IsLine-frame [] i frame each is = absurd (none-some frame is)
 IsLine-frame (first ∷ frames) zero frame each is = subst (λ (f : Frame). IsLine f.line) (same_Some first frame is) each.0
 IsLine-frame (first ∷ frames) (suc i) frame each is = IsLine-frame frames i frame each.1 is

@@ -1,3 +1,4 @@
+pub mod Common
 pub mod Choices
 pub mod Fronts
 pub mod TriedLaws

@@ -1,14 +1,11 @@
 -- How each way of a step comes further: by an offer, or by less that is left to be done before one.
-use Rattle.std.proofs.Common.{◌≡◌, ℕ, ◌+◌, ◌-◌, ◌*◌, ◌^◌, ◌<◌, ◌≤◌, inl, inr, Bool, true, false, IsTrue, [], ◌∷◌, ◌++◌, length, Option, refl, sym, ◌∙◌, ap, subst, arith}
+use Rattle.finding.proofs.Common.{◌++◌, ◌+◌, ◌<◌, ◌^◌, ◌∙◌, ◌∷◌, ◌≡◌, ◌≤◌, Choice, Frame, History, IsHistory, IsSearch, IsTrue, Option, Search, [], ap, arith, inl, inr, length, lines_of, refl, subst, sym, ℕ}
+use Rattle.std.proofs.Common.{◌-◌, ◌*◌, Bool, true, false}
 use Rattle.std.proofs.lemmas.List.{length-append, length-map}
-use Rattle.rmm_spec.specs.HistoryText.{History, IsHistory}
 use Rattle.spec_machine.specs.Offers.{one_more}
 use Rattle.order_laws.proofs.Short.{length-lines}
-use Rattle.finding.specs.Search.{Continues, GoesOn, IsDeclined, IsOffered, IsSearch, IsStanding, Moves, left_of, left_with, lines_of}
-use Rattle.finding.specs.declared.choice.Choice.{Choice}
-use Rattle.finding.specs.declared.frame.Frame.{Frame}
+use Rattle.finding.specs.Search.{Continues, GoesOn, IsDeclined, IsOffered, IsStanding, Moves, left_of, left_with}
 use Rattle.finding.proofs.Searches.{IsSearch-declined}
-use Rattle.finding.specs.declared.search.Search.{Search}
 use Rattle.finding.specs.declared.search.Progress.{Progress}
 use Rattle.finding.specs.declared.search.Progress.TheVariants.{Going, Whole, Exhausted}
 
@@ -29,11 +26,13 @@ left_small false lines from few = omega (arith, few)
 abbrev pub until : ℕ → Search → ℕ
 until limit search = (limit - search.offers.count) * 2 ^ 62 + left_of search
 
-until-offer : (limit old new left left_then : ℕ) → old < limit → old < new → left_then < 2 ^ 62 → (limit - new) * 2 ^ 62 + left_then < (limit - old) * 2 ^ 62 + left
+until-offer : (limit old new left left_then : ℕ)
+    → old < limit → old < new → left_then < 2 ^ 62 → (limit - new) * 2 ^ 62 + left_then < (limit - old) * 2 ^ 62 + left
 until-offer limit old new left left_then below more small = omega (arith, below, more, small)
 
 -- a search that has come further has less left
-pub until-less : (history : History) → IsHistory history → (limit : ℕ) (old new : Search) → IsSearch history new → old.offers.count < limit → Moves old new
+pub until-less : (history : History) → IsHistory history → (limit : ℕ) (old new : Search)
+    → IsSearch history new → old.offers.count < limit → Moves old new
     → until limit new < until limit old
 until-less history is_history limit old new is_search below moves = elim moves.further [
   | inl more ↦
@@ -63,14 +62,16 @@ Moves-declined history choice old middle new is same =
     record { further = inl (omega (arith, more, counted, same)) }
 
 -- whether it gave the reply or not
-pub GoesOn-offered : (history : History) → IsHistory history → (choice : Choice) (old new : Search) → IsSearch history old → IsTrue old.stands → (given : Bool)
+pub GoesOn-offered : (history : History) → IsHistory history → (choice : Choice) (old new : Search)
+    → IsSearch history old → IsTrue old.stands → (given : Bool)
     → IsOffered history choice old new given → GoesOn history old new
 GoesOn-offered history is_history choice old new is_search stands true goes = goes
 GoesOn-offered history is_history choice old new is_search stands false declined =
     (IsSearch-declined history is_history old is_search stands choice new declined, Moves-declined history choice old new new declined refl)
 
 -- what is left is tried from further behind
-pub Moves-passed : (old : Search) (from : ℕ) (above : Option ℕ) → old.fresh ≡ false → old.from < from → from ≤ 2 ^ 33 → Moves old (record old { from = from; above = above })
+pub Moves-passed : (old : Search) (from : ℕ) (above : Option ℕ)
+    → old.fresh ≡ false → old.from < from → from ≤ 2 ^ 33 → Moves old (record old { from = from; above = above })
 Moves-passed old from above stale further small = record {
   further = inr (
     refl,
@@ -84,7 +85,8 @@ less-back true lines from new_from few = omega (arith, few)
 less-back false lines from new_from few = omega (arith, few)
 
 -- the last line was taken back
-pub Moves-back : (old new : Search) (frame : Frame) → length old.frames.items < 1000000 → old.frames.items ≡ new.frames.items ++ frame ∷ [] → new.fresh ≡ false
+pub Moves-back : (old new : Search) (frame : Frame)
+    → length old.frames.items < 1000000 → old.frames.items ≡ new.frames.items ++ frame ∷ [] → new.fresh ≡ false
     → old.offers.count ≡ new.offers.count → Moves old new
 Moves-back old new frame few frames stale same =
     let longer : length old.frames.items ≡ length new.frames.items + 1 = ap length frames ∙ length-append new.frames.items (frame ∷ []) in
@@ -107,8 +109,8 @@ Moves-settled old new frame few fresh still frames same =
       further = inr (
         same,
         subst (λ (now : Bool). left_with now (length new.frames.items) new.from < left_of old) (sym still)
-            (subst (λ (then : Bool). left_with true (length new.frames.items) new.from < left_with then (length old.frames.items) old.from) (sym fresh)
-            (subst (λ (lines : ℕ). left_with true lines new.from < left_with true (length old.frames.items) old.from) (sym longer) less)),
+            (subst (λ (then : Bool). left_with true (length new.frames.items) new.from < left_with then (length old.frames.items) old.from)
+            (sym fresh) (subst (λ (lines : ℕ). left_with true lines new.from < left_with true (length old.frames.items) old.from) (sym longer) less)),
       );
     }
 

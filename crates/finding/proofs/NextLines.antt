@@ -1,18 +1,10 @@
 -- What is left behind the next line of an order that is begun.
-use Rattle.std.proofs.Common.{◌≡◌, ℕ, ◌+◌, ◌^◌, ◌<◌, ◌≤◌, List, Option, Some, None, refl, sym, ap, subst}
-use Rattle.rmm_spec.specs.declared.line.Line.{Line}
-use Rattle.rmm_spec.specs.declared.line.Line.TheVariants.{Keep, Unfinished}
-use Rattle.rmm_spec.specs.declared.reply.Reply.{Reply}
-use Rattle.rmm_spec.specs.HistoryText.{History, IsHistory}
-use Rattle.rmm_spec.specs.Linearization.{IsFinished, IsOfItsKind, cpu_named, number_named}
-use Rattle.spec_machine.specs.View.{state_of}
+use Rattle.finding.proofs.Common.{◌+◌, ◌<◌, ◌^◌, ◌≡◌, ◌≤◌, Choice, Frame, History, IsFinished, IsHistory, IsLeast, IsNextCall, Line, List, None, Option, Reply, Some, Tried, Unfinished, ap, cpu_named, number_named, rank_of, refl, state_of, subst, sym, ℕ}
+use Rattle.rmm_spec.specs.declared.line.Line.TheVariants.{Keep}
+use Rattle.rmm_spec.specs.Linearization.{IsOfItsKind}
 use Rattle.finding.specs.Attempt.{IsTriedNext, MayTry}
 use Rattle.finding.specs.Begun.{GoesBehind, IsNextLine, IsSoon, MayStand}
-use Rattle.finding.specs.Choice.{rank_of, IsNextCall, IsLeast}
-use Rattle.finding.specs.Tried.{Tried}
 use Rattle.finding.specs.declared.begun.Begun.{Begun}
-use Rattle.finding.specs.declared.choice.Choice.{Choice}
-use Rattle.finding.specs.declared.frame.Frame.{Frame}
 use Rattle.finding.specs.declared.next_line.NextLine.TheVariants as next_line
 use Rattle.finding.specs.declared.search.Left.{Left}
 use Rattle.finding.proofs.Attempts.{nowhere_kept, pending_at}
@@ -37,7 +29,8 @@ IsSoon-called history is_history begun first is_least from choice next early = �
     choice.places.called choice.cpu choice.number next.places.called.0 next.places.called.1 early
 
 module _ (history : History) (is_history : IsHistory history) (begun : Begun) (left : Left) where
-  module _ (first : Choice) (is_first : IsNextCall history begun.front.counts 0 first) (is_least : IsLeast history.events begun.front.counts 0 history.config.cpus (rank_of first)) (below : rank_of first < 1000000) where
+  module _ (first : Choice) (is_first : IsNextCall history begun.front.counts 0 first)
+      (is_least : IsLeast history.events begun.front.counts 0 history.config.cpus (rank_of first)) (below : rank_of first < 1000000) where
     first_finished : IsFinished history.events first.cpu first.number
     first_finished =
         let told = returned_first history.events first is_first.places below in
@@ -47,8 +40,10 @@ module _ (history : History) (is_history : IsHistory history) (begun : Begun) (l
     pub IsNextLine-none : (least : ℕ) → IsLeast history.events begun.front.counts left.from history.config.cpus least → 2 ^ 32 ≤ least
         → IsNextLine history begun left next_line.None
     IsNextLine-none least none_sooner past = λ lines holds tried.
-        all_nowhere history is_history lines (state_of begun.machine) holds.reached begun.front.counts holds.counts left.from left.above tried least none_sooner
-        (HasOpen-first history is_history lines (state_of begun.machine) holds.reached begun.front.counts holds.counts 0 first is_first first_finished) past
+        all_nowhere history is_history lines
+        (state_of begun.machine) holds.reached begun.front.counts holds.counts left.from left.above tried least none_sooner
+        (HasOpen-first history is_history lines
+        (state_of begun.machine) holds.reached begun.front.counts holds.counts 0 first is_first first_finished) past
 
     -- a call that was made behind the first return can't come next
     pub GoesBehind-late : (choice : Choice) → IsNextCall history begun.front.counts left.from choice
@@ -57,11 +52,15 @@ module _ (history : History) (is_history : IsHistory history) (begun : Begun) (l
     GoesBehind-late choice next none_sooner late new from above = λ lines holds tried.
         let told = returned_first history.events first is_first.places below in
         Tried-left history lines (rank_of choice + 1) None new from above
-        (Tried-passed history is_history lines (state_of begun.machine) holds.reached begun.front.counts holds.counts left.from left.above tried choice next none_sooner
-        (too_late history is_history lines (state_of begun.machine) holds.reached begun.front.counts holds.counts 0 left.from first choice is_first next
+        (Tried-passed history is_history lines
+        (state_of begun.machine) holds.reached begun.front.counts holds.counts left.from left.above tried choice next none_sooner
+        (too_late history is_history lines
+        (state_of begun.machine) holds.reached begun.front.counts holds.counts 0 left.from first choice is_first next
         (rank_of first) told.0 told.1 late))
 
-  module _ (choice : Choice) (next : IsNextCall history begun.front.counts left.from choice) (none_sooner : IsLeast history.events begun.front.counts left.from history.config.cpus (rank_of choice)) (soon : IsSoon history begun choice) where
+  module _ (choice : Choice) (next : IsNextCall history begun.front.counts left.from choice)
+      (none_sooner : IsLeast history.events begun.front.counts left.from history.config.cpus (rank_of choice))
+      (soon : IsSoon history begun choice) where
     -- the line of a call that has returned
     pub MayStand-kept : (place : ℕ) → choice.places.returned ≡ Some place → (new : Left) → new.from ≡ rank_of choice + 1 → new.above ≡ None
         → MayStand history begun left choice (Keep choice.cpu choice.number) new
@@ -76,24 +75,29 @@ module _ (history : History) (is_history : IsHistory history) (begun : Begun) (l
           soon = soon;
           resumes = λ lines holds nowhere tried.
               Tried-left history lines (rank_of choice + 1) None new from above
-              (Tried-passed history is_history lines (state_of begun.machine) holds.reached begun.front.counts holds.counts left.from left.above tried choice next
+              (Tried-passed history is_history lines
+              (state_of begun.machine) holds.reached begun.front.counts holds.counts left.from left.above tried choice next
               none_sooner (nowhere_kept history lines choice.cpu choice.number finished nowhere));
         }
 
     module _ (held : Option ℕ) (is_held : (bound : ℕ) → held ≡ Some bound → (left.above ≡ Some bound) × (rank_of choice ≡ left.from)) where
       -- one that hasn't has no line that is left
-      pub GoesBehind-pending : ((lines : List Line) → MayTry history lines (state_of begun.machine) choice held → IsTriedNext history lines choice None)
+      pub GoesBehind-pending : ((lines : List Line)
+          → MayTry history lines (state_of begun.machine) choice held → IsTriedNext history lines choice None)
           → (new : Left) → new.from ≡ rank_of choice + 1 → new.above ≡ None → GoesBehind history begun left new
       GoesBehind-pending none new from above = λ lines holds tried.
           Tried-left history lines (rank_of choice + 1) None new from above
-          (Tried-passed history is_history lines (state_of begun.machine) holds.reached begun.front.counts holds.counts left.from left.above tried choice next
-          none_sooner (none lines (MayTry-begun history is_history lines (state_of begun.machine) holds.reached begun.front.counts holds.counts left.from left.above
+          (Tried-passed history is_history lines
+          (state_of begun.machine) holds.reached begun.front.counts holds.counts left.from left.above tried choice next
+          none_sooner (none lines
+          (MayTry-begun history is_history lines (state_of begun.machine) holds.reached begun.front.counts holds.counts left.from left.above
           choice next none_sooner tried held is_held)))
 
       -- or this one
       pub MayStand-pending : choice.places.returned ≡ None → (frame : Frame)
           → ((lines : List Line) → MayTry history lines (state_of begun.machine) choice held → IsTriedNext history lines choice (Some frame))
-          → ((claimed : Reply) × (frame.line ≡ Unfinished choice.cpu choice.number claimed)) → (new : Left) → new.from ≡ frame.from → new.above ≡ frame.above
+          → ((claimed : Reply) × (frame.line ≡ Unfinished choice.cpu choice.number claimed)) → (new : Left)
+          → new.from ≡ frame.from → new.above ≡ frame.above
           → MayStand history begun left choice frame.line new
       MayStand-pending pending frame tries line new from above = record {
         next = IsNextCall-0 history begun.front.counts left.from choice next;
@@ -103,7 +107,9 @@ module _ (history : History) (is_history : IsHistory history) (begun : Begun) (l
         soon = soon;
         resumes = λ lines holds nowhere tried.
             Tried-left history lines frame.from frame.above new from above
-            (Tried-attempt history is_history lines (state_of begun.machine) holds.reached begun.front.counts holds.counts left.from left.above choice next none_sooner
-            tried frame (tries lines (MayTry-begun history is_history lines (state_of begun.machine) holds.reached begun.front.counts holds.counts left.from left.above
+            (Tried-attempt history is_history lines
+            (state_of begun.machine) holds.reached begun.front.counts holds.counts left.from left.above choice next none_sooner
+            tried frame (tries lines
+            (MayTry-begun history is_history lines (state_of begun.machine) holds.reached begun.front.counts holds.counts left.from left.above
             choice next none_sooner tried held is_held)) nowhere);
       }

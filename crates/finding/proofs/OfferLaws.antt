@@ -1,23 +1,19 @@
 -- What the machine says to the line of a call, and what is told of a call's places.
-use Rattle.std.proofs.Common.{◌≡◌, ℕ, ◌<◌, Bool, true, false, List, length, Option, Some, IsTrue, refl, sym, subst}
+use Rattle.finding.proofs.Common.{◌<◌, ◌≡◌, Choice, IsFinished, IsTrue, Line, List, Option, Reply, Some, State, cpu_named, length, number_named, refl, slice_get_within, subst, sym, ℕ}
+use Rattle.std.proofs.Common.{Bool, true, false}
 use Rattle.std.specs.Bool.{MatchBool}
 use Rattle.std.specs.Option.{MatchOption}
-use Rattle.std.proofs.lemmas.Option.{slice_get_within}
 use Rattle.rmm_spec.specs.declared.command.Command.{Command}
 use Rattle.rmm_spec.specs.declared.event.Event.{Event}
 use Rattle.rmm_spec.specs.declared.event.Event.TheVariants.{Called}
-use Rattle.rmm_spec.specs.declared.line.Line.{Line}
-use Rattle.rmm_spec.specs.declared.reply.Reply.{Reply}
-use Rattle.rmm_spec.specs.State.{State}
 use Rattle.rmm_spec.specs.Step.{Step}
 use Rattle.rmm_spec.specs.FirstFault.{IsRefused}
-use Rattle.rmm_spec.specs.Linearization.{IsCalled, IsReturned, IsFinished, IsReplyOf, cpu_named, number_named}
+use Rattle.rmm_spec.specs.Linearization.{IsCalled, IsReturned, IsReplyOf}
 use Rattle.history.specs.Calls.{ArePlacesOf}
 use Rattle.history.specs.declared.history.Places.{Places}
 use Rattle.spec_lemmas.proofs.Calls.{HasOnePlaces, told_at_call}
 use Rattle.checker.proofs.Faults.{IsRefused-from_step}
 use Rattle.finding.specs.Search.{IsGiven}
-use Rattle.finding.specs.declared.choice.Choice.{Choice}
 
 -- ---- places
 
@@ -28,16 +24,21 @@ called_place events cpu number places are =
     slice_get_within events places.called (Called cpu number called.0) called.1
 
 -- what is found of the call's return
-pub returned_at : (events : List Event) (cpu number returned : ℕ) (places : Places) → ArePlacesOf events cpu number places → places.returned ≡ Some returned
+pub returned_at : (events : List Event) (cpu number returned : ℕ) (places : Places)
+    → ArePlacesOf events cpu number places → places.returned ≡ Some returned
     → (given : Reply) × IsReturned events returned cpu number given
 returned_at events cpu number returned places are some =
-    subst (λ (o : Option ℕ). MatchOption o (¬ IsFinished events cpu number) (λ place. (given : Reply) × IsReturned events place cpu number given)) some are.returned
+    subst (λ (o : Option ℕ). MatchOption o (¬ IsFinished events cpu number)
+    (λ place. (given : Reply) × IsReturned events place cpu number given)) some are.returned
 
 -- ---- replies
 
 -- ---- offers
 
-module _ (events : List Event) (one : HasOnePlaces events) (line : Line) (choice : Choice) (are : ArePlacesOf events choice.cpu choice.number choice.places) (of_cpu : cpu_named line ≡ choice.cpu) (numbered : number_named line ≡ choice.number) (command : Command) (made : (c : ℕ) × (n : ℕ) × IsCalled events choice.places.called c n command) (given : Reply) (is_given : IsReplyOf events line given) (old : State) where
+module _ (events : List Event) (one : HasOnePlaces events) (line : Line) (choice : Choice)
+    (are : ArePlacesOf events choice.cpu choice.number choice.places) (of_cpu : cpu_named line ≡ choice.cpu)
+    (numbered : number_named line ≡ choice.number) (command : Command) (made : (c : ℕ) × (n : ℕ) × IsCalled events choice.places.called c n command)
+    (given : Reply) (is_given : IsReplyOf events line given) (old : State) where
   is_called : IsCalled events choice.places.called (cpu_named line) (number_named line) command
   is_called =
       let here = told_at_call events choice.places.called choice.cpu choice.number command are.called made in

@@ -1,22 +1,17 @@
 -- Lines that were given once are given again.
-use Rattle.std.proofs.Common.{◌≡◌, ℕ, ◌+◌, ◌<◌, List, [], ◌∷◌, ◌++◌, take, length, Some, sym, subst, arith}
-use Rattle.std.specs.List.{slice_get}
+use Rattle.finding.proofs.Common.{◌++◌, ◌+◌, ◌<◌, ◌∷◌, ◌≡◌, Frame, HasOnePlaces-from_history, History, IsHistory, Line, List, Some, State, [], arith, cpu_named, length, lines_of, number_named, slice_get, subst, sym, take, ℕ}
 use Rattle.rmm_spec.specs.declared.command.Command.{Command}
-use Rattle.rmm_spec.specs.declared.line.Line.{Line}
-use Rattle.rmm_spec.specs.HistoryText.{History, IsHistory}
-use Rattle.rmm_spec.specs.State.{State}
 use Rattle.rmm_spec.specs.Step.{Step}
-use Rattle.rmm_spec.specs.Linearization.{IsNamed, cpu_named, number_named}
+use Rattle.rmm_spec.specs.Linearization.{IsNamed}
 use Rattle.spec_lemmas.proofs.Calls.{same_command}
-use Rattle.checker.proofs.Judging.{HasOnePlaces-from_history}
 use Rattle.checker.proofs.Progress.{Passes-push}
 use Rattle.order_laws.specs.Order.{IsNext, Reaches}
-use Rattle.finding.specs.Search.{AreFrames, AreReached, IsGiven, lines_of}
-use Rattle.finding.specs.declared.frame.Frame.{Frame}
+use Rattle.finding.specs.Search.{AreFrames, AreReached, IsGiven}
 use Rattle.finding.proofs.LeftBehind.{lines_of-next}
 use Rattle.finding.proofs.Searches.{Reaches-machine}
 
-module _ (history : History) (is_history : IsHistory history) (lines : List Line) (old : State) (reached : Reaches history lines old) (line : Line) (next : IsNext history.events lines line) where
+module _ (history : History) (is_history : IsHistory history) (lines : List Line) (old : State)
+    (reached : Reaches history lines old) (line : Line) (next : IsNext history.events lines line) where
   unnamed : ¬ IsNamed lines (cpu_named line) (number_named line)
   unnamed named =
       let below = reached.named (cpu_named line) (number_named line) named in
@@ -27,7 +22,8 @@ module _ (history : History) (is_history : IsHistory history) (lines : List Line
   Reaches-again : (called : ℕ) (new state : State) → IsGiven history.events line called old new → Reaches history (lines ++ line ∷ []) state
       → Reaches history (lines ++ line ∷ []) new
   Reaches-again called new state given known =
-      let same = same_command history.events (HasOnePlaces-from_history history is_history) called given.is_entry.called (cpu_named line) (number_named line)
+      let same =
+      same_command history.events (HasOnePlaces-from_history history is_history) called given.is_entry.called (cpu_named line) (number_named line)
       given.command given.entry.command given.is_called given.is_entry.is_called in
       Reaches-machine history (lines ++ line ∷ []) state new known
       (Passes-push history lines old line called new reached.passes (record {
@@ -44,7 +40,8 @@ module _ (history : History) (is_history : IsHistory history) (lines : List Line
 
 -- one frame more is replayed
 pub Reaches-replayed : (history : History) → IsHistory history → (frames : List Frame) → AreFrames history frames → AreReached history frames
-    → (i : ℕ) (frame : Frame) → i < length frames → slice_get frames i ≡ Some frame → (old new : State) → Reaches history (lines_of (take i frames)) old
+    → (i : ℕ) (frame : Frame) → i < length frames → slice_get frames i ≡ Some frame
+    → (old new : State) → Reaches history (lines_of (take i frames)) old
     → (called : ℕ) → IsGiven history.events frame.line called old new → Reaches history (lines_of (take (i + 1) frames)) new
 Reaches-replayed history is_history frames are everywhere i frame within is old new reached called given =
     let longer = lines_of-next frames i frame is in

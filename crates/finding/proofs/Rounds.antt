@@ -1,20 +1,16 @@
 -- Orders that are taken into a round.
-use Rattle.std.proofs.Common.{◌≡◌, ℕ, List, [], ◌∷◌, ◌++◌, Some, sym, subst, ap}
-use Rattle.rmm_spec.specs.declared.line.Line.{Line}
+use Rattle.finding.proofs.Common.{◌++◌, ◌∷◌, ◌≡◌, AllLost, Choice, History, IsBegun, IsNextCall, IsRound, Line, List, RoundLost, Some, [], ap, state_of, subst, sym, ℕ}
 use Rattle.std.proofs.lemmas.List.Elements.{All-pop, All-push}
-use Rattle.rmm_spec.specs.HistoryText.{History}
-use Rattle.spec_machine.specs.View.{state_of}
-use Rattle.finding.specs.Begun.{AllBegun, AllLost, Covers, Holds, IsBegun, IsLost, IsRound, IsSoon, RoundLost}
-use Rattle.finding.specs.Choice.{IsNextCall}
+use Rattle.finding.specs.Begun.{AllBegun, Covers, Holds, IsLost, IsSoon}
 use Rattle.finding.specs.Front.{IsFront}
 use Rattle.finding.specs.declared.begun.Begun.{Begun}
-use Rattle.finding.specs.declared.choice.Choice.{Choice}
 use Rattle.finding.specs.declared.front.Front.{Front}
 use Rattle.finding.specs.declared.round.Round.{Round}
 use Rattle.finding.proofs.BegunLaws.{Holds-alike}
 
 -- one more order
-pub AllBegun-push : (history : History) (old new : List Begun) (begun : Begun) → new ≡ old ++ begun ∷ [] → AllBegun history old → IsBegun history begun
+pub AllBegun-push : (history : History) (old new : List Begun) (begun : Begun)
+    → new ≡ old ++ begun ∷ [] → AllBegun history old → IsBegun history begun
     → AllBegun history new
 AllBegun-push history old new begun are all is =
     subst (AllBegun history) (sym are) (All-push (IsBegun history) old begun all is)

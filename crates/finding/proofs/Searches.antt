@@ -1,47 +1,38 @@
 -- A search as it tries a line, grows by one and takes one back.
-use Rattle.std.proofs.Common.{◌≡◌, ◌≢◌, ℕ, zero, suc, ◌+◌, ◌-◌, ◌^◌, ◌<◌, ◌≤◌, inl, inr, true, false, List, [], ◌∷◌, ◌++◌, length, take, get_or, set, Option, Some, None, refl, sym, ◌∙◌, ap, subst, arith, get_or-set_same, get_or-set_other}
-use Rattle.std.specs.List.{slice_get, AllByRecursion}
+use Rattle.finding.proofs.Common.{◌++◌, ◌+◌, ◌<◌, ◌^◌, ◌∙◌, ◌∷◌, ◌≡◌, ◌≤◌, Choice, Frame, History, IsFinished, IsHistory, IsLeast, IsNextCall, IsSearch, IsTrue, LeadsNowhere, Line, List, None, Option, Passes, Search, Some, State, Tried, Unfinished, [], ap, arith, cases_lt, cpu_named, inl, inr, length, lines_of, number_named, opening, rank_of, refl, slice_get, slice_get_within, state_of, subst, sym, take, ℕ}
+use Rattle.std.proofs.Common.{◌≢◌, zero, suc, ◌-◌, true, false, get_or, set, get_or-set_same, get_or-set_other}
+use Rattle.std.specs.List.{AllByRecursion}
 use Rattle.std.specs.Global.{Box}
 use Rattle.std.specs.Option.{IfSome}
-use Rattle.std.specs.Bool.{IsTrue}
 use Rattle.std.proofs.Math.Seq.{take-append_seam}
 use Rattle.std.proofs.lemmas.Bool.Decides.{eqb_tells}
-use Rattle.std.proofs.lemmas.Bool.{cases_lt}
 use Rattle.std.proofs.lemmas.List.{length-append, length-set, map-append, take-append-le, take_all}
-use Rattle.std.proofs.lemmas.Option.{none-some, slice_get_within}
-use Rattle.rmm_spec.specs.declared.line.Line.{Line}
-use Rattle.rmm_spec.specs.declared.line.Line.TheVariants.{Keep, Unfinished}
-use Rattle.rmm_spec.specs.HistoryText.{History, IsHistory}
+use Rattle.std.proofs.lemmas.Option.{none-some}
+use Rattle.rmm_spec.specs.declared.line.Line.TheVariants.{Keep}
 use Rattle.rmm_spec.specs.CertificateText.{IsLine, IsCertificate}
 use Rattle.rmm_spec.specs.Rows.{ok}
-use Rattle.rmm_spec.specs.State.{State, opening}
-use Rattle.rmm_spec.specs.FirstFault.{IsRefused, Passes}
-use Rattle.rmm_spec.specs.Linearization.{IsFinished, IsLinearization, IsOfItsKind, cpu_named, number_named}
+use Rattle.rmm_spec.specs.FirstFault.{IsRefused}
+use Rattle.rmm_spec.specs.Linearization.{IsLinearization, IsOfItsKind}
 use Rattle.lemmas.proofs.Elements.{slice_get_push_cases, slice_get-append, slice_get-push}
-use Rattle.spec_machine.specs.View.{state_of}
 use Rattle.spec_machine.specs.declared.machine.Machine.{Machine}
-use Rattle.order_laws.specs.Order.{count_of, LeadsNowhere, Reaches, ReturnBehind, Grows}
+use Rattle.order_laws.specs.Order.{count_of, Reaches, ReturnBehind, Grows}
 use Rattle.order_laws.proofs.Counts.{count_of-same, count_of-other, count_of-nil}
 use Rattle.order_laws.proofs.Growth.{IsLinearization-from_Reaches, Reaches-nil, Reaches-push}
 use Rattle.order_laws.proofs.Nowhere.{nowhere_by, nowhere_unless}
 use Rattle.order_laws.proofs.Settled.{nowhere_settled}
 use Rattle.order_laws.proofs.Short.{length-lines}
 use Rattle.finding.specs.Attempt.{IsAttempt, MayTry}
-use Rattle.finding.specs.Choice.{rank_of, IsNextCall, IsLeast}
 use Rattle.finding.specs.Counts.{AreCounts}
 use Rattle.finding.specs.Front.{IsFront}
 use Rattle.finding.specs.Kept.{AreNowhere}
 use Rattle.finding.specs.declared.kept.Configuration.{Configuration}
 use Rattle.finding.specs.declared.kept.Kept.{Kept}
-use Rattle.finding.specs.Search.{AreFrames, AreReached, Continues, IsCheckpoint, IsDeclined, IsGiven, IsLonger, IsRefusedHere, IsSearch, IsShorter, IsStanding, StandsAt, lines_of}
-use Rattle.finding.specs.Tried.{Tried, CallLeadsNowhere}
+use Rattle.finding.specs.Search.{AreFrames, AreReached, Continues, IsCheckpoint, IsDeclined, IsGiven, IsLonger, IsRefusedHere, IsShorter, IsStanding, StandsAt}
+use Rattle.finding.specs.Tried.{CallLeadsNowhere}
 use Rattle.finding.specs.declared.checkpoint.Checkpoint.{Checkpoint}
-use Rattle.finding.specs.declared.choice.Choice.{Choice}
-use Rattle.finding.specs.declared.frame.Frame.{Frame}
 use Rattle.finding.specs.declared.front.Front.{Front}
 use Rattle.finding.specs.declared.offers.Offers.{Offers}
 use Rattle.finding.specs.declared.search.Left.{Left}
-use Rattle.finding.specs.declared.search.Search.{Search}
 use Rattle.finding.specs.declared.search.Progress.{Progress}
 use Rattle.finding.specs.declared.search.Progress.TheVariants.{Going, Whole, Exhausted}
 use Rattle.finding.proofs.TriedLaws.{Tried-none, Tried-all, Tried-passed, Tried-ended, all_named, all_nowhere, HasOpen-first, ReturnBehind-called, too_late}
@@ -92,7 +83,8 @@ AreCounts-push counts lines line cpu count are of_cpu within counted = record {
 }
 
 -- the last line taken back
-pub AreCounts-pop : (counts : List ℕ) (lines : List Line) (line : Line) (cpu count : ℕ) → AreCounts counts (lines ++ line ∷ []) → cpu_named line ≡ cpu → cpu < 8
+pub AreCounts-pop : (counts : List ℕ) (lines : List Line) (line : Line) (cpu count : ℕ)
+    → AreCounts counts (lines ++ line ∷ []) → cpu_named line ≡ cpu → cpu < 8
     → count ≡ count_of cpu lines → AreCounts (set counts cpu count) lines
 AreCounts-pop counts lines line cpu count are of_cpu within counted = record {
   size = length-set counts cpu count ∙ are.size;
@@ -117,7 +109,8 @@ pub AreFrames-push : (history : History) (frames : List Frame) (frame : Frame) �
 AreFrames-push history frames frame are last = λ i one is. elim (slice_get_push_cases frames frame i one is) [
   | inl before ↦
       let within = slice_get_within frames i one before in
-      subst (λ (fs : List Frame). StandsAt history (lines_of fs) one) (sym (take-append-le i frames (frame ∷ []) (omega (arith, within)))) (are i one before)
+      subst (λ (fs : List Frame). StandsAt history (lines_of fs) one)
+      (sym (take-append-le i frames (frame ∷ []) (omega (arith, within)))) (are i one before)
   | inr at ↦
       subst (λ (f : Frame). StandsAt history (lines_of (take i (frames ++ frame ∷ []))) f) (sym at.1)
       (subst (λ (fs : List Frame). StandsAt history (lines_of fs) frame)
@@ -131,7 +124,8 @@ AreFrames-pop history frames frame are = λ i one is.
     subst (λ (fs : List Frame). StandsAt history (lines_of fs) one) (take-append-le i frames (frame ∷ []) (omega (arith, within)))
     (are i one (slice_get-append frames (frame ∷ []) i one is))
 
-pub last_frame : (history : History) (frames : List Frame) (frame : Frame) → AreFrames history (frames ++ frame ∷ []) → StandsAt history (lines_of frames) frame
+pub last_frame : (history : History) (frames : List Frame) (frame : Frame)
+    → AreFrames history (frames ++ frame ∷ []) → StandsAt history (lines_of frames) frame
 last_frame history frames frame are =
     subst (λ (fs : List Frame). StandsAt history (lines_of fs) frame) (take-append_seam frames (frame ∷ []))
     (are (length frames) frame (slice_get-push frames frame))
@@ -143,7 +137,8 @@ checkpoint-push : (history : History) (frames : List Frame) (frame : Frame) (o :
 checkpoint-push history frames frame None is = tt
 checkpoint-push history frames frame (Some c) is = record {
   within = let longer = length-append frames (frame ∷ []) in let within = is.within in omega (arith, longer, within);
-  reached = subst (λ (fs : List Frame). Reaches history (lines_of fs) (state_of c.machine)) (sym (take-append-le c.lines frames (frame ∷ []) is.within)) is.reached;
+  reached = subst (λ (fs : List Frame). Reaches history (lines_of fs) (state_of c.machine))
+      (sym (take-append-le c.lines frames (frame ∷ []) is.within)) is.reached;
 }
 
 checkpoint-pop : (history : History) (frames : List Frame) (frame : Frame) (old new : Option Checkpoint)
@@ -151,10 +146,12 @@ checkpoint-pop : (history : History) (frames : List Frame) (frame : Frame) (old 
     → IfSome new (λ c. old ≡ Some c) → IfSome new (IsCheckpoint history frames)
 checkpoint-pop history frames frame old None was within same = tt
 checkpoint-pop history frames frame old (Some c) was within same =
-    let is : IsCheckpoint history (frames ++ frame ∷ []) c = subst (λ (o : Option Checkpoint). IfSome o (IsCheckpoint history (frames ++ frame ∷ []))) same was in
+    let is : IsCheckpoint history (frames ++ frame ∷ []) c =
+    subst (λ (o : Option Checkpoint). IfSome o (IsCheckpoint history (frames ++ frame ∷ []))) same was in
     record {
       within = within;
-      reached = subst (λ (fs : List Frame). Reaches history (lines_of fs) (state_of c.machine)) (take-append-le c.lines frames (frame ∷ []) within) is.reached;
+      reached = subst (λ (fs : List Frame). Reaches history (lines_of fs) (state_of c.machine))
+          (take-append-le c.lines frames (frame ∷ []) within) is.reached;
     }
 
 -- each frame is somewhere
@@ -182,7 +179,8 @@ are_lines : (history : History) (frames : List Frame) → ((i : ℕ) (frame : Fr
 are_lines history [] each = tt
 are_lines history (frame ∷ frames) each = (each 0 frame refl, are_lines history frames (λ i one is. each (suc i) one is))
 
-pub IsCertificate-search : (history : History) → IsHistory history → (search : Search) → IsSearch history search → IsCertificate (lines_of search.frames.items)
+pub IsCertificate-search : (history : History) → IsHistory history → (search : Search)
+    → IsSearch history search → IsCertificate (lines_of search.frames.items)
 IsCertificate-search history is_history search is_search =
     let few = length-lines history.events (lines_of search.frames.items) is_search.reached.passes.names in
     let lines = is_history.lines in
@@ -262,7 +260,8 @@ module _ (history : History) (is_history : IsHistory history) (old new : Search)
       → new.front.counts ≡ set old.front.counts cpu (number + 1) → new.from ≡ 0 → new.above ≡ None → state_of new.machine ≡ next
       → IsFront history new.front → new.kept ≡ old.kept → IfSome frame.before (λ (m : Box Machine). state_of m.value ≡ state)
       → IfSome new.checkpoint (IsCheckpoint history old.frames.items) → IsSearch history new
-  IsSearch-grown frame state next reached grows is_line resumes frames cpu number of_cpu numbered within counts from above leads front kept marked point =
+  IsSearch-grown frame state next reached grows is_line resumes frames cpu number
+      of_cpu numbered within counts from above leads front kept marked point =
       let lines = lines_of old.frames.items in
       let longer : lines_of new.frames.items ≡ lines ++ frame.line ∷ [] = ap lines_of frames ∙ lines_of-push old.frames.items frame in
       let further = Reaches-push history is_history lines state reached frame.line next grows in
@@ -278,10 +277,12 @@ module _ (history : History) (is_history : IsHistory history) (old new : Search)
       let are : AreCounts (set old.front.counts cpu (number + 1)) (lines ++ frame.line ∷ []) =
       AreCounts-push old.front.counts lines frame.line cpu (number + 1) is_search.counts of_cpu within counted in
       record {
-        frames = subst (λ (fs : List Frame). AreFrames history fs) (sym frames) (AreFrames-push history old.frames.items frame is_search.frames stands);
+        frames = subst (λ (fs : List Frame). AreFrames history fs) (sym frames)
+            (AreFrames-push history old.frames.items frame is_search.frames stands);
         state = next;
         reached = subst (λ (ls : List Line). Reaches history ls next) (sym longer) further;
-        machine = λ _. subst (Reaches history (lines_of new.frames.items)) (sym leads) (subst (λ (ls : List Line). Reaches history ls next) (sym longer) further);
+        machine = λ _. subst (Reaches history (lines_of new.frames.items)) (sym leads)
+            (subst (λ (ls : List Line). Reaches history ls next) (sym longer) further);
         front = front;
         counts = subst (λ (cs : List ℕ). AreCounts cs (lines_of new.frames.items)) (sym counts)
             (subst (λ (ls : List Line). AreCounts (set old.front.counts cpu (number + 1)) ls) (sym longer) are);
@@ -293,7 +294,8 @@ module _ (history : History) (is_history : IsHistory history) (old new : Search)
       }
 
   -- the last line was taken off
-  pub IsShorter-drop : (frame : Frame) (left : Left) → old.frames.items ≡ new.frames.items ++ frame ∷ [] → left.from ≡ frame.from → left.above ≡ frame.above
+  pub IsShorter-drop : (frame : Frame) (left : Left)
+      → old.frames.items ≡ new.frames.items ++ frame ∷ [] → left.from ≡ frame.from → left.above ≡ frame.above
       → new.front.counts ≡ set old.front.counts (cpu_named frame.line) (number_named frame.line) → new.from ≡ 0 → new.above ≡ None
       → (IsTrue new.stands → (m : Box Machine) × (frame.before ≡ Some m) × (new.machine ≡ m.value)) → IsFront history new.front → new.kept ≡ old.kept
       → IfSome new.checkpoint (λ (c : Checkpoint). c.lines ≤ length new.frames.items) → IfSome new.checkpoint (λ c. old.checkpoint ≡ Some c)
@@ -306,7 +308,8 @@ module _ (history : History) (is_history : IsHistory history) (old new : Search)
       let of_line = last.is_frame.is_line in
       let are : AreCounts (set old.front.counts (cpu_named frame.line) (number_named frame.line)) lines =
       AreCounts-pop old.front.counts lines frame.line (cpu_named frame.line) (number_named frame.line)
-      (subst (λ (ls : List Line). AreCounts old.front.counts ls) longer is_search.counts) refl (few_cpus frame.line of_line) last.is_frame.next.numbered in
+      (subst (λ (ls : List Line). AreCounts old.front.counts ls) longer is_search.counts) refl
+      (few_cpus frame.line of_line) last.is_frame.next.numbered in
       record {
         is_search = record {
           frames = AreFrames-pop history new.frames.items frame were;
@@ -365,7 +368,8 @@ IsStanding-same history search is_search stands =
     record { is_search = is_search; stands = stands; same = λ i. record search { stands = stands i } }
 
 -- a checkpoint is left behind all lines
-pub IsStanding-noted : (history : History) (search : Search) → IsSearch history search → IsTrue search.stands → (lines : ℕ) → lines ≡ length search.frames.items
+pub IsStanding-noted : (history : History) (search : Search) → IsSearch history search
+    → IsTrue search.stands → (lines : ℕ) → lines ≡ length search.frames.items
     → (machine : Machine) → state_of machine ≡ state_of search.machine
     → IsStanding history search (record search { checkpoint = Some (record { lines = lines; machine = machine }) })
 IsStanding-noted history search is_search stands lines all machine same = record {
@@ -380,7 +384,8 @@ IsStanding-noted history search is_search stands lines all machine same = record
     kept = is_search.kept;
     checkpoint = record {
       within = omega (arith, all);
-      reached = subst (λ (fs : List Frame). Reaches history (lines_of fs) (state_of machine)) (sym (take_all lines search.frames.items (omega (arith, all))))
+      reached = subst (λ (fs : List Frame). Reaches history (lines_of fs) (state_of machine))
+          (sym (take_all lines search.frames.items (omega (arith, all))))
           (subst (Reaches history (lines_of search.frames.items)) (sym same) (is_search.machine stands));
     };
   };
@@ -405,7 +410,8 @@ module _ (history : History) (is_history : IsHistory history) (search : Search) 
       → IsLinearization history (lines_of search.frames.items)
   Whole-search least is_least past =
       IsLinearization-from_Reaches history (lines_of search.frames.items) is_search.state is_search.reached
-      (all_named history is_history (lines_of search.frames.items) is_search.state is_search.reached search.front.counts is_search.counts least is_least past)
+      (all_named history is_history (lines_of search.frames.items)
+      is_search.state is_search.reached search.front.counts is_search.counts least is_least past)
 
   -- one is, and no call is left to try
   pub nowhere_left : (first : Choice) → IsNextCall history search.front.counts 0 first → rank_of first < 1000000 → (least : ℕ)
@@ -413,9 +419,11 @@ module _ (history : History) (is_history : IsHistory history) (search : Search) 
       → LeadsNowhere history (lines_of search.frames.items)
   nowhere_left first next below least is_least past =
       let told = returned_first history.events first next.places below in
-      all_nowhere history is_history (lines_of search.frames.items) is_search.state is_search.reached search.front.counts is_search.counts search.from search.above
+      all_nowhere history is_history (lines_of search.frames.items)
+      is_search.state is_search.reached search.front.counts is_search.counts search.from search.above
       is_search.tried least is_least
-      (HasOpen-first history is_history (lines_of search.frames.items) is_search.state is_search.reached search.front.counts is_search.counts 0 first next
+      (HasOpen-first history is_history
+      (lines_of search.frames.items) is_search.state is_search.reached search.front.counts is_search.counts 0 first next
       (rank_of first, told.0, told.1)) past
 
   -- a call that was made by the first return can come next
@@ -423,7 +431,8 @@ module _ (history : History) (is_history : IsHistory history) (search : Search) 
       → IsNextCall history search.front.counts from choice → choice.places.called ≤ rank_of first
       → ReturnBehind history.events (lines_of search.frames.items) choice.places.called
   soon_enough first choice is_least from next early =
-      ReturnBehind-called history is_history (lines_of search.frames.items) is_search.state is_search.reached search.front.counts is_search.counts (rank_of first)
+      ReturnBehind-called history is_history
+      (lines_of search.frames.items) is_search.state is_search.reached search.front.counts is_search.counts (rank_of first)
       is_least choice.places.called choice.cpu choice.number next.places.called.0 next.places.called.1 early
 
   -- one that was made behind it can't
@@ -433,14 +442,18 @@ module _ (history : History) (is_history : IsHistory history) (search : Search) 
       → Tried history (lines_of search.frames.items) (rank_of choice + 1) None
   Tried-late first choice is_first below next is_least late =
       let told = returned_first history.events first is_first.places below in
-      Tried-passed history is_history (lines_of search.frames.items) is_search.state is_search.reached search.front.counts is_search.counts search.from search.above
+      Tried-passed history is_history (lines_of search.frames.items)
+      is_search.state is_search.reached search.front.counts is_search.counts search.from search.above
       is_search.tried choice next is_least
-      (too_late history is_history (lines_of search.frames.items) is_search.state is_search.reached search.front.counts is_search.counts 0 search.from first choice
+      (too_late history is_history (lines_of search.frames.items)
+      is_search.state is_search.reached search.front.counts is_search.counts 0 search.from first choice
       is_first next (rank_of first) told.0 told.1 late)
 
 -- ---- what an attempt leads to
 
-module _ (history : History) (is_history : IsHistory history) (search : Search) (is_search : IsSearch history search) (choice : Choice) (next : IsNextCall history search.front.counts search.from choice) (is_least : IsLeast history.events search.front.counts search.from history.config.cpus (rank_of choice)) where
+module _ (history : History) (is_history : IsHistory history) (search : Search) (is_search : IsSearch history search)
+    (choice : Choice) (next : IsNextCall history search.front.counts search.from choice)
+    (is_least : IsLeast history.events search.front.counts search.from history.config.cpus (rank_of choice)) where
   -- the call may be tried, with the ends that are left
   pub MayTry-search : (state : State) → Reaches history (lines_of search.frames.items) state → (above : Option ℕ)
       → ((bound : ℕ) → above ≡ Some bound → (search.above ≡ Some bound) × (rank_of choice ≡ search.from))
@@ -452,7 +465,8 @@ module _ (history : History) (is_history : IsHistory history) (search : Search) 
     numbered = next.numbered
         ∙ is_search.counts.each choice.cpu (let most = is_history.config.most_cpus in let within = next.of_machine in omega (arith, within, most));
     ended = λ end bound is within.
-        nowhere_unless history is_history (lines_of search.frames.items) state reached (Unfinished choice.cpu choice.number (ok (end ∷ []))) (λ is_next.
+        nowhere_unless history is_history (lines_of search.frames.items) state reached
+        (Unfinished choice.cpu choice.number (ok (end ∷ []))) (λ is_next.
         let held = left bound is in
         let rank = rank_pending history.events choice.cpu choice.number choice.places next.places is_next.kind in
         is_search.tried.ended choice.cpu choice.number end bound is_next.kind (sym rank ∙ held.1) held.0 within);
@@ -462,7 +476,8 @@ module _ (history : History) (is_history : IsHistory history) (search : Search) 
   pub Tried-call : CallLeadsNowhere history (lines_of search.frames.items) choice.cpu choice.number
       → Tried history (lines_of search.frames.items) (rank_of choice + 1) None
   Tried-call nowhere =
-      Tried-passed history is_history (lines_of search.frames.items) is_search.state is_search.reached search.front.counts is_search.counts search.from search.above
+      Tried-passed history is_history (lines_of search.frames.items)
+      is_search.state is_search.reached search.front.counts is_search.counts search.from search.above
       is_search.tried choice next is_least nowhere
 
   -- the line of a finished call leads nowhere
@@ -481,7 +496,8 @@ module _ (history : History) (is_history : IsHistory history) (search : Search) 
         (subst (λ (a : Option ℕ). Tried history (lines_of search.frames.items) (rank_of choice + 1) a) (sym passed.above) (Tried-call passed.nowhere))
     | inr ended ↦
         subst (λ (f : ℕ). Tried history (lines_of search.frames.items) f frame.above) (sym ended.from)
-        (Tried-ended history is_history (lines_of search.frames.items) is_search.state is_search.reached search.front.counts is_search.counts search.from search.above
+        (Tried-ended history is_history (lines_of search.frames.items)
+        is_search.state is_search.reached search.front.counts is_search.counts search.from search.above
         is_search.tried choice next is_least frame.above ended.nowhere)
   ]
 
@@ -494,7 +510,8 @@ module _ (history : History) (is_history : IsHistory history) (search : Search) 
       (λ entry new is_entry step. absurd (refused entry new is_entry step)))
 
 -- a call that is given its reply makes the order longer
-pub Grows-given : (history : History) → IsHistory history → (lines : List Line) (state later : State) (counts : List ℕ) (from : ℕ) (choice : Choice) (line : Line)
+pub Grows-given : (history : History) → IsHistory history
+    → (lines : List Line) (state later : State) (counts : List ℕ) (from : ℕ) (choice : Choice) (line : Line)
     → AreCounts counts lines → IsNextCall history counts from choice → cpu_named line ≡ choice.cpu → number_named line ≡ choice.number
     → IsOfItsKind history.events line → ReturnBehind history.events lines choice.places.called
     → IsGiven history.events line choice.places.called state later → Grows history lines state line later
@@ -516,14 +533,16 @@ Grows-given history is_history lines state later counts from choice line are nex
 }
 
 -- a call that is refused here makes the order longer, and changes nothing
-unfoldable pub Grows-refused : (history : History) → IsHistory history → (lines : List Line) (state : State) (counts : List ℕ) (choice : Choice) → AreCounts counts lines
+unfoldable pub Grows-refused : (history : History) → IsHistory history
+    → (lines : List Line) (state : State) (counts : List ℕ) (choice : Choice) → AreCounts counts lines
     → IsNextCall history counts 0 choice → ReturnBehind history.events lines choice.places.called → IsRefusedHere history state choice
     → Grows history lines state (Keep choice.cpu choice.number) state
 Grows-refused history is_history lines state counts choice are next soon refused = record {
   next = record {
     known = (choice.places.called, refused.command, refused.is_called);
     kind = (refused.place, refused.given, refused.is_returned);
-    numbered = next.numbered ∙ are.each choice.cpu (let most = is_history.config.most_cpus in let within = next.of_machine in omega (arith, within, most));
+    numbered = next.numbered
+        ∙ are.each choice.cpu (let most = is_history.config.most_cpus in let within = next.of_machine in omega (arith, within, most));
   };
   called = choice.places.called;
   command = refused.command;
@@ -536,7 +555,8 @@ Grows-refused history is_history lines state counts choice are next soon refused
 
 -- ---- what a search is after each way of a step
 
-module _ (history : History) (is_history : IsHistory history) (search : Search) (is_search : IsSearch history search) (stands : IsTrue search.stands) (choice : Choice) (new : Search) where
+module _ (history : History) (is_history : IsHistory history) (search : Search)
+    (is_search : IsSearch history search) (stands : IsTrue search.stands) (choice : Choice) (new : Search) where
   reached : Reaches history (lines_of search.frames.items) (state_of search.machine)
   reached = is_search.machine stands
 
@@ -554,10 +574,13 @@ module _ (history : History) (is_history : IsHistory history) (search : Search) 
       choice.cpu choice.number next.places.called.0 next.places.called.1 early in
       let grows = Grows-refused history is_history lines state search.front.counts choice is_search.counts next soon refused in
       let at = of_a_line history is_history choice next.places in
-      IsSearch-grown history is_history search new is_search (record { line = Keep choice.cpu choice.number; from = 2 ^ 32 - 1; above = None; before = before })
+      IsSearch-grown history is_history search new is_search
+      (record { line = Keep choice.cpu choice.number; from = 2 ^ 32 - 1; above = None; before = before })
       state state reached grows at
-      (λ nowhere. Tried-all history lines _ _ (nowhere_settled history is_history lines state reached choice.cpu choice.number grows refused.refusal nowhere))
-      longer.frames choice.cpu choice.number refl refl at.0 longer.counts longer.from longer.above (ap state_of longer.machine) longer.front longer.kept marked
+      (λ nowhere. Tried-all history lines _ _
+      (nowhere_settled history is_history lines state reached choice.cpu choice.number grows refused.refusal nowhere))
+      longer.frames choice.cpu choice.number refl refl at.0 longer.counts longer.from longer.above
+      (ap state_of longer.machine) longer.front longer.kept marked
       (subst (λ (o : Option Checkpoint). IfSome o (IsCheckpoint history search.frames.items)) (sym longer.checkpoint) is_search.checkpoint)
 
   -- a finished call that is given its reply stands in the order
@@ -592,18 +615,23 @@ module _ (history : History) (is_history : IsHistory history) (search : Search) 
 
   -- and it is tried no more
   pub IsSearch-passed : IsNextCall history search.front.counts search.from choice
-      → IsLeast history.events search.front.counts search.from history.config.cpus (rank_of choice) → IsFinished history.events choice.cpu choice.number
-      → (declined : Search) → IsDeclined history choice search declined → new ≡ record declined { from = rank_of choice + 1; above = None } → IsSearch history new
+      → IsLeast history.events search.front.counts search.from history.config.cpus (rank_of choice)
+      → IsFinished history.events choice.cpu choice.number
+      → (declined : Search) → IsDeclined history choice search declined
+      → new ≡ record declined { from = rank_of choice + 1; above = None } → IsSearch history new
   IsSearch-passed next is_least finished declined is same =
       let lines = lines_of search.frames.items in
       let nowhere = nowhere_by history is_history lines (state_of search.machine) reached (Keep choice.cpu choice.number)
       (λ entry later is_entry step. absurd (is.refused entry later is_entry step)) in
       subst (IsSearch history) (sym (same ∙ ap (λ (s : Search). record s { from = rank_of choice + 1; above = None }) is.same))
-      (IsSearch-tried history is_history search (record search { machine = is.machine; offers = is.offers; from = rank_of choice + 1; above = None }) is_search
+      (IsSearch-tried history is_history
+      search (record search { machine = is.machine; offers = is.offers; from = rank_of choice + 1; above = None }) is_search
       refl refl (λ _. subst (Reaches history lines) (sym is.kept) reached)
       (Tried-kept history is_history search is_search choice next is_least finished nowhere) is_search.kept is_search.checkpoint)
 
-  module _ (next : IsNextCall history search.front.counts search.from choice) (is_least : IsLeast history.events search.front.counts search.from history.config.cpus (rank_of choice)) (frame : Frame) (attempt : IsAttempt history (lines_of search.frames.items) choice frame) (later : Machine) where
+  module _ (next : IsNextCall history search.front.counts search.from choice)
+      (is_least : IsLeast history.events search.front.counts search.from history.config.cpus (rank_of choice))
+      (frame : Frame) (attempt : IsAttempt history (lines_of search.frames.items) choice frame) (later : Machine) where
     -- a call that is given its reply stands in the order
     pub IsSearch-given : ReturnBehind history.events (lines_of search.frames.items) choice.places.called
         → IsGiven history.events frame.line choice.places.called (state_of search.machine) (state_of later)
@@ -612,18 +640,22 @@ module _ (history : History) (is_history : IsHistory history) (search : Search) 
     IsSearch-given soon given marked offers longer =
         let at = of_a_line history is_history choice next.places in
         IsSearch-grown history is_history search new is_search frame (state_of search.machine) (state_of later) reached
-        (Grows-given history is_history (lines_of search.frames.items) (state_of search.machine) (state_of later) search.front.counts search.from choice frame.line
+        (Grows-given history is_history (lines_of search.frames.items) (state_of search.machine)
+        (state_of later) search.front.counts search.from choice frame.line
         is_search.counts next attempt.of_cpu attempt.numbered attempt.kind soon given)
         attempt.is_line (Tried-frame history is_history search is_search choice next is_least frame attempt)
-        longer.frames choice.cpu choice.number attempt.of_cpu attempt.numbered at.0 longer.counts longer.from longer.above (ap state_of longer.machine) longer.front
-        longer.kept marked (subst (λ (o : Option Checkpoint). IfSome o (IsCheckpoint history search.frames.items)) (sym longer.checkpoint) is_search.checkpoint)
+        longer.frames choice.cpu choice.number attempt.of_cpu attempt.numbered at.0 longer.counts longer.from longer.above
+        (ap state_of longer.machine) longer.front
+        longer.kept marked
+        (subst (λ (o : Option Checkpoint). IfSome o (IsCheckpoint history search.frames.items)) (sym longer.checkpoint) is_search.checkpoint)
 
     -- one that is refused it is left behind
     pub IsSearch-refused : state_of later ≡ state_of search.machine → IsRefused history.events (state_of search.machine) frame.line
         → (offers : Offers) → new ≡ record search { machine = later; offers = offers; from = frame.from; above = frame.above } → IsSearch history new
     IsSearch-refused kept refused offers same =
         subst (IsSearch history) (sym same)
-        (IsSearch-tried history is_history search (record search { machine = later; offers = offers; from = frame.from; above = frame.above }) is_search refl refl
+        (IsSearch-tried history is_history
+        search (record search { machine = later; offers = offers; from = frame.from; above = frame.above }) is_search refl refl
         (λ _. subst (Reaches history (lines_of search.frames.items)) (sym kept) reached)
         (Tried-refused history is_history search is_search choice next is_least frame (state_of search.machine) attempt reached refused)
         is_search.kept is_search.checkpoint)
@@ -631,7 +663,8 @@ module _ (history : History) (is_history : IsHistory history) (search : Search) 
 -- ---- bounds of a call that may come next
 
 -- what is tried at a rank or behind it is tried at some rank
-pub IsNextCall-0 : (history : History) (counts : List ℕ) (from : ℕ) (choice : Choice) → IsNextCall history counts from choice → IsNextCall history counts 0 choice
+pub IsNextCall-0 : (history : History) (counts : List ℕ) (from : ℕ) (choice : Choice)
+    → IsNextCall history counts from choice → IsNextCall history counts 0 choice
 IsNextCall-0 history counts from choice next =
     record { of_machine = next.of_machine; numbered = next.numbered; places = next.places; ranked = omega arith }
 

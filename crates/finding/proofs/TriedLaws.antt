@@ -1,27 +1,21 @@
 -- What was tried behind an order, call by call in the order in which they are tried.
-use Rattle.std.proofs.Common.{◌≡◌, ℕ, ◌+◌, ◌^◌, ◌<◌, ◌≤◌, List, [], ◌∷◌, ◌++◌, inl, inr, get_or, Option, Some, None, sym, ◌∙◌, ap, subst, arith, append_assoc}
-use Rattle.std.specs.List.{slice_get}
+use Rattle.finding.proofs.Common.{◌++◌, ◌+◌, ◌<◌, ◌^◌, ◌∙◌, ◌∷◌, ◌≡◌, ◌≤◌, Choice, History, IsFinished, IsHistory, IsLeast, IsNextCall, LeadsNowhere, Line, List, None, Option, Reply, Some, State, Tried, Unfinished, [], ap, arith, cases_lt, cpu_named, inl, inr, rank_of, slice_get, slice_get_within, subst, sym, ℕ}
+use Rattle.std.proofs.Common.{get_or, append_assoc}
 use Rattle.std.specs.Option.{MatchOption}
-use Rattle.std.proofs.lemmas.Bool.{cases_lt}
-use Rattle.std.proofs.lemmas.Option.{none-some, slice_get_within}
+use Rattle.std.proofs.lemmas.Option.{none-some}
 use Rattle.rmm_spec.specs.declared.command.Command.{Command}
 use Rattle.rmm_spec.specs.declared.event.Event.TheVariants.{Called, Returned}
-use Rattle.rmm_spec.specs.declared.line.Line.{Line}
-use Rattle.rmm_spec.specs.declared.line.Line.TheVariants.{Keep, Unfinished}
-use Rattle.rmm_spec.specs.declared.reply.Reply.{Reply}
-use Rattle.rmm_spec.specs.HistoryText.{History, IsHistory}
+use Rattle.rmm_spec.specs.declared.line.Line.TheVariants.{Keep}
 use Rattle.rmm_spec.specs.Rows.{ok}
-use Rattle.rmm_spec.specs.State.{State}
-use Rattle.rmm_spec.specs.Linearization.{IsCalled, IsReturned, IsKnown, IsFinished, IsLinearization, cpu_named, ReturnsBefore}
+use Rattle.rmm_spec.specs.Linearization.{IsCalled, IsReturned, IsKnown, IsLinearization, ReturnsBefore}
 use Rattle.spec_lemmas.proofs.Places.{call_is_event, finished_is_known}
-use Rattle.order_laws.specs.Order.{count_of, HasOpen, IsNext, LeadsNowhere, Reaches, ReturnBehind}
+use Rattle.order_laws.specs.Order.{count_of, HasOpen, IsNext, Reaches, ReturnBehind}
 use Rattle.order_laws.proofs.CallOrder.{finished_below, returns_in_order}
 use Rattle.order_laws.proofs.Nowhere.{nowhere_after, nowhere_past, nowhere_unless}
 use Rattle.finding.specs.Attempt.{EndsLeadNowhere}
-use Rattle.finding.specs.Choice.{pending_rank, rank_at, rank_of, IsNextCall, IsLeast}
+use Rattle.finding.specs.Choice.{pending_rank, rank_at}
 use Rattle.finding.specs.Counts.{AreCounts}
-use Rattle.finding.specs.Tried.{Tried, CallLeadsNowhere}
-use Rattle.finding.specs.declared.choice.Choice.{Choice}
+use Rattle.finding.specs.Tried.{CallLeadsNowhere}
 
 -- nothing was tried yet
 pub Tried-none : (history : History) (lines : List Line) → Tried history lines 0 None
@@ -40,9 +34,11 @@ Tried-all history lines from above nowhere = record {
 }
   where
     behind : (line : Line) → LeadsNowhere history (lines ++ line ∷ [])
-    behind line = record { none = λ more valid. nowhere.none (line ∷ more) (subst (IsLinearization history) (append_assoc lines (line ∷ []) more) valid) }
+    behind line =
+        record { none = λ more valid. nowhere.none (line ∷ more) (subst (IsLinearization history) (append_assoc lines (line ∷ []) more) valid) }
 
-module _ (history : History) (is_history : IsHistory history) (lines : List Line) (state : State) (reached : Reaches history lines state) (counts : List ℕ) (are_counts : AreCounts counts lines) where
+module _ (history : History) (is_history : IsHistory history) (lines : List Line) (state : State)
+    (reached : Reaches history lines state) (counts : List ℕ) (are_counts : AreCounts counts lines) where
   -- a call is of one of the machine's CPUs
   of_machine : (cpu number : ℕ) → IsKnown history.events cpu number → cpu < history.config.cpus
   of_machine cpu number known = (call_is_event history known.0 cpu number known.1 is_history known.2).0
@@ -64,7 +60,8 @@ module _ (history : History) (is_history : IsHistory history) (lines : List Line
       let few = is_history.lines in
       omega (arith, within, few)
 
-  module _ (from : ℕ) (above : Option ℕ) (tried : Tried history lines from above) (least : ℕ) (is_least : IsLeast history.events counts from history.config.cpus least) where
+  module _ (from : ℕ) (above : Option ℕ) (tried : Tried history lines from above) (least : ℕ)
+      (is_least : IsLeast history.events counts from history.config.cpus least) where
     -- a finished call that is tried before the least one
     pub before_returned : (cpu number place : ℕ) (given : Reply) → IsReturned history.events place cpu number given → place < least
         → LeadsNowhere history (lines ++ Keep cpu number ∷ [])
@@ -107,7 +104,8 @@ module _ (history : History) (is_history : IsHistory history) (lines : List Line
             let within = few_cpus cpu (of_machine cpu number next.known) in
             before_pending cpu number claimed next.kind (omega (arith, past, within))
 
-  module _ (from : ℕ) (above : Option ℕ) (tried : Tried history lines from above) (choice : Choice) (next : IsNextCall history counts from choice) (is_least : IsLeast history.events counts from history.config.cpus (rank_of choice)) where
+  module _ (from : ℕ) (above : Option ℕ) (tried : Tried history lines from above) (choice : Choice)
+      (next : IsNextCall history counts from choice) (is_least : IsLeast history.events counts from history.config.cpus (rank_of choice)) where
     -- the call that is tried at a finished call's rank is that call
     returned_here : CallLeadsNowhere history lines choice.cpu choice.number → (cpu number place : ℕ) (given : Reply)
         → IsReturned history.events place cpu number given → rank_of choice ≡ place → LeadsNowhere history (lines ++ Keep cpu number ∷ [])

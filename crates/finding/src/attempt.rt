@@ -33,7 +33,8 @@ pub(crate) fn attempt(
 ) -> Option<Frame>
     requires places { ArePlacesOf history.now.recorded.events choice.cpu choice.number choice.places }
     requires pending { choice.places.returned ≡ None }
-    ensures tried { (lines : List Line) → MayTry history.now.recorded lines (state_of machine.now) choice above → IsTriedNext history.now.recorded lines choice result }
+    ensures tried { (lines : List Line)
+        → MayTry history.now.recorded lines (state_of machine.now) choice above → IsTriedNext history.now.recorded lines choice result }
     ensures line { IfSome result (λ frame. (claimed : Reply) × (frame.line ≡ line.Unfinished choice.cpu choice.number claimed)) }
 {
     let Some(command) = history.command_at(choice.places.called as usize) else {

@@ -250,7 +250,8 @@ pub(crate) fn next_orders(
 ) -> Result<Option<Vec<Begun>>, AllocError>
     requires { AllBegun history.now.recorded kept.items }
     ensures begun { IfOk result (λ orders. IfSome orders (λ next. AllBegun history.now.recorded next.items)) }
-    ensures covers { IfOk result (λ orders. IfSome orders (λ next. AllLost history.now.recorded next.items → AllLost history.now.recorded kept.items)) }
+    ensures covers { IfOk result (λ orders. IfSome orders
+        (λ next. AllLost history.now.recorded next.items → AllLost history.now.recorded kept.items)) }
 {
     let mut round = sorted(alloc, history, kept, place)?;
     'depths: for _depth in 0..DEPTH {

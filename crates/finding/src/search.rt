@@ -338,7 +338,8 @@ impl Search {
     ) -> Result<bool, AllocError>
         requires is_search { IsSearch history.now.recorded self.old }
         requires next { IsNextCall history.now.recorded self.old.front.counts 0 choice }
-        ensures same { OnOk result (self.new ≡ record self.old { checkpoint = self.new.checkpoint; earlier = self.new.earlier; moved = self.new.moved }) }
+        ensures same { OnOk result
+            (self.new ≡ record self.old { checkpoint = self.new.checkpoint; earlier = self.new.earlier; moved = self.new.moved }) }
         ensures checkpoint { OnOk result (IfSome self.new.checkpoint (IsCheckpoint history.now.recorded self.old.frames.items)) }
         ensures some { IfOk result (λ found. IsTrue found → 0 < length self.new.frames.items) }
     {

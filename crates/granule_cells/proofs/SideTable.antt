@@ -45,7 +45,8 @@ slice_index-more (x ∷ items) n (suc i) = slice_index-more items n i
 pub counted_at-more : (items : List ℕ) (n : ℕ) → counted_at (items ++ replicate n 0) ≡ counted_at items
 counted_at-more items n = λ i rd. by rd (rd % 4096 == 0) i
   where
-    by : (rd : ℕ) (even : Bool) → (if even then slice_index (items ++ replicate n 0) (rd / 4096) else 0) ≡ (if even then slice_index items (rd / 4096) else 0)
+    by : (rd : ℕ) (even : Bool)
+        → (if even then slice_index (items ++ replicate n 0) (rd / 4096) else 0) ≡ (if even then slice_index items (rd / 4096) else 0)
     by rd true = slice_index-more items n (rd / 4096)
     by rd false = refl
 
@@ -75,7 +76,8 @@ pub counted-granule : (items : List ℕ) (rd : ℕ) → length items ≤ 1048576
 unfolding is_granule
 counted-granule items rd few has = by (rd % 4096 == 0) refl has
   where
-    by : (even : Bool) → (rd % 4096 == 0) ≡ even → 0 < (if even then slice_index items (rd / 4096) else 0) → IsTrue (even && nat_lt rd (1048576 * 4096))
+    by : (even : Bool) → (rd % 4096 == 0) ≡ even
+        → 0 < (if even then slice_index items (rd / 4096) else 0) → IsTrue (even && nat_lt rd (1048576 * 4096))
     by true is_even some = within (nat_lt rd (1048576 * 4096)) refl some
       where
         within : (b : Bool) → nat_lt rd (1048576 * 4096) ≡ b → 0 < slice_index items (rd / 4096) → IsTrue b

@@ -21,7 +21,8 @@ use Rattle.granule_lock.specs.Locked.{AreGranules}
 
 granules_held-without : (g : ℕ) (held : List HeldCell) → granules_held (without_cell g held) ≡ filter (λ x. not (x == g)) (granules_held held)
 granules_held-without g [] = refl
-granules_held-without g (h ∷ held) = step (not (h.granule == g)) ∙ ap (λ (rest : List ℕ). cond (not (h.granule == g)) (h.granule ∷ rest) rest) (granules_held-without g held)
+granules_held-without g (h ∷ held) =
+    step (not (h.granule == g)) ∙ ap (λ (rest : List ℕ). cond (not (h.granule == g)) (h.granule ∷ rest) rest) (granules_held-without g held)
   where
     step : (b : Bool) → granules_held (cond b (h ∷ without_cell g held) (without_cell g held))
         ≡ cond b (h.granule ∷ granules_held (without_cell g held)) (granules_held (without_cell g held))
@@ -41,7 +42,8 @@ is_held-contained [] g has = absurd (Contains-nil g has)
 is_held-contained (h ∷ held) g has =
     by (h.granule == g) refl (λ other. is_held-contained held g (Contains-other h.granule (granules_held held) g other has))
   where
-    by : (b : Bool) → (h.granule == g) ≡ b → ((h.granule ≡ g → ⊥) → IsTrue (is_held g held)) → IsTrue (is_some (if b then Some h.cell else cell_in g held))
+    by : (b : Bool) → (h.granule == g) ≡ b → ((h.granule ≡ g → ⊥) → IsTrue (is_held g held))
+        → IsTrue (is_some (if b then Some h.cell else cell_in g held))
     by true same rest = refl
     by false other rest = rest (λ same. false≢true (sym other ∙ eq-eqb h.granule g same))
 

@@ -26,7 +26,8 @@ module _ (memory : ℕ) where
 
   absent_if : (t : Bool) (name address : ℕ) (names : List ℕ) → (name == address) ≡ t
       → (if t then Some 0 else option_map suc (number_in names address)) ≡ None
-      → (number_in names address ≡ None → AllByRecursion (λ n. eqb n address ≡ false) names) → AllByRecursion (λ n. eqb n address ≡ false) (name ∷ names)
+      → (number_in names address ≡ None → AllByRecursion (λ n. eqb n address ≡ false) names)
+      → AllByRecursion (λ n. eqb n address ≡ false) (name ∷ names)
   absent_if true name address names is e later = absurd (none-some 0 (sym e))
   absent_if false name address names is e later = (is, later (map_none (number_in names address) e))
 
@@ -76,7 +77,8 @@ module _ (memory : ℕ) where
   distinct_numbers [] each apart = tt
   distinct_numbers (name ∷ names) each apart = (apart_numbers name names each.0 each.1 apart.0, distinct_numbers names each.1 apart.1)
 
-  below_if : (t : Bool) (name q : ℕ) (names : List ℕ) → eqb q (name / 4096) ≡ t → is_granule memory name ≡ true → (t || list_any (eqb q) (numbers names)) ≡ true
+  below_if : (t : Bool) (name q : ℕ) (names : List ℕ)
+      → eqb q (name / 4096) ≡ t → is_granule memory name ≡ true → (t || list_any (eqb q) (numbers names)) ≡ true
       → (list_any (eqb q) (numbers names) ≡ true → q < (memory + 4095) / 4096) → q < (memory + 4095) / 4096
   below_if true name q names is granule e later = omega (arith, eqb-true q (name / 4096) is, (parts name granule).0, (parts name granule).1)
   below_if false name q names is granule e later = later e
@@ -89,7 +91,8 @@ module _ (memory : ℕ) where
   -- so a name is a granule's address
   named_within : (names : List ℕ) (address n : ℕ) → AreGranules names → number_in names address ≡ Some n → is_granule memory (4096 * n) ≡ true
   named_within names address n are is =
-      let few = length-le_from_distinct_below (numbers names) ((memory + 4095) / 4096) (distinct_numbers names are.each are.apart) (below names are.each) in
+      let few =
+      length-le_from_distinct_below (numbers names) ((memory + 4095) / 4096) (distinct_numbers names are.each are.apart) (below names are.each) in
       let less : 4096 * n < memory = omega (arith, few, length-map names (λ a. a / 4096), number_in-below names address n is) in
       let whole : (4096 * n) % 4096 ≡ 0 = omega arith in
       ap (λ b. b && nat_lt (4096 * n) memory) (eq-eqb ((4096 * n) % 4096) 0 whole) ∙ lt-ltb (4096 * n) memory less
@@ -99,7 +102,8 @@ module _ (memory : ℕ) where
   none_is : (names : List ℕ) (word : ℕ) → number_in names word ≡ None → IsSome (number_in names word) → ⊥
   none_is names word none some = cc
 
-  pages_apart : (names : List ℕ) (word other : ℕ) (o p : Option ℕ) → AreGranules names → IsNamedGranule memory names word → IsNamedGranule memory names other
+  pages_apart : (names : List ℕ) (word other : ℕ) (o p : Option ℕ)
+      → AreGranules names → IsNamedGranule memory names word → IsNamedGranule memory names other
       → number_in names word ≡ o → number_in names other ≡ p
       → unwrap_or (option_map (λ n. 4096 * n) o) word ≡ unwrap_or (option_map (λ n. 4096 * n) p) other → word ≡ other
   pages_apart names word other None None are own its is also same = same

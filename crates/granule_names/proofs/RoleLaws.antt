@@ -21,10 +21,12 @@ NamesAtPlaces-each _ words = refl
 
 -- one word further
 pub names_from-next : (names : List ℕ) (memory : ℕ) (roles : List Role) (words : List ℕ) (place : ℕ) → place < length words
-    → names_from (names_from names (addresses_of memory (role_at roles place) (get_or words place 0))) (addresses_among memory roles (place + 1) (drop (place + 1) words))
+    → names_from (names_from names (addresses_of memory (role_at roles place) (get_or words place 0)))
+    (addresses_among memory roles (place + 1) (drop (place + 1) words))
     ≡ names_from names (addresses_among memory roles place (drop place words))
 names_from-next names memory roles words place within =
-    sym (names_from-append names (addresses_of memory (role_at roles place) (get_or words place 0)) (addresses_among memory roles (place + 1) (drop (place + 1) words)))
+    sym (names_from-append names (addresses_of memory (role_at roles place) (get_or words place 0))
+    (addresses_among memory roles (place + 1) (drop (place + 1) words)))
     ∙ ap (λ ws. names_from names (addresses_among memory roles place ws)) (sym (drop_more words place 0 within))
 
 -- one address further

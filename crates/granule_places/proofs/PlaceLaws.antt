@@ -95,7 +95,11 @@ placed near granules starts n place is = by (nat_lt n near) refl
   where
     far : nat_lt n near ≡ false → (b : Bool) → nat_lt n granules ≡ b → IsPlaced near granules starts n place
     far past true within =
-        inr (ltb-false n near past, ltb-true n granules within, far_place-suc near (n - near) (slice_index_or starts ((n - near) / 512) 0) place (rw (past, within) at is))
+        inr (
+          ltb-false n near past,
+          ltb-true n granules within,
+          far_place-suc near (n - near) (slice_index_or starts ((n - near) / 512) 0) place (rw (past, within) at is),
+        )
     far past false beyond = absurd (none-some place (rw (past, beyond) at is))
 
     by : (b : Bool) → nat_lt n near ≡ b → IsPlaced near granules starts n place
@@ -134,7 +138,8 @@ pub made-place : (near granules : ℕ) (starts : List ℕ) (made n : ℕ) → ne
     → place_by near granules (slice_set starts ((n - near) / 512) (made + 1)) n ≡ Some (near + 512 * made + (n - near) % 512)
 made-place near granules starts made n past below within =
     far-place near granules (slice_set starts ((n - near) / 512) (made + 1)) n past below
-    ∙ ap (far_place near (n - near)) (get_or-set_same starts ((n - near) / 512) (made + 1) 0 within ∙ (let one : made + 1 ≡ suc made = omega arith in one))
+    ∙ ap (far_place near (n - near))
+    (get_or-set_same starts ((n - near) / 512) (made + 1) 0 within ∙ (let one : made + 1 ≡ suc made = omega arith in one))
 
 -- what had a place keeps it when a block without places gets some
 pub kept-place : (near granules : ℕ) (starts : List ℕ) (block start n place : ℕ) → block < length starts → slice_index_or starts block 0 ≡ 0

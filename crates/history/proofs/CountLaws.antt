@@ -37,7 +37,8 @@ count_before history words place found counts is_history at had =
     ∙ sym (rank-slice_get (entry_cpu found) history.events place (event_of words at.number found) (is_history.records (entry_cpu found)) at.is_event
     (cpu_of-event_of words at.number found))
 
-pub count_few : (history : History) (words : List ℕ) (place : ℕ) (found : Entry) (counts : List ℕ) → IsHistory history → IsEntryAt words history.events place found
+pub count_few : (history : History) (words : List ℕ) (place : ℕ) (found : Entry) (counts : List ℕ)
+    → IsHistory history → IsEntryAt words history.events place found
     → AreCounts counts (take place history.events) → get_or counts (entry_cpu found) 0 < 1000000
 count_few history words place found counts is_history at had =
     let few = is_history.lines in

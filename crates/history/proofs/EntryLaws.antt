@@ -36,7 +36,8 @@ words_at-append words more place within =
 event_of-append : (words more : List ℕ) (number : ℕ) (entry : Entry) → HasWords (length words) entry
     → event_of (words ++ more) number entry ≡ event_of words number entry
 event_of-append words more number (of.Called cpu function count first) has =
-    ap (λ (ws : ArrayVec ℕ). seen.Called cpu number (record { function = function; words = ws })) (words_at-append words more (stretch first count) has)
+    ap (λ (ws : ArrayVec ℕ). seen.Called cpu number (record { function = function; words = ws }))
+    (words_at-append words more (stretch first count) has)
 event_of-append words more number (of.Answered cpu count first) has =
     ap (λ (ws : ArrayVec ℕ). seen.Returned cpu number (reply.Ok ws)) (words_at-append words more (stretch first count) has)
 event_of-append words more number (of.Refused cpu status index) has = refl
@@ -90,7 +91,8 @@ events_after-push had words [] entry =
 events_after-push had words (first ∷ entries) entry =
     let event = event_of words (had (entry_cpu first) / 2) first in
     let next = put had (entry_cpu first) (had (entry_cpu first) + 1) in
-    let counted = counted-front had (entry_cpu entry) (entry_cpu first) event (events_after next words entries) (cpu_of-event_of words (had (entry_cpu first) / 2) first) in
+    let counted = counted-front had (entry_cpu entry) (entry_cpu first) event
+    (events_after next words entries) (cpu_of-event_of words (had (entry_cpu first) / 2) first) in
     ap (λ es. event ∷ es) (events_after-push next words entries entry)
     ∙ ap (λ (n : ℕ). event ∷ (events_after next words entries ++ event_of words (n / 2) entry ∷ [])) counted
 
@@ -156,7 +158,8 @@ pub IfNone_then : {X : Type 0} (found : Option X) {P Q : Type 0} → IfNone foun
 IfNone_then None holds f = f holds
 IfNone_then (Some x) holds f = tt
 
-HasWords-slice_get : (size : ℕ) (entries : List Entry) (place : ℕ) (found : Entry) → AllByRecursion (HasWords size) entries → slice_get entries place ≡ Some found
+HasWords-slice_get : (size : ℕ) (entries : List Entry) (place : ℕ) (found : Entry)
+    → AllByRecursion (HasWords size) entries → slice_get entries place ≡ Some found
     → HasWords size found
 HasWords-slice_get size [] place found each is = absurd (none-some found is)
 HasWords-slice_get size (entry ∷ entries) zero found each is = subst (HasWords size) (same_Some entry found is) each.0
@@ -194,7 +197,8 @@ call_number-event_of words number (of.Misplaced cpu) = refl
 
 -- its event with the number that the event there has
 pub event_of-numbered : (words : List ℕ) (events : List Event) (place number : ℕ) (found : Entry) → IsEntryAt words events place found
-    → ((event : Event) → slice_get events place ≡ Some event → call_number event ≡ number) → slice_get events place ≡ Some (event_of words number found)
+    → ((event : Event) → slice_get events place ≡ Some event → call_number event ≡ number)
+    → slice_get events place ≡ Some (event_of words number found)
 event_of-numbered words events place number found at numbered =
     let same : at.number ≡ number = sym (call_number-event_of words at.number found) ∙ numbered (event_of words at.number found) at.is_event in
     at.is_event ∙ ap (λ (n : ℕ). Some (event_of words n found)) same

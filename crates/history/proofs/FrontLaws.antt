@@ -7,8 +7,8 @@ use Rattle.rmm_spec.specs.declared.event.Event.{Event}
 use Rattle.history.proofs.GrammarLaws.{history_text-next}
 
 -- the line that stands before a place is the recorded event's
-pub history_text-front : (found : Option ℕ) (old new : History) (event : Event) (text : List ℕ) (at end : ℕ) (head body : List ℕ) → take at text ≡ head
-    → take end text ≡ take at text ++ (32 ∷ body ++ 10 ∷ []) → line_text (event_parts event) ≡ head ++ 32 ∷ body
+pub history_text-front : (found : Option ℕ) (old new : History) (event : Event) (text : List ℕ) (at end : ℕ) (head body : List ℕ)
+    → take at text ≡ head → take end text ≡ take at text ++ (32 ∷ body ++ 10 ∷ []) → line_text (event_parts event) ≡ head ++ 32 ∷ body
     → IfSome found (λ place. new ≡ record old { events = old.events ++ event ∷ [] }) → IfSome found (λ place. place ≡ end)
     → IfSome found (λ place. history_text new ≡ history_text old ++ take place text)
 history_text-front None old new event text at end head body is_head is_line spelled recorded is_place = tt

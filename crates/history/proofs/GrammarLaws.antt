@@ -58,7 +58,8 @@ unfinished_header [] none =
     IsBadLine-end histories_by_lines [] [] tt refl (λ none_before. absurd (omega (arith, none_before)))
     (λ taken. let spelled : [] ≡ history_lines taken.history = taken.spelled in cc)
 unfinished_header (byte ∷ text) none =
-    IsBadLine-unfinished histories_by_lines [] (byte ∷ text) (byte ∷ text) tt refl none (λ ended. cc) (λ none_before. absurd (omega (arith, none_before)))
+    IsBadLine-unfinished histories_by_lines [] (byte ∷ text) (byte ∷ text) tt refl none
+    (λ ended. cc) (λ none_before. absurd (omega (arith, none_before)))
 
 -- the first line is whole, and no header
 pub bad_header : (front more : List ℕ) → HasNoNewline front → IsNoHeader (parts_of front) → IsBadLine InHistories (front ++ 10 ∷ more) 1
@@ -93,11 +94,14 @@ history_text-header config front is_header =
 
 -- ---- the events
 
-pub HasNext-lines : (history : History) (line : List (List ℕ)) → IsHistory history → AreHistoryLines (history_lines history ++ line ∷ []) → HasNext history line
+pub HasNext-lines : (history : History) (line : List (List ℕ))
+    → IsHistory history → AreHistoryLines (history_lines history ++ line ∷ []) → HasNext history line
 HasNext-lines history line is_history taken =
     let other = taken.history in
-    let same : config_parts history.config ∷ (map event_parts history.events ++ line ∷ []) ≡ config_parts other.config ∷ map event_parts other.events = taken.spelled in
-    let configs : history.config ≡ other.config = config_parts-injective history.config other.config (let e : config_parts history.config ≡ config_parts other.config = cc in e) in
+    let same : config_parts history.config ∷ (map event_parts history.events ++ line ∷ [])
+    ≡ config_parts other.config ∷ map event_parts other.events = taken.spelled in
+    let configs : history.config ≡ other.config =
+    config_parts-injective history.config other.config (let e : config_parts history.config ≡ config_parts other.config = cc in e) in
     let events : map event_parts other.events ≡ map event_parts history.events ++ line ∷ [] = cc in
     let cut = map_cut event_parts (λ _. Unit {0}) (λ x y _ _ e. event_parts-injective x y e) history.events other.events line
     (all_trivial history.events) (all_trivial other.events) events in
@@ -114,14 +118,16 @@ HasNext-lines history line is_history taken =
     all_trivial [] = tt
     all_trivial (x ∷ xs) = (tt, all_trivial xs)
 
-    same_history : (s t : Config) (es fs : List Event) → s ≡ t → es ≡ fs → ◌≡◌ {A = History} (record { config = s; events = es }) (record { config = t; events = fs })
+    same_history : (s t : Config) (es fs : List Event)
+        → s ≡ t → es ≡ fs → ◌≡◌ {A = History} (record { config = s; events = es }) (record { config = t; events = fs })
     same_history s t es fs e f = ap (λ (x : Config). history_at x es) e ∙ ap (λ (x : List Event). history_at t x) f
       where
         history_at : Config → List Event → History
         history_at x y = record { config = x; events = y }
 
 -- the number of the next line, counted from 1
-counted : (history : History) (text : List ℕ) → IsBadLine InHistories text (length (history_lines history) + 1) → IsBadLine InHistories text (length history.events + 2)
+counted : (history : History) (text : List ℕ)
+    → IsBadLine InHistories text (length (history_lines history) + 1) → IsBadLine InHistories text (length history.events + 2)
 counted history text bad =
     let n : length (history_lines history) + 1 ≡ length history.events + 2 = omega (arith, length-map history.events event_parts) in
     subst (λ n. IsBadLine InHistories text n) n bad
@@ -131,7 +137,8 @@ pub bad_line : (history : History) (front more : List ℕ) → IsHistory history
     → (HasNext history (parts_of front) → ⊥) → IsBadLine InHistories (history_text history ++ (front ++ 10 ∷ more)) (length history.events + 2)
 bad_line history front more is_history none no_next =
     counted history (history_text history ++ (front ++ 10 ∷ more))
-    (IsBadLine-line histories_by_lines (history_lines history) (history_text history ++ (front ++ 10 ∷ more)) front more (history_lines-one_line history)
+    (IsBadLine-line histories_by_lines (history_lines history)
+    (history_text history ++ (front ++ 10 ∷ more)) front more (history_lines-one_line history)
     refl none (λ _. InHistories-from_lines history is_history)
     (λ taken. no_next (HasNext-lines history (parts_of front) is_history taken)))
 
@@ -186,7 +193,8 @@ no_event history line none next =
     (record { is_event = next.can_follow.is_event; spelled = sym next.spelled })
 
 -- the event that has the parts doesn't go on
-pub no_continuation : (history : History) (line : List (List ℕ)) (event : Event) → IsEventOf history.config.cpus line event → (Continues history event → ⊥)
+pub no_continuation : (history : History) (line : List (List ℕ)) (event : Event)
+    → IsEventOf history.config.cpus line event → (Continues history event → ⊥)
     → HasNext history line → ⊥
 no_continuation history line event is_event stops next =
     let same : next.event ≡ event = event_parts-injective next.event event (next.spelled ∙ is_event.spelled) in
@@ -194,7 +202,8 @@ no_continuation history line event is_event stops next =
     stops (cpu_below history.config.cpus event is_event.is_event, can_follow.record_goes_on)
 
 -- the event that has the parts may be next where its CPU's record goes on
-pub HasNext-continues : (history : History) (line : List (List ℕ)) (event : Event) → IsEventOf history.config.cpus line event → length history.events + 1 < 1000000
+pub HasNext-continues : (history : History) (line : List (List ℕ)) (event : Event)
+    → IsEventOf history.config.cpus line event → length history.events + 1 < 1000000
     → Continues history event → HasNext history line
 HasNext-continues history line event is_event room goes_on = record {
   event = event;
@@ -261,7 +270,8 @@ history_text-next history event =
     ∙ lines_text-push (history_lines history) (event_parts event)
 
 -- and with what is left
-history_text-push : (history : History) (event : Event) (rest front more : List ℕ) → rest ≡ front ++ 10 ∷ more → IsEventOf history.config.cpus (parts_of front) event
+history_text-push : (history : History) (event : Event) (rest front more : List ℕ)
+    → rest ≡ front ++ 10 ∷ more → IsEventOf history.config.cpus (parts_of front) event
     → history_text history ++ rest ≡ history_text (record history { events = history.events ++ event ∷ [] }) ++ more
 history_text-push history event rest front more rest_is is_event =
     let spelled : line_text (event_parts event) ≡ front = ap line_text (sym is_event.spelled) ∙ join_with_byte-slice_split 32 front in
@@ -274,7 +284,8 @@ history_text-push history event rest front more rest_is is_event =
 pub history_text-line : (history : History) (event : Event) (front : List ℕ) → IsEventOf history.config.cpus (parts_of front) event
     → history_text (record history { events = history.events ++ event ∷ [] }) ≡ history_text history ++ (front ++ 10 ∷ [])
 history_text-line history event front is_event =
-    sym (history_text-push history event (front ++ 10 ∷ []) front [] refl is_event ∙ append-nil (history_text (record history { events = history.events ++ event ∷ [] })))
+    sym (history_text-push history event (front ++ 10 ∷ []) front [] refl is_event
+    ∙ append-nil (history_text (record history { events = history.events ++ event ∷ [] })))
 
 -- the next line is that of an event which may follow
 pub EndsWithEvent-next : (history : History) (front : List ℕ) → IsHistory history → HasNext history (parts_of front)
@@ -299,7 +310,8 @@ IsFaultOf-next history front more is_history next =
         more = more;
         is_history = ended.2.is_history;
         is_text =
-            ap (λ r. history_text history ++ r) (sym (append_assoc front (10 ∷ []) more)) ∙ sym (append_assoc (history_text history) (front ++ 10 ∷ []) more)
+            ap (λ r. history_text history ++ r) (sym (append_assoc front (10 ∷ []) more))
+            ∙ sym (append_assoc (history_text history) (front ++ 10 ∷ []) more)
             ∙ ap (λ t. t ++ more) ended.2.is_text;
       },
     )
@@ -312,7 +324,8 @@ pub BeginsWith-whole : (text : List ℕ) (history : History) → IsHistoryText t
 BeginsWith-whole text history is = record { more = []; is_history = is.is_history; is_text = is.is_text ∙ sym (append-nil (history_text history)) }
 
 -- a bad line that is reported of a text says that it is in no history's
-pub bad_line_outside : {T : Type 0} (text : List ℕ) (result : Result T HistoryFault) (line : ℕ) → IfErr result (IsFaultOfRewriting text) → result ≡ Err (BadLine line)
+pub bad_line_outside : {T : Type 0} (text : List ℕ) (result : Result T HistoryFault) (line : ℕ)
+    → IfErr result (IsFaultOfRewriting text) → result ≡ Err (BadLine line)
     → InHistories text → ⊥
 bad_line_outside text result line fault is given =
     not-IsBadLine-history text line given (subst (λ r. IfErr r (IsFaultOfRewriting text)) is fault)

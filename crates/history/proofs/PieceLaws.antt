@@ -46,7 +46,8 @@ pub EventEndsIn-line : (old piece now rest last later : List ℕ) → old ++ pie
 EventEndsIn-line old piece now rest last later same is_rest longer ended =
     let read = now ++ (last ++ 10 ∷ []) in
     let count = length read - length old in
-    let lengths : length read ≡ length now + (length last + 1) = length-append now (last ++ 10 ∷ []) ∙ ap (λ n. length now + n) (length-append last (10 ∷ [])) in
+    let lengths : length read ≡ length now + (length last + 1) =
+    length-append now (last ++ 10 ∷ []) ∙ ap (λ n. length now + n) (length-append last (10 ∷ [])) in
     let whole : old ++ piece ≡ read ++ later =
     same ∙ ap (λ r. now ++ r) (is_rest ∙ sym (append_assoc last (10 ∷ []) later)) ∙ sym (append_assoc now (last ++ 10 ∷ []) later) in
     let counted : length old + count ≡ length read = omega (arith, longer, lengths) in
@@ -60,13 +61,15 @@ EventEndsIn-line old piece now rest last later same is_rest longer ended =
     }
 
 -- a line that was begun and is too long with more of its bytes
-pub too_long_held : (read : Option Recording) (begun last more : List ℕ) → IsReadWell read → HasNoNewline (begun ++ last) → 256 < length (begun ++ last)
+pub too_long_held : (read : Option Recording) (begun last more : List ℕ)
+    → IsReadWell read → HasNoNewline (begun ++ last) → 256 < length (begun ++ last)
     → IsBadLine InHistories (lines_read read ++ begun ++ (last ++ more)) (next_number read)
 too_long_held read begun last more is_well none long =
     subst (λ text. IsBadLine InHistories text (next_number read)) (regroup (lines_read read) begun last more)
     (too_long read (begun ++ last) more is_well none long)
 
-pub of_held_line : (P : List ℕ → Type 0) (front begun last line : List ℕ) → line ≡ begun ++ last → ((more : List ℕ) → P (front ++ (line ++ 10 ∷ more)))
+pub of_held_line : (P : List ℕ → Type 0) (front begun last line : List ℕ)
+    → line ≡ begun ++ last → ((more : List ℕ) → P (front ++ (line ++ 10 ∷ more)))
     → (more : List ℕ) → P (front ++ begun ++ (last ++ 10 ∷ more))
 of_held_line P front begun last line is_line each more =
     subst P (ap (λ l. front ++ (l ++ 10 ∷ more)) is_line ∙ regroup front begun last (10 ∷ more)) (each more)

@@ -8,15 +8,18 @@ use Rattle.history.specs.Room.{spare, least_spare}
 
 pub least_spare-limit : (limit : ℕ) (subhistories : List Subhistory) → least_spare limit subhistories ≤ limit
 least_spare-limit limit [] = omega arith
-least_spare-limit limit (subhistory ∷ subhistories) = omega (arith, min-le_right (spare subhistory.places) (least_spare limit subhistories), least_spare-limit limit subhistories)
+least_spare-limit limit (subhistory ∷ subhistories) =
+    omega (arith, min-le_right (spare subhistory.places) (least_spare limit subhistories), least_spare-limit limit subhistories)
 
-pub least_spare-each : (limit : ℕ) (subhistories : List Subhistory) (k : ℕ) (other : Subhistory) → k < length subhistories → least_spare limit subhistories ≤ spare (get_or subhistories k other).places
+pub least_spare-each : (limit : ℕ) (subhistories : List Subhistory) (k : ℕ) (other : Subhistory)
+    → k < length subhistories → least_spare limit subhistories ≤ spare (get_or subhistories k other).places
 least_spare-each limit [] k other within = absurd (omega arith)
 least_spare-each limit (subhistory ∷ subhistories) zero other within = min-le_left (spare subhistory.places) (least_spare limit subhistories)
 least_spare-each limit (subhistory ∷ subhistories) (suc k) other within =
     omega (arith, min-le_right (spare subhistory.places) (least_spare limit subhistories), least_spare-each limit subhistories k other (omega arith))
 
-pub le-least_spare : (n limit : ℕ) (subhistories : List Subhistory) → n ≤ limit → ((k : ℕ) (other : Subhistory) → k < length subhistories → n ≤ spare (get_or subhistories k other).places)
+pub le-least_spare : (n limit : ℕ) (subhistories : List Subhistory)
+    → n ≤ limit → ((k : ℕ) (other : Subhistory) → k < length subhistories → n ≤ spare (get_or subhistories k other).places)
     → n ≤ least_spare limit subhistories
 le-least_spare n limit [] below each = below
 le-least_spare n limit (subhistory ∷ subhistories) below each =
@@ -24,7 +27,8 @@ le-least_spare n limit (subhistory ∷ subhistories) below each =
 
 -- subhistories that have no less room
 pub room_grows : (limit more : ℕ) (old new : List Subhistory) → length old ≡ 8 → length new ≡ 8 → limit ≤ more
-    → ((k : ℕ) (other : Subhistory) → k < 8 → spare (get_or old k other).places ≤ spare (get_or new k other).places) → least_spare limit old ≤ least_spare more new
+    → ((k : ℕ) (other : Subhistory) → k < 8 → spare (get_or old k other).places ≤ spare (get_or new k other).places)
+    → least_spare limit old ≤ least_spare more new
 room_grows limit more old new counted new_counted grows each =
     le-least_spare (least_spare limit old) more new (omega (arith, least_spare-limit limit old))
     (λ k other within. omega (arith, least_spare-each limit old k other (omega arith), each k other (omega arith)))
@@ -36,7 +40,8 @@ room_made limit subhistories counted some each = le-least_spare 1 limit subhisto
 
 -- a subhistory that takes one more place
 pub room_left : (limit more : ℕ) (subhistories : List Subhistory) (at : ℕ) (other new : Subhistory) → at < length subhistories → limit ≤ more + 1
-    → spare (get_or subhistories at other).places ≤ spare new.places + 1 → least_spare limit subhistories ≤ least_spare more (set subhistories at new) + 1
+    → spare (get_or subhistories at other).places ≤ spare new.places + 1
+    → least_spare limit subhistories ≤ least_spare more (set subhistories at new) + 1
 room_left limit more subhistories at other new within fewer entered =
     let room = least_spare limit subhistories in
     let left : room - 1 ≤ least_spare more (set subhistories at new) =
@@ -53,5 +58,6 @@ room_left limit more subhistories at other new within fewer entered =
     omega (arith, left)
 
 -- each subhistory has what all have
-pub room_at : (limit : ℕ) (subhistories : List Subhistory) (at : ℕ) (other : Subhistory) → at < length subhistories → 1 ≤ least_spare limit subhistories → 1 ≤ spare (get_or subhistories at other).places
+pub room_at : (limit : ℕ) (subhistories : List Subhistory) (at : ℕ) (other : Subhistory)
+    → at < length subhistories → 1 ≤ least_spare limit subhistories → 1 ≤ spare (get_or subhistories at other).places
 room_at limit subhistories at other within some = omega (arith, least_spare-each limit subhistories at other within)

@@ -63,14 +63,16 @@ IsNoEvent-return cpus parts cpu number more cut no_reply (Called c n command) fe
 
 -- ---- parts that are an event's
 
-pub IsEventOf-call : (cpus : ℕ) (parts : List (List ℕ)) (cpu number : ℕ) (more : List (List ℕ)) (command : Command) → parts ≡ head_parts 99 cpu number more
+pub IsEventOf-call : (cpus : ℕ) (parts : List (List ℕ)) (cpu number : ℕ) (more : List (List ℕ)) (command : Command)
+    → parts ≡ head_parts 99 cpu number more
     → more ≡ command_parts command → cpu < cpus → IsCommand command → IsEventOf cpus parts (Called cpu number command)
 IsEventOf-call cpus parts cpu number more command cut spelled below is_command = record {
   is_event = (below, is_command);
   spelled = cut ∙ ap (head_parts 99 cpu number) spelled ∙ sym (event_parts-head (Called cpu number command));
 }
 
-pub IsEventOf-return : (cpus : ℕ) (parts : List (List ℕ)) (cpu number : ℕ) (more : List (List ℕ)) (given : Reply) → parts ≡ head_parts 114 cpu number more
+pub IsEventOf-return : (cpus : ℕ) (parts : List (List ℕ)) (cpu number : ℕ) (more : List (List ℕ)) (given : Reply)
+    → parts ≡ head_parts 114 cpu number more
     → more ≡ reply_parts given → cpu < cpus → IsReply given → IsEventOf cpus parts (Returned cpu number given)
 IsEventOf-return cpus parts cpu number more given cut spelled below is_reply = record {
   is_event = (below, is_reply);

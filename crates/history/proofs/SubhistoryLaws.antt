@@ -1,8 +1,8 @@
 -- Laws on the index, one event longer.
-use Rattle.std.proofs.Common.{◌≡◌, ℕ, zero, suc, ◌+◌, ◌/◌, ◌<◌, ◌≤◌, Bool, true, false, eqb, List, [], ◌∷◌, ◌++◌, length, get_or, set, Option, Some, None, if◌then◌else◌, refl, arith, sym, ap, ◌∙◌, subst, ⊎_elim}
+use Rattle.std.proofs.Common.{◌≡◌, ℕ, ◌+◌, ◌/◌, ◌<◌, ◌≤◌, Bool, true, false, eqb, List, [], ◌∷◌, ◌++◌, length, get_or, set, Option, Some, None, if◌then◌else◌, refl, arith, sym, ap, ◌∙◌, subst, ⊎_elim}
 use Rattle.std.specs.Prelude.{slice_get, is_some, IsSome, IsTrue, MatchOption, ◌↔◌}
 use Rattle.std.proofs.lemmas.Bool.{cases_Bool, cases_lt, cases_order, cases_eq, eqb-true, eq-eqb}
-use Rattle.std.proofs.lemmas.Option.{none-some, same_Some}
+use Rattle.std.proofs.lemmas.Option.{same_Some}
 use Rattle.std.proofs.lemmas.List.{length_push, get_or_push, get_or_append_left, get_or-set_same, get_or-set_other, length-set, take_at}
 use Rattle.rmm_spec.specs.declared.command.Command.{Command}
 use Rattle.rmm_spec.specs.declared.event.Event.{Event}
@@ -35,7 +35,8 @@ can_step next true (Returned cpu number given) ranked =
 can_step next false (Returned cpu number given) ranked = absurd (let e : number + number + 1 + 0 ≡ next + next = ranked in omega (arith, e))
 
 -- an event whose rank is the count of its CPU's events is next
-pub goes_on : (events : List Event) (event : Event) → IsRecord (subhistory_of (cpu_of event) events) → rank event ≡ length (subhistory_of (cpu_of event) events)
+pub goes_on : (events : List Event) (event : Event)
+    → IsRecord (subhistory_of (cpu_of event) events) → rank event ≡ length (subhistory_of (cpu_of event) events)
     → IsRecord (subhistory_of (cpu_of event) (events ++ event ∷ []))
 goes_on events event is_record ranked =
     let last = stand_of_record (subhistory_of (cpu_of event) events) is_record in
@@ -74,7 +75,8 @@ same_places : (P : ℕ → ℕ → Type 0) (places more : List ℕ) → more ≡
 same_places P places more same each = subst (λ xs. (n : ℕ) → n < length xs → P n (get_or xs n 0)) (sym same) each
 
 -- another event takes no place away
-HasRank-push : (events : List Event) (event : Event) (cpu ranked place : ℕ) → HasRank events cpu ranked place → HasRank (events ++ event ∷ []) cpu ranked place
+HasRank-push : (events : List Event) (event : Event) (cpu ranked place : ℕ)
+    → HasRank events cpu ranked place → HasRank (events ++ event ∷ []) cpu ranked place
 HasRank-push events event cpu ranked place had = record {
   event = had.event;
   is_event = slice_get-append events (event ∷ []) place had.event had.is_event;
@@ -83,21 +85,24 @@ HasRank-push events event cpu ranked place had = record {
 }
 
 -- a subhistory with the same places
-pub IsSubhistory-same : (events : List Event) (cpu : ℕ) (old new : Subhistory) → new.places.items ≡ old.places.items → IsSubhistory events cpu old → IsSubhistory events cpu new
+pub IsSubhistory-same : (events : List Event) (cpu : ℕ) (old new : Subhistory)
+    → new.places.items ≡ old.places.items → IsSubhistory events cpu old → IsSubhistory events cpu new
 IsSubhistory-same events cpu old new same had = record {
   counted = ap length same ∙ had.counted;
   each = same_places (HasRank events cpu) old.places.items new.places.items same had.each;
 }
 
 -- an event of another CPU
-IsSubhistory-other : (events : List Event) (event : Event) (cpu : ℕ) (subhistory : Subhistory) → eqb (cpu_of event) cpu ≡ false → IsSubhistory events cpu subhistory → IsSubhistory (events ++ event ∷ []) cpu subhistory
+IsSubhistory-other : (events : List Event) (event : Event) (cpu : ℕ) (subhistory : Subhistory)
+    → eqb (cpu_of event) cpu ≡ false → IsSubhistory events cpu subhistory → IsSubhistory (events ++ event ∷ []) cpu subhistory
 IsSubhistory-other events event cpu subhistory other had = record {
   counted = had.counted ∙ ap length (sym (subhistory_of-push_other cpu events event other));
   each = λ n within. HasRank-push events event cpu n (get_or subhistory.places.items n 0) (had.each n within);
 }
 
 -- the CPU's next event, entered
-IsSubhistory-enters : (events : List Event) (event : Event) (cpu : ℕ) (old new : Subhistory) → cpu_of event ≡ cpu → rank event ≡ length old.places.items
+IsSubhistory-enters : (events : List Event) (event : Event) (cpu : ℕ) (old new : Subhistory)
+    → cpu_of event ≡ cpu → rank event ≡ length old.places.items
     → new.places.items ≡ old.places.items ++ length events ∷ [] → IsSubhistory events cpu old → IsSubhistory (events ++ event ∷ []) cpu new
 IsSubhistory-enters events event cpu old new same ranked entered had = record {
   counted = ap length entered ∙ length_push old.places.items (length events) ∙ ap (λ n. n + 1) had.counted
@@ -110,7 +115,8 @@ IsSubhistory-enters events event cpu old new same ranked entered had = record {
 
 -- the subhistory's test says whether the record goes on
 pub continues_iff : (cpus : ℕ) (events : List Event) (event : Event) (subhistory : Subhistory) (answer : Bool) → cpu_of event < cpus
-    → IsRecord (subhistory_of (cpu_of event) events) → IsSubhistory events (cpu_of event) subhistory → IsTrue answer ↔ (rank event ≡ length subhistory.places.items)
+    → IsRecord (subhistory_of (cpu_of event) events) → IsSubhistory events (cpu_of event) subhistory
+    → IsTrue answer ↔ (rank event ≡ length subhistory.places.items)
     → IsTrue answer ↔ ((cpu_of event < cpus) × IsRecord (subhistory_of (cpu_of event) (events ++ event ∷ [])))
 continues_iff cpus events event subhistory answer below is_record had says = (
   λ taken. (below, goes_on events event is_record (says.0 taken ∙ had.counted)),
@@ -139,13 +145,16 @@ pub IsIndexed-same : (config : Config) (events : List Event) (old new : List Sub
 IsIndexed-same config events old new counted same indexed = record {
   is_history = indexed.is_history;
   counted = counted;
-  each = λ cpu other within. IsSubhistory-same events cpu (get_or old cpu other) (get_or new cpu other) (same cpu other within) (indexed.each cpu other within);
+  each = λ cpu other within. IsSubhistory-same events cpu (get_or old cpu other)
+      (get_or new cpu other) (same cpu other within) (indexed.each cpu other within);
 }
 
 -- the index with another subhistory for a CPU
-IsIndexed-set : (config : Config) (events more : List Event) (subhistories : List Subhistory) (at : ℕ) (new : Subhistory) → IsHistory (record { config = config; events = more })
+IsIndexed-set : (config : Config) (events more : List Event) (subhistories : List Subhistory) (at : ℕ) (new : Subhistory)
+    → IsHistory (record { config = config; events = more })
     → length subhistories ≡ 8 → at < 8 → IsSubhistory more at new
-    → ((cpu : ℕ) (other : Subhistory) → cpu < 8 → (cpu ≡ at → ⊥) → IsSubhistory more cpu (get_or subhistories cpu other)) → IsIndexed config more (set subhistories at new)
+    → ((cpu : ℕ) (other : Subhistory) → cpu < 8 → (cpu ≡ at → ⊥) → IsSubhistory more cpu (get_or subhistories cpu other))
+    → IsIndexed config more (set subhistories at new)
 IsIndexed-set config events more subhistories at new is_history counted within_subhistories subhistory others = record {
   is_history = is_history;
   counted = length-set subhistories at new ∙ counted;
@@ -159,7 +168,8 @@ IsIndexed-set config events more subhistories at new is_history counted within_s
 }
 
 -- the index where the subhistory's growth was refused
-pub IsIndexed-refused : (config : Config) (events : List Event) (subhistories : List Subhistory) (at : ℕ) (other new : Subhistory) → IsIndexed config events subhistories → at < 8
+pub IsIndexed-refused : (config : Config) (events : List Event) (subhistories : List Subhistory) (at : ℕ) (other new : Subhistory)
+    → IsIndexed config events subhistories → at < 8
     → new.places.items ≡ (get_or subhistories at other).places.items → IsIndexed config events (set subhistories at new)
 IsIndexed-refused config events subhistories at other new indexed within same =
     IsIndexed-set config events events subhistories at new indexed.is_history indexed.counted within
@@ -167,7 +177,8 @@ IsIndexed-refused config events subhistories at other new indexed within same =
     (λ cpu another below elsewhere. indexed.each cpu another below)
 
 -- the index where the event was recorded
-pub IsIndexed-push : (config : Config) (events : List Event) (subhistories : List Subhistory) (event : Event) (other new : Subhistory) → IsIndexed config events subhistories
+pub IsIndexed-push : (config : Config) (events : List Event) (subhistories : List Subhistory) (event : Event) (other new : Subhistory)
+    → IsIndexed config events subhistories
     → CanFollow (record { config = config; events = events }) event → length events + 1 < 1000000
     → new.places.items ≡ (get_or subhistories (cpu_of event) other).places.items ++ length events ∷ []
     → IsIndexed config (events ++ event ∷ []) (set subhistories (cpu_of event) new)
@@ -187,16 +198,20 @@ IsIndexed-push config events subhistories event other new indexed can_follow roo
 -- ---- look-ups
 
 -- a call past the places isn't known, and one whose return is past them is pending
-pub unknown_past : (events : List Event) (cpu number : ℕ) (subhistory : Subhistory) → IsSubhistory events cpu subhistory → IsRecord (subhistory_of cpu events)
+pub unknown_past : (events : List Event) (cpu number : ℕ) (subhistory : Subhistory)
+    → IsSubhistory events cpu subhistory → IsRecord (subhistory_of cpu events)
     → length subhistory.places.items ≤ number + number → IsKnown events cpu number → ⊥
 unknown_past events cpu number subhistory had is_record past known = omega (arith, below-IsKnown cpu number events is_record known, had.counted)
 
-pending_past : (events : List Event) (cpu number : ℕ) (subhistory : Subhistory) → IsSubhistory events cpu subhistory → IsRecord (subhistory_of cpu events)
+pending_past : (events : List Event) (cpu number : ℕ) (subhistory : Subhistory)
+    → IsSubhistory events cpu subhistory → IsRecord (subhistory_of cpu events)
     → length subhistory.places.items ≤ number + number + 1 → IsFinished events cpu number → ⊥
-pending_past events cpu number subhistory had is_record past finished = omega (arith, below-IsFinished cpu number events is_record finished, had.counted)
+pending_past events cpu number subhistory had is_record past finished =
+    omega (arith, below-IsFinished cpu number events is_record finished, had.counted)
 
 -- the place that a subhistory has for a rank
-rank_at : (events : List Event) (cpu ranked place : ℕ) (subhistory : Subhistory) → IsSubhistory events cpu subhistory → ranked < length subhistory.places.items
+rank_at : (events : List Event) (cpu ranked place : ℕ) (subhistory : Subhistory)
+    → IsSubhistory events cpu subhistory → ranked < length subhistory.places.items
     → place ≡ get_or subhistory.places.items ranked 0 → HasRank events cpu ranked place
 rank_at events cpu ranked place subhistory had within is_place = subst (HasRank events cpu ranked) (sym is_place) (had.each ranked within)
 
@@ -261,7 +276,8 @@ place_of_event events cpu place event subhistory had is_record is_event of_cpu =
     let found = had.each (rank event) within in (
       rank event,
       within,
-      one_place cpu events (get_or subhistory.places.items (rank event) 0) place found.event event is_record found.is_event is_event found.of_cpu of_cpu
+      one_place cpu events (get_or subhistory.places.items (rank event) 0)
+          place found.event event is_record found.is_event is_event found.of_cpu of_cpu
           found.is_ranked,
     )
 
@@ -270,14 +286,16 @@ pub half_rank : (event : Event) → rank event / 2 ≡ call_number event
 half_rank (Called cpu number command) = omega arith
 half_rank (Returned cpu number given) = omega arith
 
-pub call_number-ranked : (events : List Event) (cpu ranked place : ℕ) (event : Event) → HasRank events cpu ranked place → slice_get events place ≡ Some event
+pub call_number-ranked : (events : List Event) (cpu ranked place : ℕ) (event : Event)
+    → HasRank events cpu ranked place → slice_get events place ≡ Some event
     → call_number event ≡ ranked / 2
 call_number-ranked events cpu ranked place event has is_event =
     let same : has.event ≡ event = same_Some has.event event (sym has.is_event ∙ is_event) in
     sym (half_rank event) ∙ ap (λ (n : ℕ). n / 2) (ap rank (sym same) ∙ has.is_ranked)
 
 -- what a subhistory has for the ranks of a call and of its return are their places
-pub ArePlacesOf-subhistory : (events : List Event) (cpu number : ℕ) (subhistory : Subhistory) (called : ℕ) (returned : Option ℕ) → IsSubhistory events cpu subhistory → IsRecord (subhistory_of cpu events)
+pub ArePlacesOf-subhistory : (events : List Event) (cpu number : ℕ) (subhistory : Subhistory) (called : ℕ) (returned : Option ℕ)
+    → IsSubhistory events cpu subhistory → IsRecord (subhistory_of cpu events)
     → number + number < length subhistory.places.items → called ≡ get_or subhistory.places.items (number + number) 0
     → MatchOption returned (length subhistory.places.items ≤ number + number + 1)
     (λ place. (number + number + 1 < length subhistory.places.items) × (place ≡ get_or subhistory.places.items (number + number + 1) 0))

@@ -10,11 +10,13 @@ use Rattle.spec_lemmas.proofs.Texts.{command_parts-some, reply_parts-some}
 use Rattle.rmi_codec.specs.Head.{head_text}
 use Rattle.rmi_codec.proofs.WriteLaws.{line_text-head}
 
-pub event_text-called : (cpu number : ℕ) (command : Command) → line_text (event_parts (Called cpu number command)) ≡ head_text 99 cpu number ++ 32 ∷ command_text command
+pub event_text-called : (cpu number : ℕ) (command : Command)
+    → line_text (event_parts (Called cpu number command)) ≡ head_text 99 cpu number ++ 32 ∷ command_text command
 unfolding event_parts
 event_text-called cpu number command = line_text-head 99 cpu number (command_parts command) (command_parts-some command)
 
-pub event_text-returned : (cpu number : ℕ) (given : Reply) → line_text (event_parts (Returned cpu number given)) ≡ head_text 114 cpu number ++ 32 ∷ reply_text given
+pub event_text-returned : (cpu number : ℕ) (given : Reply)
+    → line_text (event_parts (Returned cpu number given)) ≡ head_text 114 cpu number ++ 32 ∷ reply_text given
 unfolding event_parts
 event_text-returned cpu number given = line_text-head 114 cpu number (reply_parts given) (reply_parts-some given)
 

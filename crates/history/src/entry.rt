@@ -203,7 +203,8 @@ pub fn counted_event<'w>(words: &'w [u64], entry: Entry, counts: &mut [u32; 8]) 
 /// The command of an entry, where it is a call's.
 pub fn command_of(words: &[u64], entry: Entry) -> Option<CommandRef<'_>>
     requires { HasWords (length words.now) entry }
-    ensures some { IfSome result (λ command. (number : ℕ) → event_of words.now number entry ≡ event.Called (entry_cpu entry) number (command_seen command)) }
+    ensures some { IfSome result (λ command. (number : ℕ)
+        → event_of words.now number entry ≡ event.Called (entry_cpu entry) number (command_seen command)) }
     ensures few { IfSome result (λ command. length command.words.now ≤ 10) }
     ensures none { IfNone result ((number cpu other : ℕ) (command : Command) → event_of words.now number entry ≢ event.Called cpu other command) }
 {
@@ -224,7 +225,8 @@ pub fn command_of(words: &[u64], entry: Entry) -> Option<CommandRef<'_>>
 /// The reply of an entry, where it is a return's.
 pub fn reply_of(words: &[u64], entry: Entry) -> Option<ReplyRef<'_>>
     requires { HasWords (length words.now) entry }
-    ensures some { IfSome result (λ given. (number : ℕ) → event_of words.now number entry ≡ event.Returned (entry_cpu entry) number (reply_seen given)) }
+    ensures some { IfSome result (λ given. (number : ℕ)
+        → event_of words.now number entry ≡ event.Returned (entry_cpu entry) number (reply_seen given)) }
     ensures few { IfSome result (λ given. seen.HasFewWords (reply_seen given)) }
     ensures none { IfNone result ((number cpu other : ℕ) (given : Reply) → event_of words.now number entry ≢ event.Returned cpu other given) }
 {

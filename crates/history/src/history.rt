@@ -174,7 +174,8 @@ impl History {
     /// The command of the call at a place, where the event there is a call.
     pub fn command_at(&self, place: usize) -> Option<CommandRef<'_>>
         requires { place < length self.now.recorded.events }
-        ensures some { IfSome result (λ command. (cpu : ℕ) × (number : ℕ) × IsCalled self.now.recorded.events place cpu number (command_seen command)) }
+        ensures some { IfSome result (λ command. (cpu : ℕ) × (number : ℕ)
+            × IsCalled self.now.recorded.events place cpu number (command_seen command)) }
         ensures few { IfSome result (λ command. length command.words.now ≤ 10) }
         ensures none { IfNone result ((cpu number : ℕ) (command : Command) → ¬ IsCalled self.now.recorded.events place cpu number command) }
     {
@@ -318,7 +319,8 @@ impl History {
 
     /// The subhistory of a CPU, where the machine has that CPU.
     fn subhistory(&self, cpu: u8) -> Option<&Subhistory>
-        ensures some { IfSome result (λ subhistory. (cpu < self.now.recorded.config.cpus) × IsSubhistory self.now.recorded.events cpu subhistory.now) }
+        ensures some { IfSome result (λ subhistory. (cpu < self.now.recorded.config.cpus)
+            × IsSubhistory self.now.recorded.events cpu subhistory.now) }
         ensures history { IsHistory self.now.recorded }
         ensures none { IfNone result (self.now.recorded.config.cpus ≤ cpu) }
     {

@@ -57,7 +57,8 @@ impl Subhistory {
 
     /// The rank of the event at a place.
     pub fn rank_of(&self, place: u32) -> usize
-        requires rising { (i j : ℕ) → i ≤ j → j < length self.now.places.items → slice_index self.now.places.items i ≤ slice_index self.now.places.items j }
+        requires rising { (i j : ℕ) → i ≤ j → j < length self.now.places.items
+            → slice_index self.now.places.items i ≤ slice_index self.now.places.items j }
         requires found { (ranked : ℕ) × (ranked < length self.now.places.items) × (slice_index self.now.places.items ranked ≡ place) }
         ensures within { result < length self.now.places.items }
         ensures place { slice_index self.now.places.items result ≡ place }

@@ -37,7 +37,8 @@ find_some-by test x xs false fails later = later refl
 pub find_some : {X : Type 0} (test : X → Bool) (xs : List X) (y : X) → (k : ℕ) → k < length xs → slice_index_or xs k y ≡ y → test y ≡ true
     → (z : X) × (find test xs ≡ Some z)
 find_some test [] y k within at passes = absurd (omega arith)
-find_some test (x ∷ xs) y zero within at passes = find_some-by test x xs _ refl (λ fails. absurd (let same : x ≡ y = at in let bad : true ≡ false = sym passes ∙ (rw (← same) fails) in cc))
+find_some test (x ∷ xs) y zero within at passes =
+    find_some-by test x xs _ refl (λ fails. absurd (let same : x ≡ y = at in let bad : true ≡ false = sym passes ∙ (rw (← same) fails) in cc))
 find_some test (x ∷ xs) y (suc k) within at passes = find_some-by test x xs _ refl (λ fails. find_some test xs y k (omega arith) at passes)
 
 -- what a mapped option has is the image of what the option has

@@ -1,5 +1,5 @@
 -- Tests: one has one answer, and what the answer of a few says.
-use Rattle.std.proofs.Common.{◌≡◌, ℕ, ◌==◌, Bool, true, false, ◌||◌, cond, Option, Some, None, sym, ◌∙◌, refl, eq-eqb}
+use Rattle.std.proofs.Common.{◌≡◌, ℕ, ◌==◌, Bool, true, false, ◌||◌, cond, Some, None, sym, ◌∙◌, refl, eq-eqb}
 use Rattle.std.proofs.lemmas.Bool.{false≢true}
 
 -- a test can't have both answers

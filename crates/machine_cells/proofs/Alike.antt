@@ -1,9 +1,7 @@
 -- Lists that are compared or copied element by element.
-use Rattle.std.proofs.Common.{◌≡◌, ℕ, suc, ◌+◌, ◌<◌, ◌≤◌, List, [], ◌∷◌, length, Some, refl, sym, ◌∙◌, subst, arith, inl, inr}
-use Rattle.std.specs.List.{slice_get}
+use Rattle.machine_cells.proofs.Common.{◌+◌, ◌<◌, ◌∙◌, ◌≡◌, ◌≤◌, List, Some, [], arith, cases_lt, inl, inr, length, refl, same_Some, slice_get, subst, suc, sym, ℕ}
+use Rattle.std.proofs.Common.{◌∷◌}
 use Rattle.std.specs.Prelude.{slice_set}
-use Rattle.std.proofs.lemmas.Bool.{cases_lt}
-use Rattle.std.proofs.lemmas.Option.{same_Some}
 use Rattle.shape_laws.proofs.Slices.{slice_get-set_same, slice_get-set_other}
 
 -- two lists are the same up to a place
@@ -34,7 +32,8 @@ pub same_up_to : {A : Type 0} (i : ℕ) (xs ys : List A) → length xs ≡ lengt
 same_up_to i xs ys size past same = same_lists xs ys size (λ j below. same j (omega (arith, below, past)))
 
 -- one more element was copied
-pub SameTo-set : {A : Type 0} (i : ℕ) (xs ys : List A) (y : A) → i < length xs → slice_get ys i ≡ Some y → SameTo i xs ys → SameTo (i + 1) (slice_set xs i y) ys
+pub SameTo-set : {A : Type 0} (i : ℕ) (xs ys : List A) (y : A)
+    → i < length xs → slice_get ys i ≡ Some y → SameTo i xs ys → SameTo (i + 1) (slice_set xs i y) ys
 SameTo-set i xs ys y within is so_far j below = elim (cases_lt j i) [
   | inl before ↦ slice_get-set_other xs i j y (λ at. omega (arith, at, before)) ∙ so_far j before
   | inr from ↦

@@ -1,7 +1,7 @@
 -- What a change that a well-shaped whole can take finds there.
-use Rattle.std.proofs.Common.{◌≡◌, ℕ, ◌*◌, ◌^◌, ◌<◌, ◌≤◌, zero, suc, Bool, true, false, ◌==◌, IsTrue, if◌then◌else◌, Option, Some, None, IfSome, ◌&&◌, nat_lt, ◌%◌, refl, sym, ap, ◌∙◌, subst, inl, inr, arith}
-use Rattle.std.proofs.lemmas.Bool.{and_from, and_parts, eqb-true, false_from_ne_true, ltb-true, lt-ltb}
-use Rattle.std.proofs.lemmas.Option.{none-some, same_Some}
+use Rattle.machine_cells.proofs.Common.{◌%◌, ◌*◌, ◌<◌, ◌==◌, ◌^◌, ◌∙◌, ◌≡◌, ◌≤◌, Bool, Entry, Granules, IsShapedIn, IsTrue, None, Option, RealmRecord, Some, State, ap, arith, cell_with_realm, cells_of, eqb-true, false, flat_state, if◌then◌else◌, inl, inr, is_granule, lt-ltb, nat_lt, none-some, put, refl, same_Some, state_in, subst, suc, sym, table_size, true, whole_of, zero, ℕ}
+use Rattle.std.proofs.Common.{IfSome, ◌&&◌}
+use Rattle.std.proofs.lemmas.Bool.{and_from, and_parts, false_from_ne_true, ltb-true}
 use Rattle.rmm_spec.specs.declared.version.Version.TheVariants.{Large}
 use Rattle.spec_lemmas.proofs.Limits.{granule_limit_le}
 use Rattle.rmm_spec.specs.declared.change.EntryChange.{EntryChange}
@@ -12,28 +12,24 @@ use Rattle.rmm_spec.specs.declared.change.RecChange.{RecChange}
 use Rattle.rmm_spec.specs.declared.change.RecUpdate.{RecUpdate}
 use Rattle.rmm_spec.specs.declared.change.RecUpdate.TheVariants.{RequestMoved}
 use Rattle.rmm_spec.specs.declared.change.TagChange.{TagChange}
-use Rattle.rmm_spec.specs.declared.entry.Entry.{Entry}
 use Rattle.rmm_spec.specs.declared.tag.Tag.{Tag}
 use Rattle.rmm_spec.specs.declared.tag.Tag.TheVariants as tag
 use Rattle.rmm_spec.specs.Applicable.{CanDestroyRealm, CanMakeRec, CanDestroyRec, CanDestroyTable, CanChangeEntries, CanChangeRec, CanUpdateRec}
 use Rattle.rmm_spec.specs.Cell as spec
-use Rattle.rmm_spec.specs.Cell.{put}
-use Rattle.rmm_spec.specs.Flat.{flat_state}
 use Rattle.rmm_spec.specs.HistoryText.{IsConfig, granule_limit}
-use Rattle.rmm_spec.specs.Lookup.{is_granule, is_owned_by, has_tag, realm_at, rec_at, tag_number}
+use Rattle.rmm_spec.specs.Lookup.{is_owned_by, has_tag, realm_at, rec_at, tag_number}
 use Rattle.rmm_spec.specs.Shape.{count_below}
 use Rattle.rmm_spec.specs.Sound.{IsTableOf}
-use Rattle.rmm_spec.specs.State.{State, RealmRecord, RecRecord}
-use Rattle.rmm_spec.specs.Walk.{is_table, table_size}
+use Rattle.rmm_spec.specs.State.{RecRecord}
+use Rattle.rmm_spec.specs.Walk.{is_table}
 use Rattle.rmm_sound.proofs.Entries.{leaf_there}
 use Rattle.rmm_sound.proofs.Searches.{realm_there, rec_there}
 use Rattle.rmm_sound.proofs.Spaces.{space_cases}
 use Rattle.rmm_sound.proofs.Tags.{has_tag-other}
 use Rattle.realm_desc.specs.Updates.{IsRecUpdate}
-use Rattle.shape_laws.specs.Whole.{cell_with_tag, cell_with_realm, changed_at, cells_with_tag_change, cells_with_realm_change}
-use Rattle.machine_cells.specs.declared.granules.Granules.{Granules}
+use Rattle.shape_laws.specs.Whole.{cell_with_tag, changed_at, cells_with_tag_change, cells_with_realm_change}
 use Rattle.machine_cells.specs.Changes.{CanGetTag, CanUpdate, TakesIndex}
-use Rattle.machine_cells.specs.Whole.{cells_of, count_of, whole_of, state_in, IsShapedIn}
+use Rattle.machine_cells.specs.Whole.{count_of}
 use Rattle.machine_cells.proofs.Found.{sound_in}
 use Rattle.machine_cells.proofs.Tagged.{granule_tagged}
 use Rattle.lemmas.proofs.Tests.{both_ways}
@@ -48,13 +44,15 @@ root_granule g shaped rd root can =
     granule_tagged g root tag.Rtt
     (rw can.is_root (sound.tables.tagged rd realm.start_level 0 realm.root (sound.tables.roots rd realm (realm_there s rd sound can.rd_tag))))
 
-pub aux0_granule : (g : Granules) → IsShapedIn g → (rec aux0 aux1 : ℕ) → CanDestroyRec (state_in g) rec aux0 aux1 → IsTrue (is_granule (count_of g) aux0)
+pub aux0_granule : (g : Granules) → IsShapedIn g → (rec aux0 aux1 : ℕ)
+    → CanDestroyRec (state_in g) rec aux0 aux1 → IsTrue (is_granule (count_of g) aux0)
 aux0_granule g shaped rec aux0 aux1 can =
     let s = state_in g in
     let sound = sound_in g shaped in
     granule_tagged g aux0 tag.RecAux (rw can.is_aux0 (sound.recs.aux0 rec (rec_at s rec) (rec_there s rec sound can.rec_tag)))
 
-pub aux1_granule : (g : Granules) → IsShapedIn g → (rec aux0 aux1 : ℕ) → CanDestroyRec (state_in g) rec aux0 aux1 → IsTrue (is_granule (count_of g) aux1)
+pub aux1_granule : (g : Granules) → IsShapedIn g → (rec aux0 aux1 : ℕ)
+    → CanDestroyRec (state_in g) rec aux0 aux1 → IsTrue (is_granule (count_of g) aux1)
 aux1_granule g shaped rec aux0 aux1 can =
     let s = state_in g in
     let sound = sound_in g shaped in
@@ -132,8 +130,10 @@ tag_change-rec cells None a rec is = is
 tag_change-rec cells (Some change) a rec is = changed-rec cells change.granule (cell_with_tag change.tag) (tag-no_rec change.tag) a rec is
 
 -- so the REC takes its update once a page's tag and a realm are changed
-pub rec_update-fits : (g : Granules) → IsShapedIn g → (page : Option TagChange) (realm : Option RealmChange) (change : Option RecChange) (cells : ℕ → spec.Cell)
-    → CanChangeRec (state_in g) change → cells ≡ cells_with_realm_change (cells_with_tag_change (cells_of g.list) page) realm → IfSome change (CanUpdate cells)
+pub rec_update-fits : (g : Granules) → IsShapedIn g
+    → (page : Option TagChange) (realm : Option RealmChange) (change : Option RecChange) (cells : ℕ → spec.Cell)
+    → CanChangeRec (state_in g) change
+    → cells ≡ cells_with_realm_change (cells_with_tag_change (cells_of g.list) page) realm → IfSome change (CanUpdate cells)
 rec_update-fits g shaped page realm None cells can is = tt
 rec_update-fits g shaped page realm (Some change) cells can is = λ rec at.
     rec_fits g shaped change can rec
@@ -147,12 +147,14 @@ pub realm-there : (g : Granules) → IsShapedIn g → (rd : ℕ) → IsTrue (has
 realm-there g shaped rd has found is = is ∙ realm_there (state_in g) rd (sound_in g shaped) has
 
 -- granules of different tags are apart
-tags_apart : (s : State) (a b : ℕ) (t u : Tag) → IsTrue (has_tag s a t) → IsTrue (has_tag s b u) → (tag_number t == tag_number u) ≡ false → (a == b) ≡ false
+tags_apart : (s : State) (a b : ℕ) (t u : Tag)
+    → IsTrue (has_tag s a t) → IsTrue (has_tag s b u) → (tag_number t == tag_number u) ≡ false → (a == b) ≡ false
 tags_apart s a b t u at bu differ =
     false_from_ne_true (a == b) (λ same. both_ways bu (subst (λ x. has_tag s x u ≡ false) (eqb-true a b same) (has_tag-other s a t u at differ)))
 
 -- the realm's cell stays while the REC's are put in
-counted-cell : (cells : ℕ → spec.Cell) (rd rec aux0 aux1 : ℕ) (made c0 c1 : spec.Cell) → (rd == rec) ≡ false → (rd == aux0) ≡ false → (rd == aux1) ≡ false
+counted-cell : (cells : ℕ → spec.Cell) (rd rec aux0 aux1 : ℕ) (made c0 c1 : spec.Cell)
+    → (rd == rec) ≡ false → (rd == aux0) ≡ false → (rd == aux1) ≡ false
     → put (put (put cells rec made) aux0 c0) aux1 c1 rd ≡ cells rd
 counted-cell cells rd rec aux0 aux1 made c0 c1 first second third = rw (first, second, third) refl
 
@@ -184,7 +186,8 @@ few_recs g shaped limits rd =
     let counted = shaped.realms.counted rd in
     omega (arith, counted, most, limits.most_granules, granule_limit_le g.list.config.version)
 
-pub within_limit : (g : Granules) → IsConfig g.list.config → (rd : ℕ) → IsTrue (is_granule (count_of g) rd) → IsTrue (is_granule (granule_limit Large) rd)
+pub within_limit : (g : Granules) → IsConfig g.list.config → (rd : ℕ)
+    → IsTrue (is_granule (count_of g) rd) → IsTrue (is_granule (granule_limit Large) rd)
 unfolding is_granule
 within_limit g limits rd is =
     let parts = and_parts (rd % 4096 == 0) (nat_lt rd (count_of g * 4096)) is in

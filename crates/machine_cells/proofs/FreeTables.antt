@@ -1,21 +1,17 @@
 -- Where a table's counts tell of no entry that a stretch may not set, each end of the stretch is reached.
-use Rattle.std.proofs.Common.{◌≡◌, ℕ, zero, suc, ◌+◌, ◌-◌, ◌/◌, ◌%◌, ◌<◌, ◌≤◌, Bool, true, false, not, List, [], ◌∷◌, Option, Some, None, slice_get, refl, sym, ap, ◌∙◌, subst, arith}
+use Rattle.machine_cells.proofs.Common.{◌%◌, ◌+◌, ◌/◌, ◌<◌, ◌∙◌, ◌≡◌, ◌≤◌, Bool, Entry, Granules, IsShapedIn, List, None, Option, Some, TableRecord, [], ap, arith, entry_at, entry_number, false, none-some, refl, same_Some, slice_get, state_in, subst, suc, sym, true, zero, ℕ}
+use Rattle.std.proofs.Common.{◌-◌, not, ◌∷◌}
 use Rattle.std.specs.List.{list_any}
 use Rattle.std.proofs.lemmas.Bool.{or_parts, and_from}
-use Rattle.std.proofs.lemmas.Option.{none-some, same_Some}
 use Rattle.rmm_spec.specs.declared.accepted.Stretch.{Stretch}
 use Rattle.rmm_spec.specs.declared.accepted.StretchUse.{StretchUse}
 use Rattle.rmm_spec.specs.declared.accepted.StretchUse.TheVariants.{Init, Requested}
-use Rattle.rmm_spec.specs.declared.entry.Entry.{Entry}
 use Rattle.rmm_spec.specs.declared.entry.Entry.TheVariants as entry
 use Rattle.rmm_spec.specs.Lookup.{all_below}
 use Rattle.rmm_spec.specs.Step.Ripas.{can_be_set, is_reached}
-use Rattle.rmm_spec.specs.Table.{TableRecord}
-use Rattle.rmm_spec.specs.Walk.{entry_number, entry_at, is_live, is_table}
+use Rattle.rmm_spec.specs.Walk.{is_live, is_table}
 use Rattle.shape_laws.proofs.Ties.{entry_there}
-use Rattle.machine_cells.specs.declared.granules.Granules.{Granules}
 use Rattle.machine_cells.specs.Searches.{StandsAs, IsTable, IsFree, is_end}
-use Rattle.machine_cells.specs.Whole.{state_in, IsShapedIn}
 use Rattle.machine_cells.proofs.HeldEntries.{entry-stands}
 use Rattle.machine_cells.proofs.Stretches.{in_table, reached-all}
 
@@ -43,7 +39,8 @@ all_below-from passes (suc n) each =
     and_from (passes n) (all_below n passes) (each n (omega arith)) (all_below-from passes n (λ k below. each k (omega (arith, below))))
 
 module _ (g : Granules) (shaped : IsShapedIn g) (stretch : Stretch) (top : ℕ) (within : stretch.level ≤ 3) (ends : is_end stretch top ≡ true) where
-  free-each : (t : TableRecord) → StandsAs g stretch.rd stretch.level (entry_number stretch.level stretch.base / 512) t → IsFree (Some t) stretch.purpose
+  free-each : (t : TableRecord)
+      → StandsAs g stretch.rd stretch.level (entry_number stretch.level stretch.base / 512) t → IsFree (Some t) stretch.purpose
       → (k : ℕ) → k < entry_number stretch.level (top - stretch.base)
       → can_be_set stretch.purpose (entry_at (state_in g) stretch.rd stretch.level (entry_number stretch.level stretch.base + k)) ≡ true
   free-each t stands free k below =

@@ -1,30 +1,25 @@
 -- The entries of a table of a well-shaped whole are those of its flat state; where no table stands, none keeps it in use but a link above a root.
-use Rattle.std.proofs.Common.{◌≡◌, ℕ, zero, suc, ◌+◌, ◌*◌, ◌/◌, ◌%◌, ◌^◌, ◌<◌, ◌≤◌, Bool, true, false, ◌||◌, inl, inr, if◌then◌else◌, IsTrue, length, Option, Some, None, is_some, nat_lt, slice_get, refl, sym, ap, ◌∙◌, subst, add-one, arith}
+use Rattle.machine_cells.proofs.Common.{◌%◌, ◌*◌, ◌+◌, ◌/◌, ◌<◌, ◌^◌, ◌∙◌, ◌≡◌, ◌≤◌, Bool, Config, Entry, Granules, IsShapedIn, IsTrue, None, Option, RealmRecord, Some, State, TableRecord, ap, arith, cases_lt, cells_of, config_of, entry_at, false, flat_state, if◌then◌else◌, inl, inr, length, lt-ltb, nat_lt, none-some, refl, same_Some, slice_get, state_in, subst, suc, sym, table_size, true, whole_of, zero, ℕ}
+use Rattle.std.proofs.Common.{◌||◌, is_some, add-one}
 use Rattle.std.specs.List.{list_any}
-use Rattle.std.proofs.lemmas.Bool.{false≢true, lt-ltb, le-ltb, cases_lt}
-use Rattle.std.proofs.lemmas.Option.{none-some, same_Some}
-use Rattle.rmm_spec.specs.HistoryText.{Config}
-use Rattle.rmm_spec.specs.declared.entry.Entry.{Entry}
+use Rattle.std.proofs.lemmas.Bool.{false≢true, le-ltb}
 use Rattle.rmm_spec.specs.declared.entry.Entry.TheVariants.{Unassigned}
 use Rattle.rmm_spec.specs.declared.entry.EntryTest.{EntryTest}
 use Rattle.rmm_spec.specs.declared.tag.Ripas.TheVariants.{Empty}
-use Rattle.rmm_spec.specs.State.{State, RealmRecord}
 use Rattle.rmm_spec.specs.Lookup.{any_below}
 use Rattle.rmm_spec.specs.Step.Terms.{is_space}
-use Rattle.rmm_spec.specs.Walk.{entry_at, linked_entry, passes, has_entry, table_size, full}
-use Rattle.rmm_spec.specs.Table.{TableRecord}
+use Rattle.rmm_spec.specs.Walk.{linked_entry, passes, has_entry, full}
 use Rattle.rmm_spec.specs.Sound.{IsSound}
 use Rattle.rmm_spec.specs.Cell.{Cell, tables_of}
-use Rattle.rmm_spec.specs.Flat.{flat_state, table_granule}
+use Rattle.rmm_spec.specs.Flat.{table_granule}
 use Rattle.rmm_spec.specs.Shape.{Side, CpuPlace, HoldsTable, IsWellShaped}
 use Rattle.rmm_sound.proofs.Entries.{entry-leaf, entry-link}
 use Rattle.rmm_sound.proofs.Spaces.{space_cases}
 use Rattle.shape_laws.proofs.Finds.{table_granule-holds, holds-found}
 use Rattle.shape_laws.proofs.Ties.{IsTied-shaped, entry_leaf-some, leaf-found, link_or_leaf, entry_there, number-again, at_place, same_table, well_shaped-is_sound}
 use Rattle.spec_lemmas.proofs.TableSearches.{search-places}
-use Rattle.machine_cells.specs.declared.granules.Granules.{Granules}
 use Rattle.machine_cells.specs.Searches.{StandsAs, IsTable, has_unlisted}
-use Rattle.machine_cells.specs.Whole.{cells_of, whole_of, config_of, count_of, state_in, IsShapedIn}
+use Rattle.machine_cells.specs.Whole.{count_of}
 use Rattle.machine_cells.proofs.WalkEnds.{entry-none}
 
 -- ---- one entry
@@ -37,8 +32,10 @@ unfolding flat_state
 entry-held config side places cells w g rd level number e holds at =
     let s = flat_state config cells in
     let sound = well_shaped-is_sound config side places cells w in
-    let found : (g rd level number : ℕ) → HoldsTable (tables_of cells) g rd level number → table_granule config.granules (tables_of cells) rd level number ≡ Some g =
-    λ g rd level number holds. holds-found config.granules (tables_of cells) g rd level number (IsTied-shaped config side places cells w).tables.found holds in
+    let found : (g rd level number : ℕ)
+    → HoldsTable (tables_of cells) g rd level number → table_granule config.granules (tables_of cells) rd level number ≡ Some g =
+    λ g rd level number holds. holds-found config.granules (tables_of cells) g rd level number
+    (IsTied-shaped config side places cells w).tables.found holds in
     elim (link_or_leaf e) [
       | inl link ↦ entry-link s sound rd level number link.0 (found link.0 rd (suc level) number
           (subst (λ n. HoldsTable (tables_of cells) link.0 rd (suc level) n) (number-again number)
@@ -56,7 +53,8 @@ entry-stands g shaped rd level number t e stands at =
     let w = whole_of g in
     let holds = table_granule-holds (count_of g) (tables_of w.cells) rd level (number / 512) stands.granule stands.is_found in
     let same = same_table (tables_of w.cells) stands.granule t holds.table stands.is_held holds.is_held in
-    sym (entry-held (config_of g) w.side w.places w.cells shaped stands.granule rd level number e holds (ap (λ (t : TableRecord). slice_get t.entries (number % 512)) (sym same) ∙ at))
+    sym (entry-held (config_of g) w.side w.places w.cells shaped stands.granule rd level number e holds
+    (ap (λ (t : TableRecord). slice_get t.entries (number % 512)) (sym same) ∙ at))
 
 -- ---- searches through a table
 
@@ -81,7 +79,8 @@ module _ (g : Granules) (shaped : IsShapedIn g) (rd level number : ℕ) where
       (sym at ∙ each-entry t stands k (omega (arith, below, whole-table t stands)))))
       ∙ ap (λ n. any_below n (λ k. p (entry_at (state_in g) rd level (512 * number + k)))) (whole-table t stands)
 
-  pub has_entry-table : (t : TableRecord) (test : EntryTest) → StandsAs g rd level number t → list_any (passes test) t.entries ≡ has_entry (state_in g) rd level number test
+  pub has_entry-table : (t : TableRecord) (test : EntryTest)
+      → StandsAs g rd level number t → list_any (passes test) t.entries ≡ has_entry (state_in g) rd level number test
   unfolding has_entry
   has_entry-table t test stands = search-table (passes test) t stands
 
@@ -97,7 +96,8 @@ any_below-first zero p rest others = rw (others 1 (omega arith) (omega arith)) (
     by false true = refl
     by false false = refl
 any_below-first (suc n) p rest others =
-    rw (others (suc (suc n)) (omega arith) (omega arith), any_below-first n p rest (λ k some below. others k some (omega (arith, below)))) (by rest (p 0))
+    rw (others (suc (suc n)) (omega arith) (omega arith), any_below-first n p rest (λ k some below. others k some (omega (arith, below))))
+    (by rest (p 0))
   where
     by : (a b : Bool) → (a || (b || a)) ≡ (b || a)
     by true true = refl
@@ -113,7 +113,8 @@ module _ (s : State) (sound : IsSound s) (rd level number : ℕ) (none : s.table
       let owner = sound.tables.owned rd (suc level) n g at in
       elim (cases_lt level owner.0.start_level) [
         | inl top ↦ absurd (at_root owner.0 (sound.realms.spaces rd owner.0 owner.1) (omega (arith, top, owner.2.below_root)) owner.2.inside)
-        | inr under ↦ absurd (false≢true (sym (ap is_some none) ∙ ap (λ m. is_some (s.table rd level m)) (sym up) ∙ sound.tables.below rd level n g owner.0 at owner.1 under))
+        | inr under ↦ absurd (false≢true (sym (ap is_some none) ∙ ap (λ m. is_some (s.table rd level m)) (sym up)
+            ∙ sound.tables.below rd level n g owner.0 at owner.1 under))
       ]
     where
       at_root : (r : RealmRecord) → IsTrue (is_space r.width r.start_level) → r.start_level ≡ suc level → n * table_size (suc level) < full r → ⊥
@@ -147,12 +148,15 @@ module _ (s : State) (sound : IsSound s) (rd level number : ℕ) (none : s.table
   pub unlisted-last : (n : ℕ) → n / 512 ≡ number → 3 ≤ level → Unassigned Empty ≡ entry_at s rd level n
   unlisted-last n up last =
       let past : nat_lt level 3 ≡ false = le-ltb level 3 last in
-      sym (entry-none s sound rd level n (ap (s.table rd level) up ∙ none) ∙ ap (λ b. linked_entry (if b then s.table rd (level + 1) n else None) None) past)
+      sym (entry-none s sound rd level n (ap (s.table rd level) up ∙ none)
+      ∙ ap (λ b. linked_entry (if b then s.table rd (level + 1) n else None) None) past)
 
-  pub unlisted-above : (n : ℕ) (found : Option ℕ) → n / 512 ≡ number → level < 3 → found ≡ s.table rd (level + 1) n → linked_entry found None ≡ entry_at s rd level n
+  pub unlisted-above : (n : ℕ) (found : Option ℕ)
+      → n / 512 ≡ number → level < 3 → found ≡ s.table rd (level + 1) n → linked_entry found None ≡ entry_at s rd level n
   unlisted-above n found up above is =
       ap (λ o. linked_entry o None) is
-      ∙ sym (entry-none s sound rd level n (ap (s.table rd level) up ∙ none) ∙ ap (λ b. linked_entry (if b then s.table rd (level + 1) n else None) None) (lt-ltb level 3 above))
+      ∙ sym (entry-none s sound rd level n (ap (s.table rd level) up ∙ none)
+      ∙ ap (λ b. linked_entry (if b then s.table rd (level + 1) n else None) None) (lt-ltb level 3 above))
 
 -- what lies in the granule where a table stands is the table
 pub stands-found : (g : Granules) (rd level number granule : ℕ) (found : Option TableRecord) → (state_in g).table rd level number ≡ Some granule

@@ -1,25 +1,24 @@
 -- What is kept of each granule, read and changed at its place.
-use Rattle.std.proofs.Common.{◌≡◌, ◌≢◌, ℕ, zero, suc, ◌*◌, ◌/◌, ◌%◌, ◌<◌, ◌&&◌, Bool, true, false, inl, inr, List, [], ◌∷◌, ◌++◌, length, replicate, Option, Some, None, if◌then◌else◌, IsTrue, nat_lt, ◌==◌, slice_get, slice_set, refl, sym, ap, ◌∙◌, arith}
+use Rattle.machine_cells.proofs.Common.{◌%◌, ◌*◌, ◌++◌, ◌/◌, ◌<◌, ◌==◌, ◌∙◌, ◌≡◌, Bool, IsTrue, List, None, Option, Some, [], ap, arith, cell_of, eqb-true, false, if◌then◌else◌, inl, inr, is_granule, length, lt-ltb, nat_lt, none-some, place_in, put, refl, replicate, slice_get, suc, sym, true, zero, ℕ}
+use Rattle.std.proofs.Common.{◌≢◌, ◌&&◌, ◌∷◌, slice_set}
 use Rattle.std.specs.Prelude.{option_map, unwrap_or, slice_index_or}
-use Rattle.std.proofs.lemmas.Bool.{and_from, and_parts, eq-eqb, eqb-true, eqb-false, lt-ltb, ltb-false, ltb-true}
+use Rattle.std.proofs.lemmas.Bool.{and_from, and_parts, eq-eqb, eqb-false, ltb-false, ltb-true}
 use Rattle.std.proofs.lemmas.List.{get_or-replicate, get_or-set_other, get_or-set_same, get_or_default, get_or_past, length-replicate}
-use Rattle.rmm_spec.specs.Lookup.{is_granule}
 use Rattle.lemmas.proofs.Tests.{both_ways}
-use Rattle.std.proofs.lemmas.Option.{none-some}
 use Rattle.rmm_spec.specs.Cell as spec
-use Rattle.rmm_spec.specs.Cell.{put}
 use Rattle.granule_cells.specs.declared.cell.Cell.{Cell}
 use Rattle.granule_cells.specs.declared.cell.Cell.TheVariants.{Undelegated}
 use Rattle.granule_places.specs.declared.places.GranulePlaces.{GranulePlaces}
-use Rattle.granule_places.specs.Placed.{place_in, count_in, IsFurther}
+use Rattle.granule_places.specs.Placed.{count_in, IsFurther}
 use Rattle.granule_places.proofs.PlaceLaws.{place-apart}
 use Rattle.granule_cells.specs.declared.cpu_place.CpuPlace.{CpuPlace}
 use Rattle.granule_cells.specs.declared.cpu_place.CpuPlace.TheVariants.{Outside}
-use Rattle.granule_cells.specs.Seen.{cell_of, place_of}
+use Rattle.granule_cells.specs.Seen.{place_of}
 use Rattle.machine_cells.specs.Whole.{cells_in, placed_at, places_in}
 
 -- what is read at a place, or what is there
-pub read_or : {A B : Type 0} (f : A → B) (items : List A) (i : ℕ) (default : A) → unwrap_or (option_map f (slice_get items i)) (f default) ≡ f (slice_index_or items i default)
+pub read_or : {A B : Type 0} (f : A → B) (items : List A) (i : ℕ) (default : A)
+    → unwrap_or (option_map f (slice_get items i)) (f default) ≡ f (slice_index_or items i default)
 read_or f [] i default = refl
 read_or f (x ∷ items) zero default = refl
 read_or f (x ∷ items) (suc i) default = read_or f items i default
@@ -61,7 +60,8 @@ get_or-replicate_all n i item false past =
     get_or_past (replicate n item) i item (omega (arith, ltb-false i n past, length-replicate n item))
 
 -- what is read past the last may as well stand there
-pub read-more : {A : Type 0} → (items : List A) (n i : ℕ) (default : A) → slice_index_or (items ++ replicate n default) i default ≡ slice_index_or items i default
+pub read-more : {A : Type 0} → (items : List A) (n i : ℕ) (default : A)
+    → slice_index_or (items ++ replicate n default) i default ≡ slice_index_or items i default
 read-more [] n i default = get_or-replicate_all n i default (nat_lt i n) refl
 read-more (x ∷ items) n zero default = refl
 read-more (x ∷ items) n (suc i) default = read-more items n i default
@@ -72,7 +72,8 @@ read-more (x ∷ items) n (suc i) default = read-more items n i default
 cells_in-set_cases : (granules : ℕ) (places : GranulePlaces) (items : List Cell) (item : Cell) (address place other : ℕ) (granule same : Bool)
     → IsTrue (is_granule granules address) → place_in places (address / 4096) ≡ Some place → place < length items
     → is_granule granules other ≡ granule → (other == address) ≡ same
-    → cells_in granules (place_in places) (slice_set items place item) other ≡ (if same then cell_of item else cells_in granules (place_in places) items other)
+    → cells_in granules (place_in places) (slice_set items place item) other
+    ≡ (if same then cell_of item else cells_in granules (place_in places) items other)
 cells_in-set_cases granules places items item address place other true true first at within second same =
     let equal : other ≡ address = eqb-true other address same in
     let here : place_in places (other / 4096) ≡ Some place = ap (λ a. place_in places (a / 4096)) equal ∙ at in
@@ -155,6 +156,7 @@ pub places-set : (items : List CpuPlace) (cpu place : ℕ) (to : CpuPlace) → p
     → places_in (slice_set items place to) ≡ put (places_in items) cpu (place_of to)
 places-set items cpu place to at within = rw at (λ i. λ other. by other (other == cpu) refl i)
   where
-    by : (other : ℕ) (b : Bool) → (other == cpu) ≡ b → place_of (slice_index_or (slice_set items cpu to) other Outside) ≡ (if b then place_of to else places_in items other)
+    by : (other : ℕ) (b : Bool) → (other == cpu) ≡ b
+        → place_of (slice_index_or (slice_set items cpu to) other Outside) ≡ (if b then place_of to else places_in items other)
     by other true same = rw (eqb-true other cpu same) (ap place_of (get_or-set_same items cpu to Outside within))
     by other false apart = ap place_of (get_or-set_other items cpu other to Outside (eqb-false other cpu apart))

@@ -1,3 +1,4 @@
+pub mod Common
 pub mod Kept
 pub mod Opening
 pub mod OneCell

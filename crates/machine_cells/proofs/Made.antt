@@ -1,13 +1,11 @@
 -- A change of the whole is the change of its flat state, and keeps it well shaped.
-use Rattle.std.proofs.Common.{◌≡◌, sym, ◌∙◌, subst₂}
+use Rattle.machine_cells.proofs.Common.{◌∙◌, ◌≡◌, Granules, IsShapedIn, config_of, flat_state, state_in, sym, whole_of}
+use Rattle.std.proofs.Common.{subst₂}
 use Rattle.rmm_spec.specs.declared.change.Change.{Change}
 use Rattle.rmm_spec.specs.Applicable.{CanApply}
 use Rattle.rmm_spec.specs.Change.{changed}
-use Rattle.rmm_spec.specs.Flat.{flat_state}
 use Rattle.shape_laws.specs.Whole.{IsShaped, whole_changed}
 use Rattle.shape_laws.proofs.Changes.{changes-keep_shape}
-use Rattle.machine_cells.specs.declared.granules.Granules.{Granules}
-use Rattle.machine_cells.specs.Whole.{config_of, whole_of, state_in, IsShapedIn}
 
 pub made : (old new : Granules) (change : Change) → IsShapedIn old → CanApply (state_in old) change → config_of new ≡ config_of old
     → whole_of new ≡ whole_changed (config_of old) (whole_of old) change → IsShapedIn new × (state_in new ≡ changed (state_in old) change)

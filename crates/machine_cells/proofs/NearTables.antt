@@ -1,16 +1,13 @@
 -- A table that lies where it was found before is the realm's, and a walk up to its level ends there.
-use Rattle.std.proofs.Common.{◌≡◌, ℕ, ◌≤◌, Some, slice_get, sym, subst, arith}
-use Rattle.rmm_spec.specs.declared.entry.Entry.{Entry}
+use Rattle.machine_cells.proofs.Common.{◌≡◌, ◌≤◌, Entry, Granules, IsShapedIn, Some, TableRecord, arith, cells_of, config_of, entry_number, flat_state, slice_get, state_in, subst, sym, table_number, whole_of, ℕ}
 use Rattle.rmm_spec.specs.Cell.{tables_of}
-use Rattle.rmm_spec.specs.Flat.{flat_state}
-use Rattle.rmm_spec.specs.Table.{TableRecord, entry_index, place_number}
-use Rattle.rmm_spec.specs.Walk.{entry_number, table_number, walk}
+use Rattle.rmm_spec.specs.Table.{entry_index, place_number}
+use Rattle.rmm_spec.specs.Walk.{walk}
 use Rattle.rmm_sound.proofs.Walked.{table_number-entry}
 use Rattle.shape_laws.proofs.Finds.{holds-found}
 use Rattle.shape_laws.proofs.Ties.{IsTied-shaped}
-use Rattle.machine_cells.specs.declared.granules.Granules.{Granules}
 use Rattle.machine_cells.specs.Searches.{StandsAs}
-use Rattle.machine_cells.specs.Whole.{cells_of, whole_of, config_of, count_of, state_in, IsShapedIn}
+use Rattle.machine_cells.specs.Whole.{count_of}
 use Rattle.machine_cells.proofs.HeldEntries.{entry-stands}
 use Rattle.machine_cells.proofs.WalkEnds.{walk-is}
 
@@ -24,8 +21,10 @@ near-table g shaped rd level number granule t held placed =
     (record { table = t; is_held = sym held; is_realm = placed.0; is_level = placed.1; is_number = placed.2 })
 
 -- and no table is deeper
-pub near-walk : (g : Granules) → IsShapedIn g → (rd ipa max number granule : ℕ) (t : TableRecord) (e : Entry) → max ≤ 3 → number ≡ table_number max ipa
-    → (state_in g).table rd max number ≡ Some granule → Some t ≡ tables_of (cells_of g.list) granule → slice_get t.entries (entry_index max ipa) ≡ Some e
+pub near-walk : (g : Granules) → IsShapedIn g
+    → (rd ipa max number granule : ℕ) (t : TableRecord) (e : Entry) → max ≤ 3 → number ≡ table_number max ipa
+    → (state_in g).table rd max number ≡ Some granule → Some t ≡ tables_of (cells_of g.list) granule
+    → slice_get t.entries (entry_index max ipa) ≡ Some e
     → record { level = max; granule = granule; entry = e } ≡ walk (state_in g) rd ipa max
 unfolding entry_index
 near-walk g shaped rd ipa max number granule t e within is_number at held here =
@@ -34,5 +33,6 @@ near-walk g shaped rd ipa max number granule t e within is_number at held here =
       within = omega arith;
       is_table = rw is_number at at;
       deepest = λ deeper less most. absurd (omega (arith, less, most));
-      is_entry = entry-stands g shaped rd max (entry_number max ipa) t e (subst (λ n. StandsAs g rd max n t) (table_number-entry max ipa within) stands) here;
+      is_entry = entry-stands g shaped rd max (entry_number max ipa) t e
+          (subst (λ n. StandsAs g rd max n t) (table_number-entry max ipa within) stands) here;
     })

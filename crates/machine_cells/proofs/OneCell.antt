@@ -1,26 +1,20 @@
 -- What is read of one granule is what the flat state tells of it.
-use Rattle.std.proofs.Common.{◌≡◌, ℕ, zero, suc, ◌+◌, ◌*◌, ◌/◌, ◌<◌, Bool, true, false, List, [], ◌∷◌, ◌++◌, length, Option, Some, nat_lt, IsTrue, if◌then◌else◌, ◌==◌, slice_get, refl, ap, ◌∙◌, arith}
+use Rattle.machine_cells.proofs.Common.{◌*◌, ◌++◌, ◌+◌, ◌/◌, ◌<◌, ◌==◌, ◌∙◌, ◌≡◌, Bool, CellList, Config, IsTrue, List, Option, Some, State, TableRecord, [], ap, arith, cell_of, cells_of, false, flat_state, if◌then◌else◌, is_granule, length, nat_lt, place_in, refl, slice_get, suc, true, zero, ℕ}
+use Rattle.std.proofs.Common.{◌∷◌}
 use Rattle.std.proofs.lemmas.Bool.{ltb-false, ltb-true}
 use Rattle.std.proofs.lemmas.List.{length-append}
 use denote.Enum.Bare.{sameb}
-use Rattle.rmm_spec.specs.HistoryText.{Config}
 use Rattle.rmm_spec.specs.contracts.tag.Tag.{the_type}
 use Rattle.rmm_spec.specs.declared.tag.Tag.{Tag}
-use Rattle.rmm_spec.specs.Lookup.{is_granule, has_tag, tag_number}
-use Rattle.rmm_spec.specs.State.{State}
-use Rattle.rmm_spec.specs.Table.{TableRecord}
+use Rattle.rmm_spec.specs.Lookup.{has_tag, tag_number}
 use Rattle.rmm_spec.specs.TableCells.{table_in}
 use Rattle.rmm_spec.specs.Cell as spec
-use Rattle.rmm_spec.specs.Flat.{flat_state}
 use Rattle.spec_lemmas.proofs.TagLaws.{sameb-tag_number}
 use Rattle.lemmas.proofs.Tests.{both_ways}
 use Rattle.rtt_walk.specs.Plain.{cells_from, table_or_none}
 use Rattle.rtt_walk.specs.PlainLaws.{table_in-no_granule, table_in-cells_from}
 use Rattle.granule_cells.specs.declared.cell.Cell.TheVariants.{Undelegated}
-use Rattle.granule_cells.specs.Seen.{cell_of}
-use Rattle.granule_places.specs.Placed.{place_in}
-use Rattle.machine_cells.specs.declared.cell_list.CellList.{CellList}
-use Rattle.machine_cells.specs.Whole.{cells_of, placed_at, table_numbered, tables_in, values_below}
+use Rattle.machine_cells.specs.Whole.{placed_at, table_numbered, tables_in, values_below}
 use Rattle.machine_cells.proofs.Kept.{granule_placed, place-granule, place_within}
 
 -- a granule's tag
@@ -78,7 +72,8 @@ tables-same list address = by (is_granule granules address) refl
     tables = values_below granules (table_numbered list)
 
     by : (b : Bool) → is_granule granules address ≡ b → table_in (cells_from 0 tables) address
-        ≡ spec.table_in (cell_of (if is_granule granules address then placed_at list.cells.items (place_in list.places (address / 4096)) else Undelegated))
+        ≡ spec.table_in (cell_of (if is_granule granules address
+        then placed_at list.cells.items (place_in list.places (address / 4096)) else Undelegated))
     by true is =
         let at : address ≡ (0 + address / 4096) * 4096 = omega (arith, place-granule granules address is) in
         rw is (table_in-cells_from 0 tables (address / 4096) address at

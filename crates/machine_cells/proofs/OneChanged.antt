@@ -1,23 +1,16 @@
 -- One cell that is changed by what lies in it.
-use Rattle.std.proofs.Common.{◌≡◌, ℕ, Bool, true, false, ◌==◌, if◌then◌else◌, List, Some, slice_set, refl, sym, ap, ◌∙◌}
+use Rattle.machine_cells.proofs.Common.{◌==◌, ◌∙◌, ◌≡◌, Bool, CellList, Entry, List, RealmRecord, Some, TableRecord, ap, cell_of, cell_with_realm, cells_of, eqb-true, false, if◌then◌else◌, none-some, place_in, put, refl, same_Some, sym, true, ℕ}
+use Rattle.std.proofs.Common.{slice_set}
 use Rattle.std.specs.Prelude.{slice_index_or}
-use Rattle.std.proofs.lemmas.Bool.{eqb-true}
-use Rattle.std.proofs.lemmas.Option.{none-some, same_Some}
 use Rattle.rmm_spec.specs.declared.change.RealmUpdate.{RealmUpdate}
 use Rattle.rmm_spec.specs.declared.change.RecUpdate.{RecUpdate}
-use Rattle.rmm_spec.specs.declared.entry.Entry.{Entry}
-use Rattle.rmm_spec.specs.State.{RealmRecord, RecRecord}
-use Rattle.rmm_spec.specs.Table.{TableRecord}
+use Rattle.rmm_spec.specs.State.{RecRecord}
 use Rattle.rmm_spec.specs.Cell as spec
-use Rattle.rmm_spec.specs.Cell.{put}
-use Rattle.shape_laws.specs.Whole.{cell_with_realm, cell_with_rec, cell_with_entries, changed_at}
-use Rattle.machine_cells.specs.declared.cell_list.CellList.{CellList}
+use Rattle.shape_laws.specs.Whole.{cell_with_rec, cell_with_entries, changed_at}
 use Rattle.granule_cells.specs.declared.cell.Cell.{Cell}
 use Rattle.granule_cells.specs.declared.cell.Cell.TheVariants.{Rd, Rec, Rtt}
-use Rattle.granule_cells.specs.Seen.{cell_of}
-use Rattle.granule_places.specs.Placed.{place_in}
 use Rattle.machine_cells.specs.Placed.{IsPlace}
-use Rattle.machine_cells.specs.Whole.{cells_of, cells_in}
+use Rattle.machine_cells.specs.Whole.{cells_in}
 use Rattle.machine_cells.proofs.Kept.{cells_in-set, cells_in-granule}
 
 -- what has a realm's record is its descriptor
@@ -73,6 +66,7 @@ pub rec-read : (list : CellList) (granule place : ℕ) (read : Cell) (r : RecRec
 rec-read list granule place read r is is_read rec = ap spec.rec_in (cell-read list granule place read is is_read ∙ ap cell_of rec)
 
 -- only a table has entries
-pub not_table-same : (c : Cell) (change : List Entry → List Entry) → ((t : TableRecord) → c ≡ Rtt t → ⊥) → cell_with_entries change (cell_of c) ≡ cell_of c
+pub not_table-same : (c : Cell) (change : List Entry → List Entry)
+    → ((t : TableRecord) → c ≡ Rtt t → ⊥) → cell_with_entries change (cell_of c) ≡ cell_of c
 not_table-same (Rtt t) change none = absurd (none t refl)
 not_table-same _ change none = refl

@@ -1,10 +1,8 @@
 -- The granules of a new machine are all the host's.
-use Rattle.std.proofs.Common.{◌≡◌, ℕ, ◌/◌, Bool, true, false, if◌then◌else◌, List, [], replicate, Option, Some, None, slice_index_or, refl, sym, ap, ◌∙◌, subst}
-use Rattle.rmm_spec.specs.HistoryText.{Config}
-use Rattle.rmm_spec.specs.Lookup.{is_granule}
+use Rattle.machine_cells.proofs.Common.{◌/◌, ◌∙◌, ◌≡◌, Bool, Config, List, None, Option, Some, [], ap, cell_of, false, flat_state, if◌then◌else◌, is_granule, refl, replicate, subst, sym, true, ℕ}
+use Rattle.std.proofs.Common.{slice_index_or}
 use Rattle.rmm_spec.specs.State.{opening}
 use Rattle.rmm_spec.specs.Cell as spec
-use Rattle.rmm_spec.specs.Flat.{flat_state}
 use Rattle.rmm_spec.specs.Shape as shape
 use Rattle.rmm_spec.specs.World.{opening_world}
 use Rattle.spec_lemmas.proofs.Opening.{flat_state-opening, IsShapedWorld-opening}
@@ -12,7 +10,7 @@ use Rattle.shape_laws.specs.Whole.{Whole, IsShaped}
 use Rattle.granule_cells.specs.declared.cell.Cell.{Cell}
 use Rattle.granule_cells.specs.declared.cell.Cell.TheVariants.{Undelegated}
 use Rattle.granule_cells.specs.declared.cpu_place.CpuPlace.TheVariants.{Outside}
-use Rattle.granule_cells.specs.Seen.{cell_of, place_of}
+use Rattle.granule_cells.specs.Seen.{place_of}
 use Rattle.machine_cells.specs.Whole.{cells_in, placed_at, places_in}
 use Rattle.machine_cells.proofs.Kept.{get_or-replicate_all}
 
@@ -31,7 +29,8 @@ cells-new granules n place cells is = λ i address. by address (is_granule granu
 pub places-new : (n : ℕ) → places_in (replicate n Outside) ≡ (λ _. shape.Outside)
 places-new n = λ i cpu. ap place_of (get_or-replicate_all n cpu Outside _ refl) i
 
-pub opening-state : (config other : Config) (cells : ℕ → spec.Cell) → other ≡ config → cells ≡ (λ _. spec.Undelegated) → flat_state other cells ≡ opening config
+pub opening-state : (config other : Config) (cells : ℕ → spec.Cell)
+    → other ≡ config → cells ≡ (λ _. spec.Undelegated) → flat_state other cells ≡ opening config
 opening-state config other cells same is = (λ i. flat_state (same i) (is i)) ∙ flat_state-opening config
 
 nothing : shape.Side

@@ -1,13 +1,9 @@
 -- What a granule's place says of its cell.
-use Rattle.std.proofs.Common.{◌≡◌, ℕ, ◌*◌, ◌/◌, ◌%◌, ◌<◌, IsTrue, Option, Some, None, sym, subst, arith}
+use Rattle.machine_cells.proofs.Common.{◌%◌, ◌*◌, ◌/◌, ◌<◌, ◌≡◌, CellList, IsTrue, None, Option, Some, arith, cells_of, is_granule, place-within, place_in, subst, sym, ℕ}
 use Rattle.std.specs.Prelude.{IfNone, IfSome}
-use Rattle.rmm_spec.specs.Lookup.{is_granule}
 use Rattle.rmm_spec.specs.Cell as spec
-use Rattle.granule_places.specs.Placed.{place_in}
-use Rattle.granule_places.proofs.PlaceLaws.{place-granule, place-within}
-use Rattle.machine_cells.specs.declared.cell_list.CellList.{CellList}
+use Rattle.granule_places.proofs.PlaceLaws.{place-granule}
 use Rattle.machine_cells.specs.Placed.{IsPlace}
-use Rattle.machine_cells.specs.Whole.{cells_of}
 use Rattle.machine_cells.proofs.Kept.{cells_in-none, granule_placed}
 
 -- the granule at an address has its cell where the granule of the number has its place

@@ -1,12 +1,9 @@
 -- What is told by the side table and by the CPUs' places is what the flat state tells.
-use Rattle.std.proofs.Common.{◌≡◌, ℕ, zero, suc, ◌*◌, Bool, true, false, ◌||◌, if◌then◌else◌, Option, Some, None, is_some, nat_lt, refl, sym, ap, ◌∙◌, arith}
-use Rattle.std.proofs.lemmas.Bool.{false_from_ne_true, false≢true, eqb-true, eq-eqb, lt-ltb}
-use Rattle.std.proofs.lemmas.Option.{none-some}
-use Rattle.rmm_spec.specs.HistoryText.{Config}
-use Rattle.rmm_spec.specs.State.{RealmRecord}
+use Rattle.machine_cells.proofs.Common.{◌*◌, ◌∙◌, ◌≡◌, Bool, Config, None, Option, RealmRecord, Some, ap, arith, eqb-true, false, flat_state, if◌then◌else◌, lt-ltb, nat_lt, none-some, refl, suc, sym, true, zero, ℕ}
+use Rattle.std.proofs.Common.{◌||◌, is_some}
+use Rattle.std.proofs.lemmas.Bool.{false_from_ne_true, false≢true, eq-eqb}
 use Rattle.rmm_spec.specs.Lookup.{any_below, has_vmid, is_vmid_used, is_owned_by, has_rec, rec_inside}
 use Rattle.rmm_spec.specs.Cell.{Cell, Undelegated, realm_in, realms_of, recs_of}
-use Rattle.rmm_spec.specs.Flat.{flat_state}
 use Rattle.rmm_spec.specs.Shape.{Side, CpuPlace, Inside, IsWellShaped, count_below}
 use Rattle.rmm_sound.proofs.Searches.{inside_runs}
 use Rattle.shape_laws.proofs.Ties.{well_shaped-is_sound}
@@ -39,7 +36,8 @@ module _ (config : Config) (side : Side) (places : ℕ → CpuPlace) (cells : �
   unfolding is_vmid_used flat_state
   is_vmid_used-listed vmid = by (side.vmids vmid) refl
     where
-      by : (o : Option ℕ) → side.vmids vmid ≡ o → is_some (side.vmids vmid) ≡ any_below config.granules (λ k. has_vmid vmid (realms_of cells (k * 4096)))
+      by : (o : Option ℕ) → side.vmids vmid ≡ o
+          → is_some (side.vmids vmid) ≡ any_below config.granules (λ k. has_vmid vmid (realms_of cells (k * 4096)))
       by None is =
           ap is_some is
           ∙ sym (false_from_ne_true (any_below config.granules (λ k. has_vmid vmid (realms_of cells (k * 4096)))) (λ any.

@@ -1,17 +1,16 @@
 -- Where a stretch may end, and its entries.
-use Rattle.std.proofs.Common.{◌≡◌, ℕ, zero, suc, ◌+◌, ◌-◌, ◌*◌, ◌/◌, ◌%◌, ◌<◌, ◌≤◌, nat_lt, nat_le, Bool, true, false, ◌&&◌, ◌==◌, refl, sym, ap, ◌∙◌, add-one, inl, inr, arith}
+use Rattle.machine_cells.proofs.Common.{◌%◌, ◌*◌, ◌+◌, ◌/◌, ◌<◌, ◌==◌, ◌∙◌, ◌≡◌, ◌≤◌, Bool, Entry, State, ap, arith, cases_lt, entry_at, entry_number, eqb-true, false, inl, inr, lt-ltb, nat_lt, refl, suc, sym, table_number, table_size, true, zero, ℕ}
+use Rattle.std.proofs.Common.{◌-◌, nat_le, ◌&&◌, add-one}
 use Rattle.std.proofs.Math.Nat.{div-add-mod, div-div-eq-div-mul, mul-le-mul_left}
-use Rattle.std.proofs.lemmas.Bool.{and_parts, and_left, and_right, ltb-true, leb-true, le-ltb, lt-ltb, le-leb, lt-leb, eq-eqb, ne_eqb, cases_lt}
+use Rattle.std.proofs.lemmas.Bool.{and_parts, and_left, and_right, ltb-true, leb-true, le-ltb, le-leb, lt-leb, eq-eqb, ne_eqb}
 use Rattle.std.proofs.lemmas.Nat.{div_below, le-div}
 use Rattle.spec_lemmas.proofs.WalkLaws.{table_size-entries}
 use Rattle.rmm_spec.specs.declared.accepted.Stretch.{Stretch}
-use Rattle.rmm_spec.specs.declared.entry.Entry.{Entry}
-use Rattle.rmm_spec.specs.State.{State}
 use Rattle.rmm_spec.specs.Lookup.{all_below}
 use Rattle.rmm_spec.specs.Step.Ripas.{can_be_set, is_reached}
-use Rattle.rmm_spec.specs.Walk.{entry_size, table_size, entry_number, table_number, entry_at, is_multiple}
+use Rattle.rmm_spec.specs.Walk.{entry_size, is_multiple}
 use Rattle.machine_cells.specs.Searches.{is_end}
-use Rattle.std.proofs.lemmas.Bool.{and_from, eqb-true, eqb-false}
+use Rattle.std.proofs.lemmas.Bool.{and_from, eqb-false}
 
 -- ---- numbers that all pass
 
@@ -85,7 +84,8 @@ pub end_beyond : (stretch : Stretch) (top : ℕ) → stretch.top < top → is_en
 unfolding is_end
 end_beyond stretch top beyond =
     and_left _ (nat_le top ((table_number stretch.level stretch.base + 1) * table_size stretch.level))
-    (and_right (nat_lt stretch.base top && is_multiple (top - stretch.base) (entry_size stretch.level)) (nat_le top stretch.top) (lt-leb top stretch.top beyond))
+    (and_right (nat_lt stretch.base top && is_multiple (top - stretch.base) (entry_size stretch.level))
+    (nat_le top stretch.top) (lt-leb top stretch.top beyond))
 
 pub end_between : (stretch : Stretch) (top : ℕ) → ((top - stretch.base) % entry_size stretch.level ≡ 0 → ⊥) → is_end stretch top ≡ false
 unfolding is_end
@@ -119,7 +119,8 @@ in_table-of base top k size some order in_table below =
     let base_is : size * first + base % size ≡ base = div-add-mod base size in
     let run_is : size * count + (top - base) % size ≡ top - base = div-add-mod (top - base) size in
     let all : first + count ≤ 512 * (t + 1) = elim (cases_lt (512 * (t + 1)) (first + count)) [
-      | inl past ↦ (let scaled : size * (512 * (t + 1) + 1) ≤ size * (first + count) = rw (add-one (512 * (t + 1))) (mul-le-mul_left size past) in absurd (omega arith))
+      | inl past ↦ (let scaled : size * (512 * (t + 1) + 1) ≤ size * (first + count) =
+          rw (add-one (512 * (t + 1))) (mul-le-mul_left size past) in absurd (omega arith))
       | inr within ↦ within
     ] in
     omega arith
@@ -134,7 +135,8 @@ in_table stretch top k within ends below =
     (nat_le top ((table_number stretch.level stretch.base + 1) * table_size stretch.level)) ends in
     let two = and_parts (nat_lt stretch.base top && is_multiple (top - stretch.base) size) (nat_le top stretch.top) three.0 in
     let one = and_parts (nat_lt stretch.base top) (is_multiple (top - stretch.base) size) two.0 in
-    let in_table = rw (table_size-entries stretch.level within) at (leb-true top ((stretch.base / table_size stretch.level + 1) * table_size stretch.level) three.1) in
+    let in_table = rw (table_size-entries stretch.level within)
+    at (leb-true top ((stretch.base / table_size stretch.level + 1) * table_size stretch.level) three.1) in
     in_table-of stretch.base top k size (entry_size-some stretch.level within) (ltb-true stretch.base top one.0) in_table below
 
 -- a stretch that ends goes up
@@ -174,7 +176,8 @@ reached-fails s stretch top first k entry below is_first is_entry fails =
     let passes : ℕ → Bool = λ n. can_be_set stretch.purpose (entry_at s stretch.rd stretch.level (entry_number stretch.level stretch.base + n)) in
     rw (reached-is s stretch top)
     (sym (and_right (is_end stretch top) (all_below (entry_number stretch.level (top - stretch.base)) passes)
-    (all_below-fails passes k (entry_number stretch.level (top - stretch.base)) below (set-by s stretch first k entry false is_first is_entry fails))))
+    (all_below-fails passes k (entry_number stretch.level (top - stretch.base)) below
+    (set-by s stretch first k entry false is_first is_entry fails))))
 
 -- one more entry may be set
 pub reached-more : (s : State) (stretch : Stretch) (first k : ℕ) (entry : Entry)

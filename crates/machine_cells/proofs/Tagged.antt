@@ -1,11 +1,9 @@
 -- What has a tag is a granule.
-use Rattle.std.proofs.Common.{ℕ, IsTrue}
+use Rattle.machine_cells.proofs.Common.{Granules, IsTrue, flat_state, is_granule, state_in, ℕ}
 use Rattle.rmm_spec.specs.declared.tag.Tag.{Tag}
-use Rattle.rmm_spec.specs.Flat.{flat_state}
-use Rattle.rmm_spec.specs.Lookup.{is_granule, has_tag}
+use Rattle.rmm_spec.specs.Lookup.{has_tag}
 use Rattle.spec_lemmas.proofs.TagLaws.{granule_from_tag}
-use Rattle.machine_cells.specs.declared.granules.Granules.{Granules}
-use Rattle.machine_cells.specs.Whole.{count_of, state_in}
+use Rattle.machine_cells.specs.Whole.{count_of}
 
 pub granule_tagged : (g : Granules) (address : ℕ) (tag : Tag) → IsTrue (has_tag (state_in g) address tag) → IsTrue (is_granule (count_of g) address)
 unfolding state_in flat_state

@@ -1,13 +1,12 @@
 -- The walk by links is the walk of the flat state, and a table is found by a walk to the first address that it covers.
-use Rattle.std.proofs.Common.{◌≡◌, ℕ, zero, suc, ◌+◌, ◌*◌, ◌/◌, ◌^◌, ◌<◌, ◌≤◌, false, inl, inr, if◌then◌else◌, IsTrue, Option, Some, None, is_some, nat_lt, refl, sym, ap, ◌∙◌, subst, arith}
+use Rattle.machine_cells.proofs.Common.{◌*◌, ◌+◌, ◌/◌, ◌<◌, ◌^◌, ◌∙◌, ◌≡◌, ◌≤◌, Entry, IsTrue, None, Option, RealmRecord, Some, State, ap, arith, cases_lt, entry_at, entry_number, if◌then◌else◌, inl, inr, nat_lt, refl, subst, suc, sym, table_number, table_size, zero, ℕ}
+use Rattle.std.proofs.Common.{is_some}
 use Rattle.std.specs.Prelude.{unwrap_or}
-use Rattle.std.proofs.lemmas.Bool.{cases_lt, false≢true}
-use Rattle.rmm_spec.specs.declared.entry.Entry.{Entry}
+use Rattle.std.proofs.lemmas.Bool.{false≢true}
 use Rattle.rmm_spec.specs.declared.entry.Entry.TheVariants.{Unassigned, Table}
 use Rattle.rmm_spec.specs.declared.tag.Ripas.TheVariants.{Empty}
-use Rattle.rmm_spec.specs.State.{State, RealmRecord}
 use Rattle.rmm_spec.specs.Step.Terms.{is_space}
-use Rattle.rmm_spec.specs.Walk.{entry_number, table_number, table_size, entry_at, entry_for, linked_entry, reach, walk, full, IsWalk}
+use Rattle.rmm_spec.specs.Walk.{entry_for, linked_entry, reach, walk, full, IsWalk}
 use Rattle.rmm_spec.specs.Sound.{IsSound}
 use Rattle.spec_lemmas.proofs.WalkLaws.{table_number-suc, reach-zero, reach-le, reach-covers, reach-below}
 use Rattle.rmm_sound.proofs.Entries.{entry-link}
@@ -76,7 +75,8 @@ reach-none s rd ipa zero none = reach-zero s rd ipa
 reach-none s rd ipa (suc l) none = reach-below s rd ipa l (ap is_some (none (suc l))) ∙ reach-none s rd ipa l none
 
 -- a leaf stands in a table
-leaf-none : (s : State) → IsSound s → (rd level number : ℕ) → s.table rd level (number / 512) ≡ None → (found : Option Entry) → s.leaf rd level number ≡ found
+leaf-none : (s : State) → IsSound s → (rd level number : ℕ) → s.table rd level (number / 512) ≡ None
+    → (found : Option Entry) → s.leaf rd level number ≡ found
     → found ≡ None
 leaf-none s sound rd level number none None at = refl
 leaf-none s sound rd level number none (Some e) at =
@@ -101,7 +101,8 @@ walk-elsewhere s sound rd ipa max elsewhere =
     sym (ap (λ (o : Option ℕ). unwrap_or o 0) (none (reach s rd ipa max))) in
     let above : s.table rd 0 (entry_number 0 ipa / 512) ≡ None = ap (s.table rd 0) (sym (top-number ipa)) ∙ none 0 in
     let below : s.table rd 1 (entry_number 0 ipa) ≡ None = ap (s.table rd 1) (sym (table_number-suc 0 ipa)) ∙ none 1 in
-    let its : entry_for s rd 0 ipa ≡ Unassigned Empty = entry-none s sound rd 0 (entry_number 0 ipa) above ∙ ap (λ (o : Option ℕ). linked_entry o None) below in
+    let its : entry_for s rd 0 ipa ≡ Unassigned Empty =
+    entry-none s sound rd 0 (entry_number 0 ipa) above ∙ ap (λ (o : Option ℕ). linked_entry o None) below in
     λ i. record { level = at i; granule = here i; entry = (sym its ∙ ap (λ l. entry_for s rd l ipa) at) i }
 
 -- ---- above a root
@@ -125,7 +126,8 @@ walk-above s sound rd ipa max root level start less =
     let its : entry_for s rd 0 ipa ≡ Table root = entry-link s sound rd 0 (entry_number 0 ipa) root root_there in
     λ i. record { level = at i; granule = here i; entry = (sym its ∙ ap (λ l. entry_for s rd l ipa) at) i }
   where
-    no_top : (r : RealmRecord) → s.realm rd ≡ Some r → r.start_level ≡ 1 → (number : ℕ) (found : Option ℕ) → s.table rd 0 number ≡ found → found ≡ None
+    no_top : (r : RealmRecord) → s.realm rd ≡ Some r → r.start_level ≡ 1
+        → (number : ℕ) (found : Option ℕ) → s.table rd 0 number ≡ found → found ≡ None
     no_top r realm below number None at = refl
     no_top r realm below number (Some g) at =
         let owner = sound.tables.owned rd 0 number g at in
@@ -149,13 +151,15 @@ module _ (s : State) (sound : IsSound s) (rd level number : ℕ) where
         | inr wide ↦ (let within : number * table_size level < 2 ^ 48 = rw wide.0 at owner.2.inside in omega arith)
       ]))
 
-  pub table-elsewhere : (ipa : ℕ) → ipa ≡ number * table_size level → IsElsewhere s rd ipa → (found : Option ℕ) → s.table rd level number ≡ found → None ≡ found
+  pub table-elsewhere : (ipa : ℕ) → ipa ≡ number * table_size level → IsElsewhere s rd ipa → (found : Option ℕ)
+      → s.table rd level number ≡ found → None ≡ found
   table-elsewhere ipa at elsewhere None is = refl
   table-elsewhere ipa at elsewhere (Some g) is =
       let owner = sound.tables.owned rd level number g is in
       absurd (elsewhere owner.0 owner.1 (subst (λ n. n < full owner.0) (sym at) owner.2.inside))
 
-  pub table-above : (r : RealmRecord) → s.realm rd ≡ Some r → level < r.start_level → (found : Option ℕ) → s.table rd level number ≡ found → None ≡ found
+  pub table-above : (r : RealmRecord) → s.realm rd ≡ Some r → level < r.start_level → (found : Option ℕ)
+      → s.table rd level number ≡ found → None ≡ found
   table-above r realm above None at = refl
   table-above r realm above (Some g) at =
       let owner = sound.tables.owned rd level number g at in

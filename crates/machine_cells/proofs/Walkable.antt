@@ -1,18 +1,15 @@
 -- A list of the tables of a well-shaped whole stands for the tables and leaves of its flat state, and a walk may start at each root.
-use Rattle.std.proofs.Common.{◌≡◌, ℕ, zero, suc, ◌+◌, ◌*◌, ◌/◌, ◌%◌, ◌^◌, ◌<◌, ◌≤◌, ◌⊎◌, inl, inr, IsTrue, List, Option, Some, None, slice_get, refl, sym, ap, ◌∙◌, arith}
+use Rattle.machine_cells.proofs.Common.{◌%◌, ◌*◌, ◌+◌, ◌/◌, ◌<◌, ◌^◌, ◌∙◌, ◌≡◌, ◌≤◌, Config, Entry, IsTrue, List, None, Option, RealmRecord, Some, TableRecord, ap, arith, cases_lt, entry_number, eqb-true, flat_state, inl, inr, none-some, refl, slice_get, suc, sym, table_number, table_size, zero, ℕ}
+use Rattle.std.proofs.Common.{◌⊎◌}
 use Rattle.std.specs.Prelude.{option_map, find}
 use Rattle.std.specs.Option.{option_and_then}
-use Rattle.std.proofs.lemmas.Bool.{eq-eqb, eqb-true, cases_lt}
-use Rattle.std.proofs.lemmas.Option.{none-some}
-use Rattle.rmm_spec.specs.HistoryText.{Config}
-use Rattle.rmm_spec.specs.declared.entry.Entry.{Entry}
-use Rattle.rmm_spec.specs.State.{RealmRecord}
+use Rattle.std.proofs.lemmas.Bool.{eq-eqb}
 use Rattle.rmm_spec.specs.Step.Terms.{is_space}
-use Rattle.rmm_spec.specs.Walk.{entry_number, table_number, table_size, full}
-use Rattle.rmm_spec.specs.Table.{TableRecord, entry_index, place_number, covers}
+use Rattle.rmm_spec.specs.Walk.{full}
+use Rattle.rmm_spec.specs.Table.{entry_index, place_number, covers}
 use Rattle.rmm_spec.specs.TableCells.{TableCell, table_in, is_table_at, flat_table, flat_leaf, leaf_of, with_tables, ArePlaced, LinksTo, IsOnPath, IsWalkable}
 use Rattle.rmm_spec.specs.Cell.{Cell, realms_of, tables_of}
-use Rattle.rmm_spec.specs.Flat.{flat_state, table_granule, leaf_in_tables}
+use Rattle.rmm_spec.specs.Flat.{table_granule, leaf_in_tables}
 use Rattle.rmm_spec.specs.Shape.{Side, CpuPlace, HoldsTable, IsWellShaped}
 use Rattle.spec_lemmas.proofs.WalkLaws.{table_number-suc}
 use Rattle.rmm_sound.proofs.Spaces.{space_cases}
@@ -31,7 +28,8 @@ root_number r space ipa below = elim (space_cases r.width r.start_level space) [
 
 module _ (config : Config) (side : Side) (places : ℕ → CpuPlace) (cells : ℕ → Cell) (w : IsWellShaped config side places cells)
     (list : List TableCell) (placed : ArePlaced list) (same : (address : ℕ) → table_in list address ≡ tables_of cells address) where
-  holds-spot : (rd level number granule : ℕ) (t : TableRecord) → IsAtSpot list rd level number granule t → HoldsTable (tables_of cells) granule rd level number
+  holds-spot : (rd level number granule : ℕ) (t : TableRecord)
+      → IsAtSpot list rd level number granule t → HoldsTable (tables_of cells) granule rd level number
   holds-spot rd level number granule t spot = record {
     table = t;
     is_held = sym (same granule) ∙ spot.is_held;
@@ -62,7 +60,8 @@ module _ (config : Config) (side : Side) (places : ℕ → CpuPlace) (cells : �
   flat_table-same rd level number = by (find (is_table_at rd level number) list) refl
     where
       by : (found : Option TableCell) → find (is_table_at rd level number) list ≡ found
-          → option_map (λ (c : TableCell). c.granule) (find (is_table_at rd level number) list) ≡ table_granule config.granules (tables_of cells) rd level number
+          → option_map (λ (c : TableCell). c.granule) (find (is_table_at rd level number) list)
+          ≡ table_granule config.granules (tables_of cells) rd level number
       by (Some c) at = ap (option_map (λ (c : TableCell). c.granule)) at ∙ sym (found-granule rd level number c at)
       by None at = ap (option_map (λ (c : TableCell). c.granule)) at ∙ sym (unfound-granule rd level number at _ refl)
 
@@ -74,18 +73,22 @@ module _ (config : Config) (side : Side) (places : ℕ → CpuPlace) (cells : �
       of_table t = option_and_then leaf_of (slice_get t.entries (number % 512))
 
       by : (found : Option TableCell) → find (is_table_at rd level (number / 512)) list ≡ found
-          → option_and_then (λ (c : TableCell). option_and_then leaf_of (slice_get c.table.entries (number % 512))) (find (is_table_at rd level (number / 512)) list)
-          ≡ option_and_then (λ granule. option_and_then (λ (t : TableRecord). option_and_then leaf_of (slice_get t.entries (number % 512))) (tables_of cells granule))
+          → option_and_then (λ (c : TableCell). option_and_then leaf_of (slice_get c.table.entries (number % 512)))
+          (find (is_table_at rd level (number / 512)) list)
+          ≡ option_and_then (λ granule.
+          option_and_then (λ (t : TableRecord). option_and_then leaf_of (slice_get t.entries (number % 512))) (tables_of cells granule))
           (table_granule config.granules (tables_of cells) rd level (number / 512))
       by (Some c) at =
           ap (option_and_then (λ (c : TableCell). option_and_then leaf_of (slice_get c.table.entries (number % 512)))) at
-          ∙ sym (ap (option_and_then (λ granule. option_and_then (λ (t : TableRecord). option_and_then leaf_of (slice_get t.entries (number % 512))) (tables_of cells granule)))
+          ∙ sym (ap (option_and_then (λ granule.
+          option_and_then (λ (t : TableRecord). option_and_then leaf_of (slice_get t.entries (number % 512))) (tables_of cells granule)))
           (found-granule rd level (number / 512) c at)
           ∙ ap (option_and_then (λ (t : TableRecord). option_and_then leaf_of (slice_get t.entries (number % 512))))
           (holds-spot rd level (number / 512) c.granule c.table (found_at_spot list rd level (number / 512) c placed at)).is_held)
       by None at =
           ap (option_and_then (λ (c : TableCell). option_and_then leaf_of (slice_get c.table.entries (number % 512)))) at
-          ∙ sym (ap (option_and_then (λ granule. option_and_then (λ (t : TableRecord). option_and_then leaf_of (slice_get t.entries (number % 512))) (tables_of cells granule)))
+          ∙ sym (ap (option_and_then (λ granule.
+          option_and_then (λ (t : TableRecord). option_and_then leaf_of (slice_get t.entries (number % 512))) (tables_of cells granule)))
           (unfound-granule rd level (number / 512) at _ refl))
 
   pub with_tables-same : with_tables (flat_state config cells) list ≡ flat_state config cells
@@ -107,7 +110,8 @@ module _ (config : Config) (side : Side) (places : ℕ → CpuPlace) (cells : �
   is_over t ipa is = eq-eqb (table_number t.place.level ipa) (place_number t.place) is
 
   -- the entry of a table that covers the address has the number of the table below
-  below-number : (t : TableRecord) (ipa level : ℕ) → level ≡ suc t.place.level → t.place.level ≤ 3 → table_number t.place.level ipa ≡ place_number t.place
+  below-number : (t : TableRecord) (ipa level : ℕ)
+      → level ≡ suc t.place.level → t.place.level ≤ 3 → table_number t.place.level ipa ≡ place_number t.place
       → table_number level ipa ≡ 512 * place_number t.place + entry_index t.place.level ipa
   unfolding entry_index
   below-number t ipa level next last covers =
@@ -120,10 +124,12 @@ module _ (config : Config) (side : Side) (places : ℕ → CpuPlace) (cells : �
     root = w.tables.roots rd r realm
 
     -- what a table of the path has
-    path-held : (granule : ℕ) (t : TableRecord) → IsOnPath list root.table.place.rd root.table.place.level ipa granule t → tables_of cells granule ≡ Some t
+    path-held : (granule : ℕ) (t : TableRecord)
+        → IsOnPath list root.table.place.rd root.table.place.level ipa granule t → tables_of cells granule ≡ Some t
     path-held granule t path = sym (same granule) ∙ path.is_held
 
-    path-realm : (granule : ℕ) (t : TableRecord) → IsOnPath list root.table.place.rd root.table.place.level ipa granule t → realms_of cells t.place.rd ≡ Some r
+    path-realm : (granule : ℕ) (t : TableRecord)
+        → IsOnPath list root.table.place.rd root.table.place.level ipa granule t → realms_of cells t.place.rd ≡ Some r
     path-realm granule t path = ap (realms_of cells) (path.is_realm ∙ root.is_realm) ∙ realm
 
     path-last : (granule : ℕ) (t : TableRecord) → IsOnPath list root.table.place.rd root.table.place.level ipa granule t → t.place.level ≤ 3
@@ -147,7 +153,8 @@ module _ (config : Config) (side : Side) (places : ℕ → CpuPlace) (cells : �
         )
 
     -- a table at the root's level is the root
-    path-top : (granule : ℕ) (t : TableRecord) → IsOnPath list root.table.place.rd root.table.place.level ipa granule t → t.place.level ≡ root.table.place.level
+    path-top : (granule : ℕ) (t : TableRecord)
+        → IsOnPath list root.table.place.rd root.table.place.level ipa granule t → t.place.level ≡ root.table.place.level
         → granule ≡ r.root
     path-top granule t path top =
         let at_start : t.place.level ≡ r.start_level = top ∙ root.is_level in
@@ -157,7 +164,8 @@ module _ (config : Config) (side : Side) (places : ℕ → CpuPlace) (cells : �
         (record { table = t; is_held = path-held granule t path; is_realm = path.is_realm; is_level = top; is_number = number ∙ sym root.is_number }))
 
     -- one below it is linked from the table above
-    path-above : (granule above : ℕ) (t : TableRecord) → IsOnPath list root.table.place.rd root.table.place.level ipa granule t → t.place.level ≡ suc above
+    path-above : (granule above : ℕ) (t : TableRecord)
+        → IsOnPath list root.table.place.rd root.table.place.level ipa granule t → t.place.level ≡ suc above
         → root.table.place.level ≤ above
         → (g : ℕ) × (u : TableRecord) × IsOnPath list root.table.place.rd root.table.place.level ipa g u × LinksTo u ipa granule
     unfolding entry_index
@@ -185,11 +193,13 @@ module _ (config : Config) (side : Side) (places : ℕ → CpuPlace) (cells : �
         )
 
     path-linked : (granule : ℕ) (t : TableRecord) → IsOnPath list root.table.place.rd root.table.place.level ipa granule t
-        → (granule ≡ r.root) ⊎ ((above : ℕ) × (u : TableRecord) × IsOnPath list root.table.place.rd root.table.place.level ipa above u × LinksTo u ipa granule)
+        → (granule ≡ r.root)
+        ⊎ ((above : ℕ) × (u : TableRecord) × IsOnPath list root.table.place.rd root.table.place.level ipa above u × LinksTo u ipa granule)
     path-linked granule t path = by t.place.level refl (cases_lt root.table.place.level t.place.level)
       where
         by : (level : ℕ) → t.place.level ≡ level → (root.table.place.level < t.place.level) ⊎ (t.place.level ≤ root.table.place.level)
-            → (granule ≡ r.root) ⊎ ((above : ℕ) × (u : TableRecord) × IsOnPath list root.table.place.rd root.table.place.level ipa above u × LinksTo u ipa granule)
+            → (granule ≡ r.root)
+            ⊎ ((above : ℕ) × (u : TableRecord) × IsOnPath list root.table.place.rd root.table.place.level ipa above u × LinksTo u ipa granule)
         by level at (inr top) = inl (path-top granule t path (omega (arith, top, path.is_below)))
         by zero at (inl lower) = absurd (omega (arith, lower, at))
         by (suc above) at (inl lower) = inr (path-above granule above t path at (omega (arith, lower, at)))
@@ -201,7 +211,8 @@ module _ (config : Config) (side : Side) (places : ℕ → CpuPlace) (cells : �
         is_held = same r.root ∙ root.is_held;
         is_realm = refl;
         is_below = omega arith;
-        is_over = is_over root.table ipa (ap (λ l. table_number l ipa) root.is_level ∙ root_number r (w.realms.spaces rd r realm) ipa inside ∙ sym root.is_number);
+        is_over = is_over root.table ipa
+            (ap (λ l. table_number l ipa) root.is_level ∙ root_number r (w.realms.spaces rd r realm) ipa inside ∙ sym root.is_number);
       };
       within = omega (arith, within, root.is_level);
       levels = path-last;

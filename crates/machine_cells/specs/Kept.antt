@@ -14,4 +14,5 @@ abbrev pub cells_in : Block → List Cell
 cells_in block = map rc_value block.cells.items
 
 unfoldable pub kept_state : KeptState → State
-kept_state kept = flat_state kept.config (whole.cells_in kept.config.granules (place_in kept.places) (flat_map (λ block. cells_in (rc_value block)) kept.blocks.items))
+kept_state kept = flat_state kept.config
+    (whole.cells_in kept.config.granules (place_in kept.places) (flat_map (λ block. cells_in (rc_value block)) kept.blocks.items))

@@ -53,7 +53,8 @@ linked-single tables apart granule rd level number x y =
       is_level = y.above.is_level ∙ sym x.above.is_level;
       is_number = y.above.is_number ∙ sym x.above.is_number;
     }) in
-    let above = is_prop→PathP (λ j. HoldsTable tables (one j) rd level (number / 512)) (λ j. holds-single tables (one j) rd level (number / 512)) x.above y.above in
+    let above = is_prop→PathP (λ j. HoldsTable tables (one j) rd level (number / 512))
+    (λ j. holds-single tables (one j) rd level (number / 512)) x.above y.above in
     let set : IsSet (Option Entry) = hlevel props in
     λ i. record {
       parent = one i;
@@ -71,7 +72,8 @@ place-single realms rd place = found-single (λ r. IsPlaceOf r place) (hlevel pr
 
 tables-single : (realms : ℕ → Option RealmRecord) (tables : ℕ → Option TableRecord) → IsProp (AreTableCells realms tables)
 tables-single realms tables x y =
-    let single : IsProp (AreTableCells realms tables) = hlevel (props, holds-single tables, linked-single tables x.apart, fits-single, place-single realms) in
+    let single : IsProp (AreTableCells realms tables) =
+    hlevel (props, holds-single tables, linked-single tables x.apart, fits-single, place-single realms) in
     single x y
 
 -- ---- realms and RECs
@@ -92,10 +94,12 @@ runs-single recs cpu rec rd x y =
       is_on = is_prop→PathP (λ j. (same j).cpu ≡ Some cpu) (λ j. on (same j)) x.is_on y.is_on i;
     }
 
-realms-single : (granules : ℕ) (side : Side) (realms : ℕ → Option RealmRecord) (recs : ℕ → Option RecRecord) → IsProp (AreRealmCells granules side realms recs)
+realms-single : (granules : ℕ) (side : Side) (realms : ℕ → Option RealmRecord) (recs : ℕ → Option RecRecord)
+    → IsProp (AreRealmCells granules side realms recs)
 realms-single granules side realms recs = hlevel (props, used-single realms)
 
-recs-single : (places : ℕ → CpuPlace) (realms : ℕ → Option RealmRecord) (recs : ℕ → Option RecRecord) (auxes : ℕ → Bool) → IsProp (AreRecCells places realms recs auxes)
+recs-single : (places : ℕ → CpuPlace) (realms : ℕ → Option RealmRecord) (recs : ℕ → Option RecRecord) (auxes : ℕ → Bool)
+    → IsProp (AreRecCells places realms recs auxes)
 recs-single places realms recs auxes = hlevel (props, runs-single recs)
 
 -- ---- wholes

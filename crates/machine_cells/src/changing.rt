@@ -25,7 +25,8 @@ impl Granules {
     pub(crate) fn make_retag(&mut self, granule: u64, tag: Tag)
         requires { CanRetag (state_in self.old) (record { granule = granule; tag = tag }) }
         ensures size { config_of self.new ≡ config_of self.old }
-        ensures whole { whole_of self.new ≡ whole_changed (config_of self.old) (whole_of self.old) (change.Retagged (record { granule = granule; tag = tag })) }
+        ensures whole { whole_of self.new
+            ≡ whole_changed (config_of self.old) (whole_of self.old) (change.Retagged (record { granule = granule; tag = tag })) }
     {
         self.list.change_tag(Some(TagChange { granule, tag }));
     }
@@ -42,7 +43,8 @@ impl Granules {
     ) -> Result<(), AllocError>
         requires { CanMakeRealm (state_in self.old) rd root width level vmid algo }
         ensures size { config_of self.new ≡ config_of self.old }
-        ensures ok { OnOk result (whole_of self.new ≡ whole_changed (config_of self.old) (whole_of self.old) (change.RealmMade rd root width level vmid algo)) }
+        ensures ok { OnOk result
+            (whole_of self.new ≡ whole_changed (config_of self.old) (whole_of self.old) (change.RealmMade rd root width level vmid algo)) }
         ensures err { OnErr result (whole_of self.new ≡ whole_of self.old) }
     {
         let realm = Realm::from_words(root, width, level, vmid, algo);
@@ -131,7 +133,8 @@ impl Granules {
         requires shaped { IsShapedIn self.old }
         requires can { CanMakeTable (state_in self.old) rd level number rtt entry }
         ensures size { config_of self.new ≡ config_of self.old }
-        ensures ok { OnOk result (whole_of self.new ≡ whole_changed (config_of self.old) (whole_of self.old) (change.TableMade rd level number rtt entry)) }
+        ensures ok { OnOk result
+            (whole_of self.new ≡ whole_changed (config_of self.old) (whole_of self.old) (change.TableMade rd level number rtt entry)) }
         ensures err { OnErr result (whole_of self.new ≡ whole_of self.old) }
     {
         let Some(above) = self.table_at(rd, level - 1, number / 512) else {
@@ -181,7 +184,8 @@ impl Granules {
         requires shaped { IsShapedIn self.old }
         requires can { CanApply (state_in self.old) (change.EntriesChanged rd level entries page realm rec) }
         ensures size { config_of self.new ≡ config_of self.old }
-        ensures whole { whole_of self.new ≡ whole_changed (config_of self.old) (whole_of self.old) (change.EntriesChanged rd level entries page realm rec) }
+        ensures whole { whole_of self.new
+            ≡ whole_changed (config_of self.old) (whole_of self.old) (change.EntriesChanged rd level entries page realm rec) }
     {
         let number = table_changed(entries);
         let at = self.table_kept(rd, level, number);

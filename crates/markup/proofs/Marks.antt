@@ -16,6 +16,7 @@ module _ {M : Type 0} (text : M → List ℕ) where
   unfolding texts
   own_mark_up [] = refl
   own_mark_up (Own piece ∷ pieces) = filter-append marks_up (text piece) (texts text pieces)
-      ∙ ap (λ bytes. filter marks_up (text piece) ++ bytes) (own_mark_up pieces) ∙ sym (filter-append marks_up (text piece) (texts text (filter is_own pieces)))
+      ∙ ap (λ bytes. filter marks_up (text piece) ++ bytes) (own_mark_up pieces)
+      ∙ sym (filter-append marks_up (text piece) (texts text (filter is_own pieces)))
   own_mark_up (Number number ∷ pieces) = filter_behind_plain (decimal number) (texts text pieces) (plain_decimal number) ∙ own_mark_up pieces
   own_mark_up (Text bytes ∷ pieces) = filter_behind_plain (escaped bytes) (texts text pieces) (plain_escaped bytes) ∙ own_mark_up pieces

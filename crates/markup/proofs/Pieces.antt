@@ -15,7 +15,8 @@ module _ {M : Type 0} {text : M → List ℕ} {old new : List ℕ} where
   IsWritten-append piece appended written = record {
     pieces = written.pieces ++ piece ∷ [];
     written = appended ∙ ap (λ bytes. bytes ++ piece_text text piece) written.written
-        ∙ sym (flat_map-append (piece_text text) written.pieces (piece ∷ []) ∙ ap (λ bytes. texts text written.pieces ++ bytes) (append-nil (piece_text text piece)));
+        ∙ sym (flat_map-append (piece_text text) written.pieces (piece ∷ [])
+        ∙ ap (λ bytes. texts text written.pieces ++ bytes) (append-nil (piece_text text piece)));
   }
 
   -- the same, where the text is appended or nothing is

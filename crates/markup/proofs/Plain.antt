@@ -33,12 +33,23 @@ plain_escaped = flat_map-escaped_byte
 plain_glyph : (d : ℕ) (is_below : Bool) → nat_lt d 10 ≡ is_below → is_plain (if is_below then 48 + d else 87 + d) ≡ true
 plain_glyph d true e =
     let below = ltb-true d 10 e in
-    rw (ne_eqb (48 + d) 60 (λ e. omega (arith, below)), ne_eqb (48 + d) 62 (λ e. omega (arith, below)), ne_eqb (48 + d) 34 (λ e. omega arith), ne_eqb (48 + d) 39 (λ e. omega arith)) refl
+    rw (
+      ne_eqb (48 + d) 60 (λ e. omega (arith, below)),
+      ne_eqb (48 + d) 62 (λ e. omega (arith, below)),
+      ne_eqb (48 + d) 34 (λ e. omega arith),
+      ne_eqb (48 + d) 39 (λ e. omega arith),
+    ) refl
 plain_glyph d false e =
-    rw (ne_eqb (87 + d) 60 (λ e. omega arith), ne_eqb (87 + d) 62 (λ e. omega arith), ne_eqb (87 + d) 34 (λ e. omega arith), ne_eqb (87 + d) 39 (λ e. omega arith)) refl
+    rw (
+      ne_eqb (87 + d) 60 (λ e. omega arith),
+      ne_eqb (87 + d) 62 (λ e. omega arith),
+      ne_eqb (87 + d) 34 (λ e. omega arith),
+      ne_eqb (87 + d) 39 (λ e. omega arith),
+    ) refl
 
 -- a choice of two plain texts
-either_plain : (b : Bool) (xs ys : List ℕ) → list_all is_plain xs ≡ true → list_all is_plain ys ≡ true → list_all is_plain (if b then xs else ys) ≡ true
+either_plain : (b : Bool) (xs ys : List ℕ)
+    → list_all is_plain xs ≡ true → list_all is_plain ys ≡ true → list_all is_plain (if b then xs else ys) ≡ true
 either_plain true xs ys first second = first
 either_plain false xs ys first second = second
 

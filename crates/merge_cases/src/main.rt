@@ -1,9 +1,9 @@
 //! Merges each recording of the folder where it runs, and prints its name and what came of it: both texts, or why there are none.
 //! What should come stands in the file `stdout` beside this crate, worked out by hand from docs/RECORDING.md.
 //! It reads every `.events` there in the order of their names. A name that ends in `prefix` is merged up to its first hole, one that
-//! ends in `two` into a history of version 2, in `large` into one of a large machine, in `sizes` for 8 granules and 3 CPUs. One that begins with `rename`
-//! is merged with names for granules: of a memory that ends at 100000 (hex) where it ends in `memory`, for 2 granules where it ends in `few`.
-//! No clause says more than that it is safe. It depends on `merging`, and nothing depends on it.
+//! ends in `two` into a history of version 2, in `large` into one of a large machine, in `sizes` for 8 granules and 3 CPUs. One that begins with
+//! `rename` is merged with names for granules: of a memory that ends at 100000 (hex) where it ends in `memory`, for 2 granules where it ends in
+//! `few`. No clause says more than that it is safe. It depends on `merging`, and nothing depends on it.
 #![tactic(auto)]
 
 use anyhow::{Context, Result};

@@ -1,5 +1,6 @@
 -- How often a CPU has called and returned, against its part of the history.
-use Rattle.std.proofs.Common.{◌≡◌, ℕ, ◌+◌, ◌-◌, ◌<◌, ◌≤◌, Bool, true, false, ◌==◌, List, ◌++◌, length, if◌then◌else◌, refl, sym, ap, ◌∙◌, subst, arith, ⊎_elim, append-nil}
+use Rattle.merging.proofs.Common.{◌++◌, ◌+◌, ◌<◌, ◌∙◌, ◌≡◌, ◌≤◌, Call, Commit, Happened, List, Moment, Return, Stand, ap, append-nil, arith, events_of, false, length, lines_of, refl, stands_with, subst, sym, ℕ}
+use Rattle.std.proofs.Common.{◌-◌, Bool, true, ◌==◌, if◌then◌else◌, ⊎_elim}
 use Rattle.std.proofs.lemmas.Bool.{cases_eq, eq-eqb, ne_eqb}
 use Rattle.std.proofs.lemmas.List.{length_push}
 use Rattle.std.proofs.lemmas.List.Sums.{length-filter, count_by-le-length}
@@ -13,9 +14,7 @@ use Rattle.rmm_spec.specs.CommandText.{IsCommand, IsReply}
 use Rattle.rmm_spec.specs.HistoryText.{History, IsHistory, CanFollow, subhistory_of, cpu_of}
 use Rattle.spec_lemmas.proofs.Records.{subhistory_of-push_same, subhistory_of-push_other}
 use Rattle.history.proofs.SubhistoryLaws.{goes_on}
-use Rattle.recorded_events.specs.Events.{Moment, Call, Commit, Return}
-use Rattle.recorded_events.specs.Table.{Happened}
-use Rattle.merging.specs.Run.{Phase, Idle, Committed, Stand, Fits, phase_after, call_count, return_count, event_count, line_count, stand_after, stands_with, events_of, lines_of}
+use Rattle.merging.specs.Run.{Phase, Idle, Committed, Fits, phase_after, call_count, return_count, event_count, line_count, stand_after}
 use Rattle.merging.specs.Run as run
 
 -- a CPU that isn't idle has a call open
@@ -66,7 +65,8 @@ subhistory_of-others events stand cpu other (Return given) apart =
     subhistory_of-push_other other events (Returned cpu (stand.calls - 1) given) (ne_eqb cpu other apart)
 
 -- all CPUs are counted after a moment that fits
-pub AreCounted-step : (events : List Event) (stands : ℕ → Stand) (slot : Happened) → AreCounted events stands → Fits (stands slot.cpu).phase slot.moment
+pub AreCounted-step : (events : List Event) (stands : ℕ → Stand) (slot : Happened)
+    → AreCounted events stands → Fits (stands slot.cpu).phase slot.moment
     → AreCounted (events ++ events_of (stands slot.cpu) slot.cpu slot.moment) (stands_with stands slot)
 AreCounted-step events stands slot counted fits =
     let stand = stands slot.cpu in
@@ -91,7 +91,8 @@ AreCounted-step events stands slot counted fits =
           (λ (same : cpu ≡ slot.cpu).
           subst (λ s. returned s) (ap (λ b. if b then stand_after stand slot else stands cpu) (sym (eq-eqb cpu slot.cpu same))) both.1)
           (λ (other : cpu ≡ slot.cpu → ⊥).
-          subst (λ s. returned s) (ap (λ b. if b then stand_after stand slot else stands cpu) (sym (ne_eqb cpu slot.cpu other))) (counted.returns cpu))
+          subst (λ s. returned s)
+          (ap (λ b. if b then stand_after stand slot else stands cpu) (sym (ne_eqb cpu slot.cpu other))) (counted.returns cpu))
           (cases_eq cpu slot.cpu);
     }
 

@@ -1,20 +1,16 @@
 -- What outputs hold where one of them fails within a line.
-use Rattle.std.proofs.Common.{◌≡◌, ℕ, zero, suc, ◌+◌, ◌≤◌, false, List, [], ◌∷◌, ◌++◌, length, take, drop, map, ◌-◌, take-append-drop, Option, Some, refl, sym, ap, ◌∙◌, subst, arith, append_assoc, append-nil, length-append}
-use Rattle.std.specs.Prelude.{slice_get}
-use Rattle.std.specs.Io.KnownBytes.{Appends}
+use Rattle.merging.proofs.Common.{◌++◌, ◌+◌, ◌∙◌, ◌∷◌, ◌≡◌, ◌≤◌, Appends, Call, Commit, Happened, List, Moment, Option, Return, Some, Stand, [], ap, append-nil, append_assoc, arith, event_parts, events_from, events_of, false, length, line_parts, lines_from, lines_of, lines_text, map, refl, slice_get, stands_after, stands_with, starts, subst, suc, sym, take, zero, ℕ}
+use Rattle.std.proofs.Common.{drop, ◌-◌, take-append-drop, length-append}
 use Rattle.std.proofs.lemmas.List.{take_rest}
-use Rattle.rmm_spec.specs.CertificateText.{certificate_text, line_parts}
-use Rattle.rmm_spec.specs.HistoryText.{config_parts, event_parts, history_text}
-use Rattle.rmm_spec.specs.Text.{lines_text}
+use Rattle.rmm_spec.specs.CertificateText.{certificate_text}
+use Rattle.rmm_spec.specs.HistoryText.{config_parts, history_text}
 use Rattle.spec_lemmas.proofs.Lines.{lines_text-append}
 use Rattle.rmm_spec.specs.declared.event.Event.{Event}
 use Rattle.rmm_spec.specs.declared.line.Line.{Line}
 use Rattle.rmm_spec.specs.declared.command.Command.{Command}
 use Rattle.rmm_spec.specs.declared.reply.Reply.{Reply}
-use Rattle.recorded_events.specs.Events.{Moment, Call, Commit, Return}
-use Rattle.recorded_events.specs.Table.{Happened}
 use Rattle.merging.specs.Merge.{Merge, history_of, event_lines, commit_lines, text_of}
-use Rattle.merging.specs.Run.{Stand, events_merged, lines_merged, starts, stands_with, stands_after, events_of, events_from, lines_of, lines_from}
+use Rattle.merging.specs.Run.{events_merged, lines_merged}
 use Rattle.merging.specs.Written.{Held, GrowsUpTo, HasFront, LacksEnd, outputs, IsCut, IsUnwritten, Outputs}
 use Rattle.merging.specs.declared.fault.WriteFault.{WriteFault}
 use Rattle.merging.specs.declared.fault.WriteFault.TheVariants.{History, Certificate, NoMemory}
@@ -42,18 +38,21 @@ module _ (xs ys more : List ℕ) where
       → GrowsUpTo (rest ++ more) (xs ++ ys ++ more) first third
   GrowsUpTo-then rest first second third one two = record {
     front = xs ++ two.front;
-    is_text = ap (λ zs. zs ++ more) (ap (λ zs. xs ++ zs) two.is_text ∙ sym (append_assoc xs two.front rest)) ∙ append_assoc (xs ++ two.front) rest more;
+    is_text = ap (λ zs. zs ++ more) (ap (λ zs. xs ++ zs) two.is_text ∙ sym (append_assoc xs two.front rest))
+        ∙ append_assoc (xs ++ two.front) rest more;
     appends = Appends-then first second third xs two.front one two.appends;
   }
 
-  pub HasFront-then : (first second third : Held) → Appends first.contents second.contents xs → HasFront ys second third → HasFront (xs ++ ys ++ more) first third
+  pub HasFront-then : (first second third : Held)
+      → Appends first.contents second.contents xs → HasFront ys second third → HasFront (xs ++ ys ++ more) first third
   HasFront-then first second third one two = record {
     rest = two.rest ++ more;
     grows = GrowsUpTo-then two.rest first.contents second.contents third.contents one two.grows;
     going = two.going;
   }
 
-  pub LacksEnd-then : (first second third : Held) → Appends first.contents second.contents xs → LacksEnd ys second third → LacksEnd (xs ++ ys ++ more) first third
+  pub LacksEnd-then : (first second third : Held)
+      → Appends first.contents second.contents xs → LacksEnd ys second third → LacksEnd (xs ++ ys ++ more) first third
   LacksEnd-then first second third one two = record {
     rest = two.rest ++ more;
     some = omega (arith, two.some, length-append two.rest more);
@@ -69,7 +68,8 @@ HasFront-none text held none going = record { rest = text; grows = record { fron
 
 -- one of them fails after some lines, and before others
 pub IsCut-then : (fault : WriteFault) (h0 h1 h2 c0 c1 c2 : Held) (xs ys more us vs rest : List ℕ) → Appends h0.contents h1.contents xs
-    → Appends c0.contents c1.contents us → IsCut ys vs (outputs h1 h2 c1 c2) fault → IsCut (xs ++ ys ++ more) (us ++ vs ++ rest) (outputs h0 h2 c0 c2) fault
+    → Appends c0.contents c1.contents us → IsCut ys vs (outputs h1 h2 c1 c2) fault
+    → IsCut (xs ++ ys ++ more) (us ++ vs ++ rest) (outputs h0 h2 c0 c2) fault
 IsCut-then History h0 h1 h2 c0 c1 c2 xs ys more us vs rest h c cut =
     (LacksEnd-then xs ys more h0 h1 h2 h cut.0, HasFront-then us vs rest c0 c1 c2 c cut.1)
 IsCut-then Certificate h0 h1 h2 c0 c1 c2 xs ys more us vs rest h c cut =
@@ -118,7 +118,8 @@ module _ (events : List Happened) (stamp : ℕ) (slot : Happened) (is : slice_ge
         lines_text (map event_parts front.0),
         ap (λ es. lines_text (map event_parts es)) front.1 ∙ lines_of_both event_parts (events_from starts (take (stamp + 1) events)) front.0
             ∙ ap (λ text. text ++ lines_text (map event_parts front.0))
-            (ap (λ es. lines_text (map event_parts es)) (ap (events_from starts) (take_next events stamp slot is) ∙ events_from-push starts (take stamp events) slot)
+            (ap (λ es. lines_text (map event_parts es))
+            (ap (events_from starts) (take_next events stamp slot is) ∙ events_from-push starts (take stamp events) slot)
             ∙ lines_of_both event_parts before own),
       )
 
@@ -138,7 +139,8 @@ module _ (events : List Happened) (stamp : ℕ) (slot : Happened) (is : slice_ge
       )
 
   -- an output fails at that moment's line
-  pub IsCut-at : (returns : ℕ → ℕ) (fault : WriteFault) (stands : ℕ → Stand) (h0 h1 h2 c0 c1 c2 : Held) → stands ≡ stands_after starts (take stamp events)
+  pub IsCut-at : (returns : ℕ → ℕ) (fault : WriteFault) (stands : ℕ → Stand) (h0 h1 h2 c0 c1 c2 : Held)
+      → stands ≡ stands_after starts (take stamp events)
       → Appends h0.contents h1.contents (lines_text (map event_parts (events_from starts (take stamp events))))
       → Appends c0.contents c1.contents (lines_text (map line_parts (lines_from returns starts (take stamp events))))
       → IsCut (event_lines stands slot) (commit_lines returns stands slot) (outputs h1 h2 c1 c2) fault
@@ -177,8 +179,8 @@ module _ (returns : ℕ) (stand : Stand) (cpu : ℕ) (moment : Moment) (line : L
       subst IsCutMoment (sym is) (subst (λ text. IsCut text [] both fault) (is_line ∙ ap (text_of returns stand cpu) is) cut)
 
 -- and as the moment is told, of a CPU that is one of all
-pub IsCut-told : (both : Outputs) (fault : WriteFault) (stands : ℕ → Stand) (returns : ℕ → ℕ) (event told : Happened) (stand : Stand) (count : ℕ) → event ≡ told
-    → stands event.cpu ≡ stand → count ≡ returns event.cpu
+pub IsCut-told : (both : Outputs) (fault : WriteFault) (stands : ℕ → Stand) (returns : ℕ → ℕ) (event told : Happened) (stand : Stand) (count : ℕ)
+    → event ≡ told → stands event.cpu ≡ stand → count ≡ returns event.cpu
     → IsCut (lines_text (map event_parts (events_of stand event.cpu event.moment)))
     (lines_text (map line_parts (lines_of count stand event.cpu event.moment))) both fault
     → IsCut (event_lines stands told) (commit_lines returns stands told) both fault
@@ -200,7 +202,8 @@ whole_history merge =
     ∙ sym (lines_text-append (config_parts merge.config ∷ []) (map event_parts (events_merged merge.events)))
 
 -- the history's header, and the lines behind it
-pub IsCut-written : (merge : Merge) (fault : WriteFault) (h0 h1 h2 c0 c2 : Held) → Appends h0.contents h1.contents (lines_text (config_parts merge.config ∷ []))
+pub IsCut-written : (merge : Merge) (fault : WriteFault) (h0 h1 h2 c0 c2 : Held)
+    → Appends h0.contents h1.contents (lines_text (config_parts merge.config ∷ []))
     → IsCut (history_lines merge) (certificate_text (lines_merged merge.events)) (outputs h1 h2 c0 c2) fault
     → IsCut (history_text (history_of merge)) (certificate_text (lines_merged merge.events)) (outputs h0 h2 c0 c2) fault
 IsCut-written merge History h0 h1 h2 c0 c2 header cut =

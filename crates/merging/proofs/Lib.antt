@@ -1,3 +1,4 @@
+pub mod Common
 mod CountLaws
 mod RunLaws
 mod StepLaws

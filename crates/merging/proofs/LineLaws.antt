@@ -1,16 +1,14 @@
 -- The lines of both texts, as they are put.
-use Rattle.std.proofs.Common.{◌≡◌, ℕ, List, [], ◌∷◌, ◌++◌, Option, Some, None, refl, sym, ap, ◌∙◌, append_assoc, append-nil}
-use Rattle.std.specs.Prelude.{map}
-use Rattle.std.specs.Io.KnownBytes.{Appends}
+use Rattle.merging.proofs.Common.{◌++◌, ◌∙◌, ◌∷◌, ◌≡◌, Appends, List, Option, Some, [], ap, append-nil, append_assoc, line_parts, lines_text, map, refl, sym, ℕ}
+use Rattle.std.proofs.Common.{None}
 use Rattle.std.proofs.lemmas.List.{map-append}
 use Rattle.history.proofs.WriteLaws.{event_text-called, event_text-returned}
 use Rattle.rmi_codec.specs.Head.{head_text}
 use Rattle.rmi_codec.proofs.WriteLaws.{line_text-head}
 use Rattle.spec_lemmas.proofs.Lines.{lines_text-append}
 use Rattle.spec_lemmas.proofs.Texts.{reply_parts-some}
-use Rattle.rmm_spec.specs.CertificateText.{line_parts}
 use Rattle.rmm_spec.specs.CommandText.{reply_parts, reply_text}
-use Rattle.rmm_spec.specs.Text.{line_text, lines_text}
+use Rattle.rmm_spec.specs.Text.{line_text}
 use Rattle.rmm_spec.specs.declared.line.Line.TheVariants.{Keep, Unfinished}
 use Rattle.rmm_spec.specs.declared.reply.Reply.{Reply}
 
@@ -18,7 +16,8 @@ pub line_text-kept : (cpu number : ℕ) → line_text (line_parts (Keep cpu numb
 unfolding line_parts head_text
 line_text-kept cpu number = refl
 
-pub line_text-claimed : (cpu number : ℕ) (given : Reply) → line_text (line_parts (Unfinished cpu number given)) ≡ head_text 117 cpu number ++ 32 ∷ reply_text given
+pub line_text-claimed : (cpu number : ℕ) (given : Reply)
+    → line_text (line_parts (Unfinished cpu number given)) ≡ head_text 117 cpu number ++ 32 ∷ reply_text given
 unfolding line_parts
 line_text-claimed cpu number given = line_text-head 117 cpu number (reply_parts given) (reply_parts-some given)
 
@@ -30,7 +29,8 @@ pub appends_nothing : (known : Option (List ℕ)) → Appends known known []
 appends_nothing None = tt
 appends_nothing (Some xs) = sym (append-nil xs)
 
-pub Appends-then : (first second third : Option (List ℕ)) (xs ys : List ℕ) → Appends first second xs → Appends second third ys → Appends first third (xs ++ ys)
+pub Appends-then : (first second third : Option (List ℕ)) (xs ys : List ℕ)
+    → Appends first second xs → Appends second third ys → Appends first third (xs ++ ys)
 Appends-then None second third xs ys one two = tt
 Appends-then (Some first) None third xs ys one two = absurd one
 Appends-then (Some first) (Some second) None xs ys one two = absurd two

@@ -1,13 +1,13 @@
 -- Laws on events whose granules have names.
-use Rattle.std.proofs.Common.{◌≡◌, ℕ, zero, suc, ◌+◌, ◌<◌, ◌≤◌, List, [], ◌∷◌, ◌++◌, length, take, drop, Option, Some, if◌then◌else◌, refl, sym, ap, ◌∙◌, subst, arith, append_assoc, append-nil}
-use Rattle.std.specs.Prelude.{slice_get, ◌==◌}
-use Rattle.std.proofs.lemmas.Option.{none-some, slice_get_within}
+use Rattle.merging.proofs.Common.{◌++◌, ◌+◌, ◌<◌, ◌∙◌, ◌∷◌, ◌≡◌, ◌≤◌, Call, Commit, Happened, List, Moment, Option, Return, Some, [], ap, append-nil, append_assoc, arith, known_front, length, no_lasts, refl, returns_in, slice_get, slice_get_within, starts, subst, suc, sym, take, zero, ℕ}
+use Rattle.std.proofs.Common.{drop, if◌then◌else◌}
+use Rattle.std.specs.Prelude.{◌==◌}
+use Rattle.std.proofs.lemmas.Option.{none-some}
 use Rattle.rmm_spec.specs.declared.function_id.FunctionId.{FunctionId}
-use Rattle.recorded_events.specs.Events.{Moment, Call, Commit, Return}
-use Rattle.recorded_events.specs.Table.{Happened, Table}
+use Rattle.recorded_events.specs.Table.{Table}
 use Rattle.granule_names.proofs.NameLaws.{names_from-append}
 use Rattle.granule_names.specs.Names.{names_from}
-use Rattle.granule_names.specs.Renamed.{lasts_with, no_lasts, moment_addresses, renamed_moment}
+use Rattle.granule_names.specs.Renamed.{lasts_with, moment_addresses, renamed_moment}
 use Rattle.granule_names.specs.declared.names.Limits.{Limits}
 use Rattle.rmm_spec.specs.HistoryText.{Config}
 use Rattle.recorded_events.specs.Faults.{IsTableOf}
@@ -16,7 +16,7 @@ use Rattle.merging.specs.Texts.{naming_asked, config_asked, IsMergedText}
 use Rattle.merging.specs.declared.texts.Asked.{Asked}
 use Rattle.merging.specs.declared.merged.Extent.TheVariants.{Whole}
 use Rattle.merging.specs.Naming.{addresses_from, names_of, named_slot, told_slot, named_from, events_named, lasts_after, HasTooMany, IsUnnamed, IsUnnamedNext}
-use Rattle.merging.specs.Run.{starts, return_count, returns_in, known_front, IsRun}
+use Rattle.merging.specs.Run.{return_count, IsRun}
 use Rattle.merging.specs.declared.naming.NamingFault.{NamingFault}
 use Rattle.merging.specs.declared.naming.NamingFault.TheVariants as fault
 use Rattle.merging.specs.declared.naming.Naming.{Naming}
@@ -40,7 +40,8 @@ addresses_from-push memory lasts (first ∷ slots) slot =
     ∙ sym (append_assoc own (addresses_from memory rest slots) (moment_addresses memory (lasts_after rest slots slot.cpu) slot.moment))
 
 pub names_of-push : (memory : ℕ) (slots : List Happened) (slot : Happened)
-    → names_of memory (slots ++ slot ∷ []) ≡ names_from (names_of memory slots) (moment_addresses memory (lasts_after no_lasts slots slot.cpu) slot.moment)
+    → names_of memory (slots ++ slot ∷ [])
+    ≡ names_from (names_of memory slots) (moment_addresses memory (lasts_after no_lasts slots slot.cpu) slot.moment)
 names_of-push memory slots slot =
     ap (names_from []) (addresses_from-push memory no_lasts slots slot)
     ∙ names_from-append [] (addresses_from memory no_lasts slots) (moment_addresses memory (lasts_after no_lasts slots slot.cpu) slot.moment)
@@ -49,7 +50,8 @@ names_of-push memory slots slot =
 
 pub named_from-get : (naming : Naming) (granules : ℕ) (lasts : ℕ → Option FunctionId) (slots : List Happened) (place : ℕ) (slot : Happened)
     → slice_get slots place ≡ Some slot
-    → slice_get (named_from naming granules lasts slots) place ≡ Some (named_slot naming granules (lasts_after lasts (take place slots) slot.cpu) slot)
+    → slice_get (named_from naming granules lasts slots) place
+    ≡ Some (named_slot naming granules (lasts_after lasts (take place slots) slot.cpu) slot)
 named_from-get naming granules lasts [] place slot is = absurd (none-some slot is)
 named_from-get naming granules lasts (first ∷ slots) zero slot is =
     let same : first ≡ slot = cc in ap (λ (s : Happened). Some (named_slot naming granules (lasts s.cpu) s)) same
@@ -60,11 +62,13 @@ pub length-named_from : (naming : Naming) (granules : ℕ) (lasts : ℕ → Opti
 length-named_from naming granules lasts [] = refl
 length-named_from naming granules lasts (slot ∷ slots) = ap suc (length-named_from naming granules (lasts_with lasts slot) slots)
 
-pub named_slot-cpu : (naming : Naming) (granules : ℕ) (last : Option FunctionId) (slot : Happened) → (named_slot naming granules last slot).cpu ≡ slot.cpu
+pub named_slot-cpu : (naming : Naming) (granules : ℕ) (last : Option FunctionId) (slot : Happened)
+    → (named_slot naming granules last slot).cpu ≡ slot.cpu
 named_slot-cpu AsRecorded granules last slot = refl
 named_slot-cpu (ByNames names) granules last slot = refl
 
-pub named_slot-line : (naming : Naming) (granules : ℕ) (last : Option FunctionId) (slot : Happened) → (named_slot naming granules last slot).line ≡ slot.line
+pub named_slot-line : (naming : Naming) (granules : ℕ) (last : Option FunctionId) (slot : Happened)
+    → (named_slot naming granules last slot).line ≡ slot.line
 named_slot-line AsRecorded granules last slot = refl
 named_slot-line (ByNames names) granules last slot = refl
 
@@ -140,7 +144,8 @@ pub IsUnnamed-next : (limits : Limits) (slots : List Happened) (place : ℕ) (sl
     → lasts ≡ lasts_after no_lasts (take place slots) → IsUnnamedNext limits names lasts slot given → IsUnnamed limits slots given
 IsUnnamed-next limits slots place slot names lasts (fault.TooMany line) is are few functions next =
     HasTooMany-next limits slots place slot line is next.0 (subst (λ ns. length ns ≤ limits.most) are few)
-    (subst (λ ls. limits.most < length (names_from (names_of limits.memory (take place slots)) (moment_addresses limits.memory (ls slot.cpu) slot.moment))) functions
+    (subst (λ ls. limits.most
+    < length (names_from (names_of limits.memory (take place slots)) (moment_addresses limits.memory (ls slot.cpu) slot.moment))) functions
     (subst (λ ns. limits.most < length (names_from ns (moment_addresses limits.memory (lasts slot.cpu) slot.moment))) are next.1))
 IsUnnamed-next limits slots place slot names lasts fault.NoMemory is are few functions next =
     let within = slice_get_within slots place slot is in

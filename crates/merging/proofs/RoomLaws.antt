@@ -1,23 +1,24 @@
 -- A line fits into the buffer for one: a call's number has at most six digits.
-use Rattle.std.proofs.Common.{◌≡◌, ℕ, zero, suc, ◌+◌, ◌-◌, ◌<◌, ◌≤◌, true, List, [], ◌∷◌, ◌++◌, length, take, if◌then◌else◌, nat_lt, refl, sym, subst, arith, append_assoc, append-nil, length-append}
+use Rattle.merging.proofs.Common.{◌++◌, ◌+◌, ◌<◌, ◌∷◌, ◌≡◌, ◌≤◌, Call, Commit, Happened, List, Moment, Return, Stand, [], append-nil, append_assoc, arith, event_parts, events_from, events_of, length, line_parts, lines_text, refl, stands_after, stands_with, starts, subst, suc, sym, take, zero, ℕ}
+use Rattle.std.proofs.Common.{◌-◌, true, if◌then◌else◌, nat_lt, length-append}
 use Rattle.std.specs.Prelude.{Result, Ok, Err, OnErr, is_err}
 use Rattle.line_pieces.proofs.LineLengths.{length-line_text, width-called, width-returned, width-config, width-line}
-use Rattle.rmm_spec.specs.CertificateText.{line_parts}
-use Rattle.rmm_spec.specs.HistoryText.{Config, IsConfig, config_parts, event_parts}
-use Rattle.rmm_spec.specs.Text.{line_text, lines_text}
+use Rattle.rmm_spec.specs.HistoryText.{Config, IsConfig, config_parts}
+use Rattle.rmm_spec.specs.Text.{line_text}
 use Rattle.rmm_spec.specs.declared.event.Event.{Event}
 use Rattle.rmm_spec.specs.declared.event.Event.TheVariants as event
 use Rattle.rmm_spec.specs.declared.line.Line.TheVariants as line
-use Rattle.recorded_events.specs.Events.{Moment, Call, Commit, Return, IsMoment}
-use Rattle.recorded_events.specs.Table.{Happened, IsHappened}
+use Rattle.recorded_events.specs.Events.{IsMoment}
+use Rattle.recorded_events.specs.Table.{IsHappened}
 use Rattle.merging.specs.Merge.{AreNumbered, CanMerge, moment_text, text_of}
-use Rattle.merging.specs.Run.{Stand, IsRun, starts, stands_with, stands_after, events_of, events_from}
+use Rattle.merging.specs.Run.{IsRun}
 use Rattle.merging.proofs.CountLaws.{AreCounted, AreCounted-step, IsLine-commit, calls-lt}
 use Rattle.merging.proofs.CutLaws.{length-events_front}
 
 -- ---- how often a CPU has called
 
-AreCounted-after : (cpus n : ℕ) (before : List Event) (stands : ℕ → Stand) (slots : List Happened) → AreCounted before stands → IsRun cpus stands slots
+AreCounted-after : (cpus n : ℕ) (before : List Event) (stands : ℕ → Stand) (slots : List Happened)
+    → AreCounted before stands → IsRun cpus stands slots
     → AreCounted (before ++ events_from stands (take n slots)) (stands_after stands (take n slots))
 AreCounted-after cpus zero before stands slots counted run = subst (λ es. AreCounted es stands) (sym (append-nil before)) counted
 AreCounted-after cpus (suc n) before stands [] counted run = subst (λ es. AreCounted es stands) (sym (append-nil before)) counted
@@ -53,13 +54,17 @@ text_short returns stand cpu (Commit given) below few is =
     let kept = nat_lt stand.returns returns in
     let committed = if kept then line.Keep cpu (stand.calls - 1) else line.Unfinished cpu (stand.calls - 1) given in
     let parts = line_parts committed in
-    omega (arith, ended parts 184 (omega (arith, length-line_text parts, width-line committed (IsLine-commit kept cpu (stand.calls - 1) given below number is))))
+    omega (
+      arith,
+      ended parts 184 (omega (arith, length-line_text parts, width-line committed (IsLine-commit kept cpu (stand.calls - 1) given below number is))),
+    )
 text_short returns stand cpu (Return given) below few is =
     let number : stand.calls - 1 < 1000000 = omega (arith, few) in
     let parts = event_parts (event.Returned cpu (stand.calls - 1) given) in
     omega (arith, ended parts 184 (omega (arith, length-line_text parts, width-returned cpu (stand.calls - 1) given below number is)))
 
-pub moment_short : (returns : ℕ) (stand : Stand) (slot : Happened) → IsHappened slot → stand.calls < 1000000 → length (moment_text returns stand slot) ≤ 256
+pub moment_short : (returns : ℕ) (stand : Stand) (slot : Happened)
+    → IsHappened slot → stand.calls < 1000000 → length (moment_text returns stand slot) ≤ 256
 moment_short returns stand slot happened few = text_short returns stand slot.cpu slot.moment happened.cpu few happened.moment
 
 -- memory isn't refused where there is room

@@ -1,17 +1,16 @@
 -- Laws on what happened, with one moment more at the end.
-use Rattle.std.proofs.Common.{◌≡◌, ℕ, zero, suc, ◌+◌, ◌<◌, ◌≤◌, Bool, true, false, List, [], ◌∷◌, ◌++◌, length, take, get_or, set, Option, Some, None, if◌then◌else◌, refl, sym, ap, ◌∙◌, subst, arith, ⊎_elim, append_assoc, append-nil, add-one, length-append}
-use Rattle.std.specs.Prelude.{slice_get, slice_index, ◌==◌}
+use Rattle.merging.proofs.Common.{◌++◌, ◌+◌, ◌<◌, ◌∙◌, ◌∷◌, ◌≡◌, ◌≤◌, Call, Commit, Happened, List, Moment, Option, Return, Some, Stand, [], ap, append-nil, append_assoc, arith, events_from, events_of, false, known_front, length, lines_from, lines_of, refl, returns_in, slice_get, slice_get_within, stand_at, stand_seen, stands_after, stands_in, stands_with, starts, subst, suc, sym, take, zero, ℕ}
+use Rattle.std.proofs.Common.{Bool, true, get_or, set, None, if◌then◌else◌, ⊎_elim, add-one, length-append}
+use Rattle.std.specs.Prelude.{slice_index, ◌==◌}
 use Rattle.std.specs.List.{AllByRecursion}
 use Rattle.std.proofs.Math.Seq.{take-suc, take-length}
 use Rattle.std.proofs.lemmas.Bool.{cases_eq, eq-eqb, ne_eqb}
-use Rattle.std.proofs.lemmas.Option.{none-some, slice_get_within, get_or_from_slice_get}
+use Rattle.std.proofs.lemmas.Option.{none-some, get_or_from_slice_get}
 use Rattle.std.proofs.lemmas.List.{get_or-set_same, get_or-set_other, length-set, length-map, length-take, map-set}
 use Rattle.rmm_spec.specs.Cell.{put}
 use Rattle.spec_lemmas.proofs.Texts.{AllByRecursion-append}
-use Rattle.recorded_events.specs.Events.{Moment, Call, Commit, Return}
-use Rattle.recorded_events.specs.Table.{Happened, IsHappened, slot_at}
-use Rattle.merging.specs.Run.{Stand, start, stand_at, stand_after, stands_with, stands_after, CanFollow, IsRun, starts, call_count, return_count, returns_in, events_of, events_from, lines_of, lines_from, known_front}
-use Rattle.merging.specs.Seen.{stand_seen, stands_in}
+use Rattle.recorded_events.specs.Table.{IsHappened, slot_at}
+use Rattle.merging.specs.Run.{start, stand_after, CanFollow, IsRun, call_count, return_count}
 use Rattle.merging.specs.Merge.{Walked, CanMerge, IsStep, AreFew, AreReturns, IsWalkedTo}
 use Rattle.merging.specs.declared.cpu.Cpu.{Cpu}
 use Rattle.merging.proofs.CountLaws.{length-events_of, length-lines_of}
@@ -62,7 +61,8 @@ known_front-none (Some slot ∷ slots) (suc stamp) within none =
     let less : stamp ≤ length (known_front slots) = omega (arith, within) in
     ap suc (known_front-none slots stamp less none)
 
-pub known_front-some : (slots : List (Option Happened)) (stamp : ℕ) (slot : Happened) → stamp ≤ length (known_front slots) → slot_at slots stamp ≡ Some slot
+pub known_front-some : (slots : List (Option Happened)) (stamp : ℕ) (slot : Happened)
+    → stamp ≤ length (known_front slots) → slot_at slots stamp ≡ Some slot
     → slice_get (known_front slots) stamp ≡ Some slot
 known_front-some [] stamp slot within is = absurd (none-some slot is)
 known_front-some (None ∷ slots) zero slot within is = absurd (none-some slot is)
@@ -72,7 +72,8 @@ known_front-some (Some first ∷ slots) (suc stamp) slot within is =
     known_front-some slots stamp slot (let less : stamp ≤ length (known_front slots) = omega (arith, within) in less) is
 
 -- what is known is at its stamp
-pub known_front-slot_at : (slots : List (Option Happened)) (stamp : ℕ) → stamp < length (known_front slots) → (slot : Happened) × (slot_at slots stamp ≡ Some slot)
+pub known_front-slot_at : (slots : List (Option Happened)) (stamp : ℕ)
+    → stamp < length (known_front slots) → (slot : Happened) × (slot_at slots stamp ≡ Some slot)
 known_front-slot_at [] stamp within = absurd (omega (arith, within))
 known_front-slot_at (None ∷ slots) stamp within = absurd (omega (arith, within))
 known_front-slot_at (Some slot ∷ slots) zero within = (slot, refl)
@@ -219,7 +220,8 @@ return_count-le (Commit given) = omega arith
 return_count-le (Return given) = omega arith
 
 -- a moment more is one call and one return more at most
-one_more : (b : Bool) (own other : Stand) (slot : Happened) (bound : ℕ) → (own.calls ≤ bound) × (own.returns ≤ bound) → (other.calls ≤ bound) × (other.returns ≤ bound)
+one_more : (b : Bool) (own other : Stand) (slot : Happened) (bound : ℕ)
+    → (own.calls ≤ bound) × (own.returns ≤ bound) → (other.calls ≤ bound) × (other.returns ≤ bound)
     → ((if b then stand_after own slot else other).calls ≤ suc bound) × ((if b then stand_after own slot else other).returns ≤ suc bound)
 one_more true own other slot bound few others =
     (omega (arith, few.0, call_count-le slot.moment), omega (arith, few.1, return_count-le slot.moment))
@@ -234,7 +236,8 @@ few_after (slot ∷ slots) stands bound few cpu =
     (omega (arith, rest.0), omega (arith, rest.1))
 
 -- no CPU has called or returned more often than there are stamps
-pub AreFew-walked : (events : List Happened) (stamp : ℕ) (stands : ℕ → Stand) → stands ≡ stands_after starts (take stamp events) → stamp ≤ 2000000 → AreFew stands
+pub AreFew-walked : (events : List Happened) (stamp : ℕ) (stands : ℕ → Stand)
+    → stands ≡ stands_after starts (take stamp events) → stamp ≤ 2000000 → AreFew stands
 AreFew-walked events stamp stands are below =
     let few = few_after (take stamp events) starts 0 (λ cpu. (omega arith, omega arith)) in
     let short : length (take stamp events) ≤ stamp = omega (arith, length-take stamp events) in
@@ -244,5 +247,6 @@ AreFew-walked events stamp stands are below =
     })
 
 -- the returns of the first moments, where these are all
-pub AreReturns-whole : (returns : List ℕ) (slots : List Happened) (stamp : ℕ) → stamp ≡ length slots → AreReturns returns (take stamp slots) → AreReturns returns slots
+pub AreReturns-whole : (returns : List ℕ) (slots : List Happened) (stamp : ℕ)
+    → stamp ≡ length slots → AreReturns returns (take stamp slots) → AreReturns returns slots
 AreReturns-whole returns slots stamp all are = subst (AreReturns returns) (ap (λ n. take n slots) all ∙ take-length slots) are

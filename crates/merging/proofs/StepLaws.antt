@@ -1,12 +1,10 @@
 -- One more moment: what a CPU's phase tells, what is refused, and where all CPUs stand then.
-use Rattle.std.proofs.Common.{◌≡◌, ℕ, zero, suc, ◌+◌, ◌<◌, List, [], ◌∷◌, ◌++◌, length, take, drop, get_or, set, Some, refl, sym, ap, ◌∙◌, subst, arith, take-append-drop, drop-cons, add-one}
-use Rattle.std.specs.Prelude.{slice_get}
-use Rattle.std.proofs.lemmas.Option.{slice_get_within, get_or_from_slice_get}
+use Rattle.merging.proofs.Common.{◌++◌, ◌+◌, ◌<◌, ◌∙◌, ◌∷◌, ◌≡◌, Happened, List, Some, Stand, [], ap, arith, events_from, length, lines_from, refl, returns_in, slice_get, slice_get_within, stand_at, stand_seen, stands_in, stands_with, starts, subst, suc, sym, take, zero, ℕ}
+use Rattle.std.proofs.Common.{drop, get_or, set, take-append-drop, drop-cons, add-one}
+use Rattle.std.proofs.lemmas.Option.{get_or_from_slice_get}
 use Rattle.std.proofs.lemmas.List.{get_or-map}
-use Rattle.recorded_events.specs.Table.{Happened}
 use Rattle.rmm_spec.specs.Cell.{put}
-use Rattle.merging.specs.Run.{Stand, start, starts, stand_at, stand_after, stands_with, events_from, lines_from, returns_in}
-use Rattle.merging.specs.Seen.{stand_seen, stands_in}
+use Rattle.merging.specs.Run.{start, stand_after}
 use Rattle.merging.specs.Merge.{Walked, IsWalkedTo}
 use Rattle.merging.specs.Refusals.{Refuses, IsRefused}
 use Rattle.merging.specs.declared.cpu.Cpu.{Cpu}
@@ -45,7 +43,8 @@ IsRefused-next events stamp slot cpus walked line refusal to is is_line refused 
 
 -- ---- CPUs
 
-pub stands_in-at : (cpus : List Cpu) (at : ℕ) (cpu : Cpu) → at < length cpus → cpu ≡ get_or cpus at cpu → stand_at (stands_in cpus) at ≡ stand_seen cpu
+pub stands_in-at : (cpus : List Cpu) (at : ℕ) (cpu : Cpu)
+    → at < length cpus → cpu ≡ get_or cpus at cpu → stand_at (stands_in cpus) at ≡ stand_seen cpu
 stands_in-at cpus at cpu within is = get_or-map stand_seen cpus at cpu start within ∙ ap stand_seen (sym is)
 
 -- before their first moment
@@ -56,15 +55,19 @@ stands_in-start cpus each = λ i other. own other i
     own : (at : ℕ) → stand_at (stands_in cpus) at ≡ start
     own at = by_length cpus at each
       where
-        by_length : (cs : List Cpu) (n : ℕ) → ((k : ℕ) (other : Cpu) → k < length cs → stand_seen (get_or cs k other) ≡ start) → stand_at (stands_in cs) n ≡ start
+        by_length : (cs : List Cpu) (n : ℕ)
+            → ((k : ℕ) (other : Cpu) → k < length cs → stand_seen (get_or cs k other) ≡ start) → stand_at (stands_in cs) n ≡ start
         by_length [] n all = refl
         by_length (c ∷ cs) zero all = all 0 c (let some : 0 < length (c ∷ cs) = omega arith in some)
-        by_length (c ∷ cs) (suc n) all = by_length cs n (λ k other below. all (suc k) other (let more : suc k < length (c ∷ cs) = omega (arith, below) in more))
+        by_length (c ∷ cs) (suc n) all =
+            by_length cs n (λ k other below. all (suc k) other (let more : suc k < length (c ∷ cs) = omega (arith, below) in more))
 
 -- a CPU that has taken a moment
 pub stands_in-advanced : (cpus : List Cpu) (at : ℕ) (cpu next : Cpu) (slot : Happened) → at ≡ slot.cpu → at < length cpus → cpu ≡ get_or cpus at cpu
     → stand_seen next ≡ stand_after (stand_seen cpu) slot → stand_at (stands_in (set cpus at next)) ≡ stands_with (stand_at (stands_in cpus)) slot
 stands_in-advanced cpus at cpu next slot at_is within is next_is =
-    let stand-is : stand_at (stands_in cpus) slot.cpu ≡ stand_seen cpu = ap (stand_at (stands_in cpus)) (sym at_is) ∙ stands_in-at cpus at cpu within is in
-    let after : stand_seen next ≡ stand_after (stand_at (stands_in cpus) slot.cpu) slot = next_is ∙ ap (λ (s : Stand). stand_after s slot) (sym stand-is) in
+    let stand-is : stand_at (stands_in cpus) slot.cpu ≡ stand_seen cpu =
+    ap (stand_at (stands_in cpus)) (sym at_is) ∙ stands_in-at cpus at cpu within is in
+    let after : stand_seen next ≡ stand_after (stand_at (stands_in cpus) slot.cpu) slot =
+    next_is ∙ ap (λ (s : Stand). stand_after s slot) (sym stand-is) in
     stands_in-set cpus at next within ∙ (λ i. put (stand_at (stands_in cpus)) (at_is i) (after i))

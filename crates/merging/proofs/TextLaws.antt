@@ -1,21 +1,19 @@
 -- A run's history and certificate are in their grammars, and what is written of them.
-use Rattle.std.proofs.Common.{◌≡◌, ℕ, ◌+◌, ◌-◌, ◌<◌, List, [], ◌∷◌, ◌++◌, length, take, Option, Some, refl, sym, ap, ◌∙◌, subst, arith, append_assoc, append-nil, length-append}
-use Rattle.std.specs.Prelude.{slice_get, map}
-use Rattle.std.specs.Io.KnownBytes.{Appends}
+use Rattle.merging.proofs.Common.{◌++◌, ◌+◌, ◌<◌, ◌∙◌, ◌∷◌, ◌≡◌, Appends, Call, Commit, Happened, List, Moment, Option, Return, Some, Stand, [], ap, append-nil, append_assoc, arith, event_parts, events_from, events_of, length, line_parts, lines_from, lines_of, lines_text, map, refl, returns_in, slice_get, stands_after, stands_with, starts, subst, sym, take, ℕ}
+use Rattle.std.proofs.Common.{◌-◌, length-append}
 use Rattle.std.specs.List.{AllByRecursion}
-use Rattle.rmm_spec.specs.CertificateText.{IsLine, IsCertificate, line_parts}
-use Rattle.rmm_spec.specs.HistoryText.{Config, History, IsConfig, IsHistory, subhistory_of, config_parts, event_parts}
-use Rattle.rmm_spec.specs.Text.{lines_text}
+use Rattle.rmm_spec.specs.CertificateText.{IsLine, IsCertificate}
+use Rattle.rmm_spec.specs.HistoryText.{Config, History, IsConfig, IsHistory, subhistory_of, config_parts}
 use Rattle.rmm_spec.specs.declared.event.Event.{Event}
 use Rattle.rmm_spec.specs.declared.event.Event.TheVariants as event
 use Rattle.rmm_spec.specs.declared.line.Line.{Line}
 use Rattle.spec_lemmas.proofs.Lines.{lines_text-append}
 use Rattle.spec_lemmas.proofs.Records.{IsHistory-push}
 use Rattle.spec_lemmas.proofs.Texts.{AllByRecursion-append}
-use Rattle.recorded_events.specs.Events.{Moment, Call, Commit, Return, IsMoment}
-use Rattle.recorded_events.specs.Table.{Happened, IsHappened}
+use Rattle.recorded_events.specs.Events.{IsMoment}
+use Rattle.recorded_events.specs.Table.{IsHappened}
 use Rattle.merging.specs.Merge.{Merge, CanMerge, GrowsByHistory, GrowsByCertificate}
-use Rattle.merging.specs.Run.{Phase, Idle, Called, Committed, Stand, Fits, IsRun, starts, stands_with, stands_after, event_count, events_of, events_from, lines_of, lines_from, events_merged, lines_merged, returns_in}
+use Rattle.merging.specs.Run.{Phase, Idle, Called, Committed, Fits, IsRun, event_count, events_merged, lines_merged}
 use Rattle.merging.proofs.CountLaws.{open_count, AreCounted, AreCounted-step, CanFollow-call, CanFollow-return, calls-lt, IsLine-commit, length-events_of}
 use Rattle.merging.proofs.RunLaws.{take_next, events_from-push, lines_from-push}
 use Rattle.merging.proofs.LineLaws.{Appends-then, lines_of_both}
@@ -45,8 +43,10 @@ with_moment config before stand cpu (Committed committed) (Return given) is is_h
     IsHistory-push old (event.Returned cpu (stand.calls - 1) given) is_history
     (CanFollow-return old cpu (stand.calls - 1) given is_history below is_moment (omega (arith, counted))) room
 
-history_from : (config : Config) (before : List Event) (stands : ℕ → Stand) (slots : List Happened) → IsHistory (record { config = config; events = before })
-    → AreCounted before stands → IsRun config.cpus stands slots → AllByRecursion IsHappened slots → length (before ++ events_from stands slots) < 1000000
+history_from : (config : Config) (before : List Event) (stands : ℕ → Stand) (slots : List Happened)
+    → IsHistory (record { config = config; events = before })
+    → AreCounted before stands → IsRun config.cpus stands slots
+    → AllByRecursion IsHappened slots → length (before ++ events_from stands slots) < 1000000
     → IsHistory (record { config = config; events = before ++ events_from stands slots })
 history_from config before stands [] is_history counted run each room =
     subst (λ (es : List Event). IsHistory (record { config = config; events = es })) (sym (append-nil before)) is_history
@@ -65,7 +65,8 @@ history_from config before stands (slot ∷ slots) is_history counted run each r
     ) in
     subst (λ (es : List Event). IsHistory (record { config = config; events = es })) regrouped
     (history_from config (before ++ own) next slots
-    (with_moment config before stand slot.cpu stand.phase slot.moment refl is_history run.0.cpu each.0.moment run.0.fits (counted.events_of_cpu slot.cpu) fits)
+    (with_moment config before stand slot.cpu stand.phase slot.moment refl is_history
+    run.0.cpu each.0.moment run.0.fits (counted.events_of_cpu slot.cpu) fits)
     (AreCounted-step before stands slot counted run.0.fits) run.1 each.1 (subst (λ (es : List Event). length es < 1000000) (sym regrouped) room))
 
 IsHistory-none : (config : Config) → IsConfig config → IsHistory (record { config = config; events = [] })
@@ -112,14 +113,16 @@ IsCertificate-merged cpus events can = record {
 
 -- a history's text behind its first line
 pub GrowsByHistory-written : (merge : Merge) (first second third : Option (List ℕ)) → IsConfig merge.config → CanMerge merge.config.cpus merge.events
-    → Appends first second (lines_text (config_parts merge.config ∷ [])) → Appends second third (lines_text (map event_parts (events_merged merge.events)))
+    → Appends first second (lines_text (config_parts merge.config ∷ []))
+    → Appends second third (lines_text (map event_parts (events_merged merge.events)))
     → GrowsByHistory merge first third
 GrowsByHistory-written merge first second third is_config can head rest =
     let lines = map event_parts (events_merged merge.events) in
     record {
       text = lines_text (config_parts merge.config ∷ lines);
       is_text = record { is_history = IsHistory-merged merge.config merge.events is_config can; is_text = refl };
-      appends = subst (Appends first third) (sym (lines_text-append (config_parts merge.config ∷ []) lines)) (Appends-then first second third _ _ head rest);
+      appends = subst (Appends first third)
+          (sym (lines_text-append (config_parts merge.config ∷ []) lines)) (Appends-then first second third _ _ head rest);
     }
 
 pub GrowsByCertificate-written : (merge : Merge) (first second : Option (List ℕ)) → CanMerge merge.config.cpus merge.events
@@ -143,11 +146,13 @@ module _ (first second third : Option (List ℕ)) (events : List Happened) (stam
       (Appends-then first second third _ _ before own))
 
   pub certificate-next : (returns : ℕ → ℕ) → Appends first second (lines_text (map line_parts (lines_from returns starts (take stamp events))))
-      → Appends second third (lines_text (map line_parts (lines_of (returns slot.cpu) (stands_after starts (take stamp events) slot.cpu) slot.cpu slot.moment)))
+      → Appends second third
+      (lines_text (map line_parts (lines_of (returns slot.cpu) (stands_after starts (take stamp events) slot.cpu) slot.cpu slot.moment)))
       → Appends first third (lines_text (map line_parts (lines_from returns starts (take (stamp + 1) events))))
   certificate-next returns before own =
       let stand = stands_after starts (take stamp events) slot.cpu in
       subst (λ (ls : List Line). Appends first third (lines_text (map line_parts ls)))
       (sym (ap (lines_from returns starts) (take_next events stamp slot is) ∙ lines_from-push returns starts (take stamp events) slot))
-      (subst (Appends first third) (sym (lines_of_both line_parts (lines_from returns starts (take stamp events)) (lines_of (returns slot.cpu) stand slot.cpu slot.moment)))
+      (subst (Appends first third)
+      (sym (lines_of_both line_parts (lines_from returns starts (take stamp events)) (lines_of (returns slot.cpu) stand slot.cpu slot.moment)))
       (Appends-then first second third _ _ before own))

@@ -65,7 +65,8 @@ pub fn push_moment(
 ) -> Result<(), AllocError>
     requires { HasFewWords (moment_seen slot.moment) }
     ensures ok { OnOk result (out.new.items ≡ out.old.items ++ moment_text returns (stand_seen cpu.now) (happened_seen slot.entry)) }
-    ensures full { OnErr result (vec_capacity out.old < vec_len out.old + length (moment_text returns (stand_seen cpu.now) (happened_seen slot.entry))) }
+    ensures full { OnErr result
+        (vec_capacity out.old < vec_len out.old + length (moment_text returns (stand_seen cpu.now) (happened_seen slot.entry))) }
     ensures capacity { vec_capacity out.old ≤ vec_capacity out.new }
 {
     let number = cpu.calls.saturating_sub(1);
@@ -133,7 +134,8 @@ fn push_commit(
     ensures ok { OnOk result (out.new.items ≡ out.old.items
         ++ (line_text (line_parts (if is_kept then line.Keep cpu number else line.Unfinished cpu number (reply_seen reply.entry))) ++ 10 ∷ [])) }
     ensures full { OnErr result (vec_capacity out.old < vec_len out.old
-        + length (line_text (line_parts (if is_kept then line.Keep cpu number else line.Unfinished cpu number (reply_seen reply.entry))) ++ 10 ∷ [])) }
+        + length (line_text (line_parts (if is_kept then line.Keep cpu number else line.Unfinished cpu number (reply_seen reply.entry)))
+        ++ 10 ∷ [])) }
     ensures capacity { vec_capacity out.old ≤ vec_capacity out.new }
 {
     if is_kept {
@@ -163,7 +165,8 @@ fn push_answer(
     reply: ReplyRef<'_>,
 ) -> Result<(), AllocError>
     requires { replied.HasFewWords (reply_seen reply) }
-    ensures ok { OnOk result (out.new.items ≡ out.old.items ++ ((head_text letter cpu number ++ 32 ∷ reply_text (reply_seen reply.entry)) ++ 10 ∷ [])) }
+    ensures ok { OnOk result
+        (out.new.items ≡ out.old.items ++ ((head_text letter cpu number ++ 32 ∷ reply_text (reply_seen reply.entry)) ++ 10 ∷ [])) }
     ensures full { OnErr result (vec_capacity out.old
         < vec_len out.old + length ((head_text letter cpu number ++ 32 ∷ reply_text (reply_seen reply.entry)) ++ 10 ∷ [])) }
     ensures capacity { vec_capacity out.old ≤ vec_capacity out.new }

@@ -1,5 +1,5 @@
 -- Token and pass of a CPU, after an execution.
-use Rattle.monitor.proofs.Common.{◌≡◌, ◌+◌, true, [], ◌∷◌, ◌++◌, length, refl, sym, ap, ◌∙◌, subst, arith, Result, Ok, Err, IfOk, OnErr, length_push, Command, Done, Committed, CommitFault, TokenView, CpuView, MonitorView, Refused, Unrecorded, ArePaired, committed, returned, unreturned}
+use Rattle.monitor.proofs.Common.{◌≡◌, true, [], ◌∷◌, ◌++◌, length, refl, sym, ap, ◌∙◌, subst, arith, Result, Ok, Err, IfOk, OnErr, length_push, Command, Done, Committed, CommitFault, TokenView, CpuView, MonitorView, Refused, Unrecorded, ArePaired, committed, returned, unreturned}
 use Rattle.std.proofs.Common.{◌-◌, false}
 use Rattle.std.proofs.lemmas.Bool.{false≢true}
 use Rattle.rmm_spec.specs.declared.event.Event.TheVariants.{Called, Returned}

@@ -4,7 +4,8 @@ use Rattle.rmm_spec.specs.Linearization.{IsLinearization}
 use Rattle.commit_tickets.specs.Commits.{IsOfRun}
 use Rattle.monitor.specs.Closed.{Disagree}
 
-module _ (config : Config) (journal : JournalView) (of_run : IsOfRun config journal) (tokens compared : List TokenView) (are : compared ≡ tokens) where
+module _ (config : Config) (journal : JournalView) (of_run : IsOfRun config journal)
+    (tokens compared : List TokenView) (are : compared ≡ tokens) where
   pub disagree : (entries : List JournalEntry) → entries ≡ journal.entries
       → length journal.entries ≡ sum_by (λ (token : TokenView). length token.mine) tokens → ¬ AreListed compared journal.entries
       → Disagree config tokens entries

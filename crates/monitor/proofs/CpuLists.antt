@@ -98,7 +98,8 @@ cpus-of_two monitor first second first_pass second_pass two pair second_pair is_
     paired_at zero token pass at pass_at =
         subst (λ (p : TokenView × CpuView). ArePaired monitor p.0 p.1) (λ i. (same_Some first token at i, same_Some first_pass pass pass_at i)) pair
     paired_at (suc zero) token pass at pass_at =
-        subst (λ (p : TokenView × CpuView). ArePaired monitor p.0 p.1) (λ i. (same_Some second token at i, same_Some second_pass pass pass_at i)) second_pair
+        subst (λ (p : TokenView × CpuView). ArePaired monitor p.0 p.1)
+        (λ i. (same_Some second token at i, same_Some second_pass pass pass_at i)) second_pair
     paired_at (suc (suc cpu)) token pass at pass_at = absurd (none-some token at)
 
     numbered_at : (cpu : ℕ) (token : TokenView) → slice_get (first ∷ second ∷ []) cpu ≡ Some token → token.cpu ≡ cpu
@@ -133,7 +134,8 @@ module _ (monitor : MonitorView) (tokens : List TokenView) (passes : List CpuVie
     (old : AreCpus monitor tokens passes) (same_cpu : token.cpu ≡ cpu) (pair : ArePaired monitor token pass) where
   paired-both : (k : ℕ) (t : TokenView) (p : CpuView) → ((k ≡ cpu) × (t ≡ token)) ⊎ ((k ≡ cpu → ⊥) × (slice_get tokens k ≡ Some t))
       → ((k ≡ cpu) × (p ≡ pass)) ⊎ ((k ≡ cpu → ⊥) × (slice_get passes k ≡ Some p)) → ArePaired monitor t p
-  paired-both k t p (inl here) (inl pass_here) = subst (λ x. ArePaired monitor x p) (sym here.1) (subst (λ x. ArePaired monitor token x) (sym pass_here.1) pair)
+  paired-both k t p (inl here) (inl pass_here) =
+      subst (λ x. ArePaired monitor x p) (sym here.1) (subst (λ x. ArePaired monitor token x) (sym pass_here.1) pair)
   paired-both k t p (inl here) (inr pass_there) = absurd (pass_there.0 here.0)
   paired-both k t p (inr there) (inl pass_here) = absurd (there.0 pass_here.0)
   paired-both k t p (inr there) (inr pass_there) = old.pairs.each k t p there.1 pass_there.1

@@ -1,5 +1,5 @@
 -- The pass of a CPU beside the journal, over an entry.
-use Rattle.monitor.proofs.Common.{◌≡◌, ℕ, ◌+◌, [], ◌∷◌, ◌++◌, length, inl, inr, sym, ap, ◌∙◌, arith, Result, Ok, Err, IfOk, OnErr, Command, JournalEntry, CommitFault, JournalView, CpuView, committed}
+use Rattle.monitor.proofs.Common.{◌≡◌, ℕ, [], ◌∷◌, ◌++◌, length, inl, inr, sym, ap, ◌∙◌, arith, Result, Ok, Err, IfOk, OnErr, Command, JournalEntry, CommitFault, JournalView, CpuView, committed}
 use Rattle.rmm_spec.specs.declared.reply.Reply.{Reply}
 use Rattle.std.proofs.Common.{length-append}
 use Rattle.std.specs.Prelude.{OnOk}
@@ -22,10 +22,12 @@ module _ (command : Command) (old new : CpuView) (before after : JournalView) (d
   -- one entry more is another list
   longer : {A : Type 0} (given : Reply) → after.entries ≡ before.entries → after.entries ≡ before.entries ++ entry_at old.stage old.cpu given → A
   longer given same more =
-      absurd (omega (arith, ap length same, ap length more, ap length (entry_is given), length-append before.entries (entry_at old.stage old.cpu given)))
+      absurd
+      (omega (arith, ap length same, ap length more, ap length (entry_is given), length-append before.entries (entry_at old.stage old.cpu given)))
 
   -- an entry with the pass's commit, and none without
-  pub in_step : {T : Type 0} (result : Result T CommitFault) (cpu : ℕ) (given : Reply) → old.cpu ≡ cpu → OnOk result (HasGained cpu command given before after)
+  pub in_step : {T : Type 0} (result : Result T CommitFault) (cpu : ℕ) (given : Reply)
+      → old.cpu ≡ cpu → OnOk result (HasGained cpu command given before after)
       → OnErr result (HasGainedNone before after) → OnOk result (new ≡ committed old given) → OnErr result (new ≡ old)
       → IsInStep old new before.entries after.entries
   in_step (Ok x) cpu given own gained none made kept = inl (given, gained_by given cpu own gained, made)

@@ -16,7 +16,8 @@ length-listed_from ticket cpu (entry ∷ entries) =
     ⊎_elim (λ (own : entry.cpu ≡ cpu). rw (eq-eqb entry.cpu cpu own) (ap suc rest))
     (λ (other : entry.cpu ≡ cpu → ⊥). rw (ne_eqb entry.cpu cpu other) rest) (cases_eq entry.cpu cpu)
 
-same-ticket : (tokens : List TokenView) (cpu number ticket other : ℕ) → HasTicket tokens cpu number ticket → HasTicket tokens cpu number other → ticket ≡ other
+same-ticket : (tokens : List TokenView) (cpu number ticket other : ℕ)
+    → HasTicket tokens cpu number ticket → HasTicket tokens cpu number other → ticket ≡ other
 same-ticket tokens cpu number ticket other has has_other =
     sym has.2 ∙ ap (λ (commit : Committed). commit.ticket) (same_Some has.0 has_other.0 (sym has.1 ∙ has_other.1)) ∙ has_other.2
 
@@ -47,7 +48,8 @@ module _ (config : Config) (tokens : List TokenView) (events : List Event) (line
       let is_place : it.place ≡ place = omega (arith, it.is_ticket, has.2) in
       let line_at = slice_get-map_to (line_for events) (numbered entries) it.place c (numbered-at (λ _. 0) entries it.place it.entry it.at) in (
         line_for events c,
-        ap (λ ls. slice_get ls place) closed.written ∙ subst (λ k. slice_get (lines_for events entries) k ≡ Some (line_for events c)) is_place line_at,
+        ap (λ ls. slice_get ls place) closed.written
+            ∙ subst (λ k. slice_get (lines_for events entries) k ≡ Some (line_for events c)) is_place line_at,
         cpu_named-line_for events c ∙ it.own,
         omega (
           arith,

@@ -26,7 +26,8 @@ pub record WereTaken (config : Config) (command : Command) (token : TokenView) (
 
 -- With some side table, the journal's then, the held cells and the token's place make a local step with this reply, to these cells
 -- and this place.
-pub record MakesStep (config : Config) (command : Command) (given : Reply) (token : TokenView) (place : CpuPlace) (cells new_cells : List HeldCell) : Type 0 where
+pub record MakesStep (config : Config) (command : Command) (given : Reply)
+    (token : TokenView) (place : CpuPlace) (cells new_cells : List HeldCell) : Type 0 where
   pub side : Side
   pub new_side : Side
   pub step : LocalStep config token.cpu command given (hold_of cells side (place_of token.place)) (hold_of new_cells new_side place)

@@ -14,13 +14,15 @@ use Rattle.lemmas.proofs.Elements.{slice_get-push_cases}
 abbrev pub AreNumbered : List TokenView → Type 0
 AreNumbered tokens = (cpu : ℕ) (token : TokenView) → slice_get tokens cpu ≡ Some token → token.cpu ≡ cpu
 
-pub numbered-push : (tokens : List TokenView) (token : TokenView) → AreNumbered tokens → token.cpu ≡ length tokens → AreNumbered (tokens ++ token ∷ [])
+pub numbered-push : (tokens : List TokenView) (token : TokenView)
+    → AreNumbered tokens → token.cpu ≡ length tokens → AreNumbered (tokens ++ token ∷ [])
 numbered-push tokens token old same cpu found at =
     ⊎_elim (λ (earlier : slice_get tokens cpu ≡ Some found). old cpu found earlier)
     (λ (last : (cpu ≡ length tokens) × (token ≡ found)). ap (λ (t : TokenView). t.cpu) (sym last.1) ∙ same ∙ sym last.0)
     (slice_get-push_cases tokens token cpu found at)
 
-module _ (monitor : MonitorView) (tokens : List TokenView) (passes : List CpuView) (token : TokenView) (pass : CpuView) (old : ArePairs monitor tokens passes)
+module _ (monitor : MonitorView) (tokens : List TokenView) (passes : List CpuView)
+    (token : TokenView) (pass : CpuView) (old : ArePairs monitor tokens passes)
     (pair : ArePaired monitor token pass) where
   paired-both : (k : ℕ) (t : TokenView) (p : CpuView) → (slice_get tokens k ≡ Some t) ⊎ ((k ≡ length tokens) × (token ≡ t))
       → (slice_get passes k ≡ Some p) ⊎ ((k ≡ length passes) × (pass ≡ p)) → ArePaired monitor t p

@@ -33,7 +33,8 @@ IsThreadRun-from monitor scenario tokens passes history lines is_config is_queue
   tokens = tokens;
   count = worked.token_count ∙ ap (λ (c : Config). c.cpus) is_config;
   journal = subst (λ (c : Config). IsJournal c tokens history.events lines) is_config journal;
-  linearization = subst (λ (c : Config). IsLinearization (record { config = c; events = history.events }) lines) (is_config ∙ sym same) journal.linearization;
+  linearization = subst (λ (c : Config). IsLinearization (record { config = c; events = history.events }) lines)
+      (is_config ∙ sym same) journal.linearization;
   each = λ cpu token at.
       let pass = is_there passes cpu (omega (arith, slice_get_within tokens cpu token at, worked.token_count, worked.pass_count)) in
       let has = worked.each cpu token pass.0 at pass.1 in

@@ -27,7 +27,8 @@ commands_called-append (Called cpu number command ∷ events) more = ap (λ comm
 commands_called-append (Returned cpu number given ∷ events) more = commands_called-append events more
 
 -- a call more
-commands_called-called : (pass : CpuView) (command : Command) → commands_called (called pass command).events ≡ commands_called pass.events ++ command ∷ []
+commands_called-called : (pass : CpuView) (command : Command)
+    → commands_called (called pass command).events ≡ commands_called pass.events ++ command ∷ []
 commands_called-called pass command = commands_called-append pass.events (Called pass.cpu pass.stand.next command ∷ [])
 
 -- each command of a program has a text
@@ -170,9 +171,11 @@ module _ (monitor : MonitorView) (cpu : ℕ) (program : List Command) (count : �
         few = subst (λ (p : CpuView). length p.events ≤ (count + 1) + (count + 1)) (sym left.1) (omega (arith, few_more));
       }
   come-refused NoMemory left stopped full =
-      called-only commit.NoMemory (ap (λ (t : TokenView). t.cpu) left.0) (ap (λ (t : TokenView). t.mine) left.0) (ap (λ (t : TokenView). t.fault) left.0) left.1
+      called-only commit.NoMemory (ap (λ (t : TokenView). t.cpu) left.0)
+      (ap (λ (t : TokenView). t.mine) left.0) (ap (λ (t : TokenView). t.fault) left.0) left.1
   come-refused Disagrees left stopped full =
-      called-only commit.Disagrees (ap (λ (t : TokenView). t.cpu) left.0) (ap (λ (t : TokenView). t.mine) left.0) (ap (λ (t : TokenView). t.fault) left.0) left.1
+      called-only commit.Disagrees (ap (λ (t : TokenView). t.cpu) left.0)
+      (ap (λ (t : TokenView). t.mine) left.0) (ap (λ (t : TokenView). t.fault) left.0) left.1
   come-refused Full left stopped full =
       let same = ap (λ (t : TokenView). t.cpu) left.0 ∙ come.same_cpu in record {
         paired = paired;

@@ -58,7 +58,8 @@ waiting-all monitor scenario given tokens passes limits same_config same cpus fr
   before = λ cpu pass at.
       same_Some pass _ (sym at ∙ before cpu (omega (arith, slice_get_within passes cpu pass at, pass_count)));
   each = λ cpu program at.
-      let seen = ap (λ (programs : List (List Command)). slice_get programs cpu) (sym same) ∙ slice_get-map (λ (p : Vec Command Global). p.items) given cpu
+      let seen =
+      ap (λ (programs : List (List Command)). slice_get programs cpu) (sym same) ∙ slice_get-map (λ (p : Vec Command Global). p.items) given cpu
       ∙ ap (option_map (λ (p : Vec Command Global). p.items)) at in
       sym (get_or_from_slice_get scenario.programs cpu program.items [] seen);
 }
@@ -80,7 +81,8 @@ waiting-last monitor scenario tokens passes given token pass program limits wait
     let before = waiting.before count pass (subst (λ k. slice_get (passes ++ pass ∷ []) k ≡ Some pass) pass_count (slice_get-push passes pass)) in
     let pairs = pairs-popped monitor tokens passes token pass waiting.pairs in
     let more : length tokens + 1 ≡ suc count = omega arith in
-    let fresh = same_from_push tokens (first_tokens count) token (before_commits count) (waiting.fresh ∙ ap first_tokens (length_push tokens token ∙ more)) in record {
+    let fresh = same_from_push tokens (first_tokens count) token (before_commits count)
+    (waiting.fresh ∙ ap first_tokens (length_push tokens token ∙ more)) in record {
       can = record {
         paired = pairs.0;
         fresh = fresh.1 ∙ ap before_commits (sym same_cpu);
@@ -105,7 +107,11 @@ waiting-last monitor scenario tokens passes given token pass program limits wait
 pub length-promised : (programs : List (List Command)) (cpus count : ℕ) → length (promised programs cpus count) ≡ count
 length-promised programs cpus zero = refl
 length-promised programs cpus (suc count) =
-    omega (arith, length_push (promised programs cpus count) (cpus - suc count, get_or programs (cpus - suc count) []), length-promised programs cpus count)
+    omega (
+      arith,
+      length_push (promised programs cpus count) (cpus - suc count, get_or programs (cpus - suc count) []),
+      length-promised programs cpus count,
+    )
 
 -- none is joined
 pub promised-all : (programs : List (List Command)) (cpus : ℕ) (promises : List (ℕ × List Command)) → promises ≡ promised programs cpus cpus
@@ -133,7 +139,8 @@ promised-pop programs cpus joined promises last within are =
     let left = cpus - (joined + 1) in
     let more : cpus - joined ≡ suc left = omega (arith, within) in
     let first : cpus - suc left ≡ joined = omega (arith, within) in
-    let cut = same_from_push promises (promised programs cpus left) last (cpus - suc left, get_or programs (cpus - suc left) []) (are ∙ ap (promised programs cpus) more) in
+    let cut = same_from_push promises (promised programs cpus left) last
+    (cpus - suc left, get_or programs (cpus - suc left) []) (are ∙ ap (promised programs cpus) more) in
     (cut.0, cut.1 ∙ ap (λ k. (k, get_or programs k [])) first)
 
 -- the threads that are left, when some were joined, with what is known of each
@@ -143,14 +150,17 @@ module _ {X : Type 0} (view : X → ℕ × List Command) (programs : List (List 
   joined-some = omega (arith, within, length-map old view, ap length are, length-promised programs cpus (cpus - joined))
 
   pub joined-next : (P : X → Type 0) (workers : List X) (worker : X) → old ≡ workers ++ worker ∷ [] → All P old
-      → P worker × All P workers × (map view workers ≡ promised programs cpus (cpus - (joined + 1))) × (view worker ≡ (joined, get_or programs joined []))
+      → P worker × All P workers × (map view workers ≡ promised programs cpus (cpus - (joined + 1)))
+      × (view worker ≡ (joined, get_or programs joined []))
   joined-next P workers worker is all =
       let popped = All-pop P old workers (Some worker) is all in
-      let next = promised-pop programs cpus joined (map view workers) (view worker) within (sym (map-push view workers worker) ∙ ap (map view) (sym is) ∙ are) in
+      let next =
+      promised-pop programs cpus joined (map view workers) (view worker) within (sym (map-push view workers worker) ∙ ap (map view) (sym is) ∙ are) in
       (popped.1, popped.0, next.0, next.1)
 
 -- a promise that was kept
-pub worked-promised : (monitor other : MonitorView) (programs : List (List Command)) (joined : ℕ) (promise : ℕ × List Command) (token : TokenView) (pass : CpuView)
+pub worked-promised : (monitor other : MonitorView) (programs : List (List Command))
+    (joined : ℕ) (promise : ℕ × List Command) (token : TokenView) (pass : CpuView)
     → other ≡ monitor → promise ≡ (joined, get_or programs joined []) → HasWorked other promise.0 promise.1 token pass
     → HasWorked monitor joined (get_or programs joined []) token pass
 worked-promised monitor other programs joined promise token pass same is worked =
@@ -159,8 +169,8 @@ worked-promised monitor other programs joined promise token pass same is worked 
 -- ---- after their threads
 
 -- none yet
-pub worked-none : (monitor : MonitorView) (programs : List (List Command)) (tokens : List TokenView) (passes : List CpuView) → tokens ≡ [] → passes ≡ []
-    → HaveWorked monitor programs 0 tokens passes
+pub worked-none : (monitor : MonitorView) (programs : List (List Command)) (tokens : List TokenView) (passes : List CpuView)
+    → tokens ≡ [] → passes ≡ [] → HaveWorked monitor programs 0 tokens passes
 worked-none monitor programs tokens passes no_tokens no_passes = record {
   token_count = ap length no_tokens;
   pass_count = ap length no_passes;
@@ -169,7 +179,8 @@ worked-none monitor programs tokens passes no_tokens no_passes = record {
 
 -- one CPU more
 pub worked-push : (monitor : MonitorView) (programs : List (List Command)) (count : ℕ) (tokens : List TokenView) (passes : List CpuView)
-    (token : TokenView) (pass : CpuView) → HaveWorked monitor programs count tokens passes → HasWorked monitor count (get_or programs count []) token pass
+    (token : TokenView) (pass : CpuView)
+    → HaveWorked monitor programs count tokens passes → HasWorked monitor count (get_or programs count []) token pass
     → HaveWorked monitor programs (count + 1) (tokens ++ token ∷ []) (passes ++ pass ∷ [])
 worked-push monitor programs count tokens passes token pass worked more = record {
   token_count = length_push tokens token ∙ ap (λ n. n + 1) worked.token_count;
@@ -184,7 +195,8 @@ worked-push monitor programs count tokens passes token pass worked more = record
     by cpu t p (inr last) (inl pass_at) = absurd (omega (arith, slice_get_within passes cpu p pass_at, last.0, worked.token_count, worked.pass_count))
     by cpu t p (inr last) (inr pass_last) =
         subst (λ k. HasWorked monitor k (get_or programs k []) t p) (sym (last.0 ∙ worked.token_count))
-        (subst (λ x. HasWorked monitor count (get_or programs count []) x p) last.1 (subst (λ x. HasWorked monitor count (get_or programs count []) token x) pass_last.1 more))
+        (subst (λ x. HasWorked monitor count (get_or programs count []) x p) last.1
+        (subst (λ x. HasWorked monitor count (get_or programs count []) token x) pass_last.1 more))
 
 -- what is there at a place within a list
 pub is_there : {X : Type 0} (xs : List X) (place : ℕ) → place < length xs → (x : X) × (slice_get xs place ≡ Some x)
@@ -206,7 +218,8 @@ worked-cpus monitor programs tokens passes worked = record {
 
 -- two events a command at most
 recorded-le : (passes : List CpuView) (programs : List (List Command))
-    → ((cpu : ℕ) (pass : CpuView) → slice_get passes cpu ≡ Some pass → length pass.events ≤ length (get_or programs cpu []) + length (get_or programs cpu []))
+    → ((cpu : ℕ) (pass : CpuView) → slice_get passes cpu ≡ Some pass
+    → length pass.events ≤ length (get_or programs cpu []) + length (get_or programs cpu []))
     → count_recorded passes ≤ count_all programs + count_all programs
 recorded-le [] programs few = omega arith
 recorded-le (pass ∷ passes) [] few =

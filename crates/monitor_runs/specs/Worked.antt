@@ -65,7 +65,8 @@ pub record AreWaiting (monitor : MonitorView) (programs : List (List Command)) (
   pub each : (cpu : ℕ) (program : Vec Command Global) → slice_get given cpu ≡ Some program → program.items ≡ get_or programs cpu []
 
 -- The last of some first CPUs that wait: it can work, and the others wait.
-pub record IsLast (monitor : MonitorView) (programs : List (List Command)) (tokens : List TokenView) (passes : List CpuView) (given : List (Vec Command Global))
+pub record IsLast (monitor : MonitorView) (programs : List (List Command))
+    (tokens : List TokenView) (passes : List CpuView) (given : List (Vec Command Global))
     (token : TokenView) (pass : CpuView) (program : List Command) : Type 0 where
   pub can : CanWork monitor program token pass
   pub same_cpu : token.cpu ≡ length tokens
@@ -73,7 +74,8 @@ pub record IsLast (monitor : MonitorView) (programs : List (List Command)) (toke
   pub others : AreWaiting monitor programs tokens passes given
 
 -- The first CPUs, so many, as they have worked.
-pub record HaveWorked (monitor : MonitorView) (programs : List (List Command)) (count : ℕ) (tokens : List TokenView) (passes : List CpuView) : Type 0 where
+pub record HaveWorked (monitor : MonitorView) (programs : List (List Command))
+    (count : ℕ) (tokens : List TokenView) (passes : List CpuView) : Type 0 where
   pub token_count : length tokens ≡ count
   pub pass_count : length passes ≡ count
   pub each : (cpu : ℕ) (token : TokenView) (pass : CpuView) → slice_get tokens cpu ≡ Some token → slice_get passes cpu ≡ Some pass

@@ -1,5 +1,5 @@
 -- The places of one CPU's events rise with their ranks: its calls and returns come one after the other.
-use Rattle.std.proofs.Common.{◌≡◌, ℕ, ◌+◌, ◌<◌, ◌≤◌, Bool, List, length, inl, inr, ◌==◌, Some, refl, sym, ◌∙◌, ap, arith}
+use Rattle.std.proofs.Common.{◌≡◌, ℕ, ◌<◌, ◌≤◌, Bool, List, inl, inr, ◌==◌, Some, refl, sym, ◌∙◌, ap, arith}
 use Rattle.std.specs.List.{slice_get}
 use Rattle.std.proofs.lemmas.Bool.{cases_order, cases_lt}
 use Rattle.std.proofs.lemmas.List.Sums.{length-filter, count_by-le-length}
@@ -42,13 +42,15 @@ module _ (history : History) (is_history : IsHistory history) where
       is_called is_returned refl refl (omega arith)
 
   -- an earlier call of a CPU returns no later than a later one
-  pub returns_in_order : (cpu number later returned place : ℕ) (given told : Reply) → number ≤ later → IsReturned history.events returned cpu number given
+  pub returns_in_order : (cpu number later returned place : ℕ) (given told : Reply)
+      → number ≤ later → IsReturned history.events returned cpu number given
       → IsReturned history.events place cpu later told → returned ≤ place
   returns_in_order cpu number later returned place given told below is_returned is_later = elim (cases_lt place returned) [
     | inl before ↦
         let here = rank-slice_get cpu history.events returned (Returned cpu number given) (is_history.records cpu) is_returned refl in
         let there = rank-slice_get cpu history.events place (Returned cpu later told) (is_history.records cpu) is_later refl in
-        absurd (omega (arith, below, here, there, length-subhistory_of-lt cpu history.events place returned (Returned cpu later told) is_later refl before))
+        absurd
+        (omega (arith, below, here, there, length-subhistory_of-lt cpu history.events place returned (Returned cpu later told) is_later refl before))
     | inr after ↦ after
   ]
 
@@ -70,7 +72,8 @@ module _ (history : History) (is_history : IsHistory history) where
         called = known.0;
         command = known.1;
         is_called = known.2;
-        before = place_order cpu history.events (is_history.records cpu) finished.0 known.0 (Returned cpu number finished.1) (Called cpu later known.1)
+        before = place_order cpu history.events (is_history.records cpu) finished.0 known.0
+            (Returned cpu number finished.1) (Called cpu later known.1)
             finished.2 known.2 refl refl (omega (arith, below));
       }
 

@@ -1,12 +1,12 @@
 -- Two orders of the same calls that lead to one state are continued alike.
-use Rattle.std.proofs.Common.{◌≡◌, ℕ, ◌+◌, ◌<◌, ◌≤◌, inl, inr, List, [], ◌∷◌, ◌++◌, length, Some, subst, arith}
+use Rattle.std.proofs.Common.{◌≡◌, ℕ, ◌+◌, inl, inr, List, ◌++◌, length, Some, subst, arith}
 use Rattle.std.specs.List.{slice_get}
 use Rattle.std.proofs.lemmas.Option.{slice_get_within}
 use Rattle.rmm_spec.specs.declared.line.Line.{Line}
 use Rattle.rmm_spec.specs.HistoryText.{History, IsHistory}
 use Rattle.rmm_spec.specs.State.{State, opening}
 use Rattle.rmm_spec.specs.Run.{IsRun}
-use Rattle.rmm_spec.specs.Linearization.{IsFinished, IsNamed, IsLinearization, NamesCall, NamesSame, IsOfItsKind, IsRunOf, cpu_named, number_named}
+use Rattle.rmm_spec.specs.Linearization.{IsFinished, IsNamed, IsLinearization, NamesCall, IsOfItsKind, cpu_named, number_named}
 use Rattle.rmm_laws.proofs.RunLaws.{run-append}
 use Rattle.checker.proofs.Judging.{HasOnePlaces-from_history}
 use Rattle.order_laws.specs.Order.{count_of, Reaches, LeadsNowhere}
@@ -14,7 +14,8 @@ use Rattle.order_laws.proofs.Moves.{Each, Pairs, Each-from_places, Pairs-from_pl
 use Rattle.order_laws.proofs.Settled.{Apart, behind, in_either, claimed-append, same_state, split_run}
 use Rattle.lemmas.proofs.Elements.{slice_get-append}
 
-module _ (history : History) (is_history : IsHistory history) (one other : List Line) (state : State) (reached : Reaches history one state) (also : Reaches history other state) (counts : (cpu : ℕ) → count_of cpu one ≡ count_of cpu other) where
+module _ (history : History) (is_history : IsHistory history) (one other : List Line) (state : State) (reached : Reaches history one state)
+    (also : Reaches history other state) (counts : (cpu : ℕ) → count_of cpu one ≡ count_of cpu other) where
   -- the one order names what the other does
   named_alike : (cpu number : ℕ) → IsNamed one cpu number → IsNamed other cpu number
   named_alike cpu number named =

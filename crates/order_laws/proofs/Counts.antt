@@ -1,5 +1,5 @@
 -- How many calls of each CPU stand in an order with one more line, and which they are.
-use Rattle.std.proofs.Common.{◌≡◌, ℕ, zero, suc, ◌+◌, ◌<◌, ◌≤◌, Bool, true, false, cond, eqb, List, [], ◌∷◌, ◌++◌, ◌⊎◌, inl, inr, length, Some, refl, sym, ◌∙◌, ap, subst, arith}
+use Rattle.std.proofs.Common.{◌≡◌, ℕ, zero, suc, ◌+◌, ◌≤◌, false, eqb, List, [], ◌∷◌, ◌++◌, ◌⊎◌, inl, inr, length, Some, refl, sym, ◌∙◌, ap, arith}
 use Rattle.std.specs.List.{slice_get}
 use Rattle.std.proofs.lemmas.Bool.{eqb-true, eq-eqb, cases_Bool}
 use Rattle.rmm_spec.specs.declared.line.Line.{Line}
@@ -16,7 +16,8 @@ count_of-same cpu (first ∷ lines) line same =
     omega (arith, rest)
 
 -- and for no other
-pub count_of-other : (cpu : ℕ) (lines : List Line) (line : Line) → eqb (cpu_named line) cpu ≡ false → count_of cpu (lines ++ line ∷ []) ≡ count_of cpu lines
+pub count_of-other : (cpu : ℕ) (lines : List Line) (line : Line)
+    → eqb (cpu_named line) cpu ≡ false → count_of cpu (lines ++ line ∷ []) ≡ count_of cpu lines
 unfolding count_of
 count_of-other cpu [] line other = rw other refl
 count_of-other cpu (first ∷ lines) line other =
@@ -56,7 +57,8 @@ IsNamed-push_cases lines line cpu number named = elim (slice_get_push_cases line
 ]
 
 -- an element of two lists, one behind the other, is one of the first or lies behind it
-pub slice_get-append_cases : {X : Type 0} (xs ys : List X) (i : ℕ) (x : X) → slice_get (xs ++ ys) i ≡ Some x → (slice_get xs i ≡ Some x) ⊎ (length xs ≤ i)
+pub slice_get-append_cases : {X : Type 0} (xs ys : List X) (i : ℕ) (x : X)
+    → slice_get (xs ++ ys) i ≡ Some x → (slice_get xs i ≡ Some x) ⊎ (length xs ≤ i)
 slice_get-append_cases [] ys i x is = inr (omega arith)
 slice_get-append_cases (y ∷ xs) ys zero x is = inl is
 slice_get-append_cases (y ∷ xs) ys (suc i) x is = elim (slice_get-append_cases xs ys i x is) [

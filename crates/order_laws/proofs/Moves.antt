@@ -1,5 +1,5 @@
 -- One element of a list moved towards its front, and what is said of each element and of each two.
-use Rattle.std.proofs.Common.{◌≡◌, ℕ, zero, suc, ◌+◌, ◌<◌, List, [], ◌∷◌, ◌++◌, length, Some, refl, ap, subst, arith}
+use Rattle.std.proofs.Common.{◌≡◌, ℕ, zero, suc, ◌<◌, List, [], ◌∷◌, ◌++◌, Some, refl, ap, subst, arith}
 use Rattle.std.specs.List.{slice_get}
 use Rattle.std.proofs.lemmas.Option.{none-some, same_Some}
 
@@ -62,7 +62,8 @@ Each-middle P [] back x each = each.0
 Each-middle P (y ∷ front) back x each = Each-middle P front back x each.1
 
 -- each element is said the same of, wherever the one stands
-pub Each-moved : {X : Type 0} (P : X → Type 0) (xs front back : List X) (x : X) → Each P (xs ++ (front ++ x ∷ back)) → Each P (xs ++ (x ∷ (front ++ back)))
+pub Each-moved : {X : Type 0} (P : X → Type 0) (xs front back : List X) (x : X)
+    → Each P (xs ++ (front ++ x ∷ back)) → Each P (xs ++ (x ∷ (front ++ back)))
 Each-moved P [] front back x each = (Each-middle P front back x each, Each-without P front back x each)
 Each-moved P (y ∷ xs) front back x each = (each.0, Each-moved P xs front back x each.1)
 

@@ -1,17 +1,15 @@
 -- Which lines lead nowhere, and when all that can come next does.
-use Rattle.std.proofs.Common.{◌≡◌, ℕ, ◌+◌, ◌<◌, ◌≤◌, List, [], ◌∷◌, ◌++◌, inl, inr, length, take, Some, refl, sym, ◌∙◌, ap, subst, arith, append_assoc}
+use Rattle.std.proofs.Common.{◌≡◌, ℕ, ◌+◌, ◌<◌, List, [], ◌∷◌, ◌++◌, inl, inr, length, take, Some, sym, ◌∙◌, ap, subst, arith, append_assoc}
 use Rattle.std.specs.List.{slice_get}
 use Rattle.std.proofs.Math.Seq.{take-append_seam}
-use Rattle.std.proofs.lemmas.Bool.{cases_lt, cases_order}
+use Rattle.std.proofs.lemmas.Bool.{cases_order}
 use Rattle.std.proofs.lemmas.Option.{slice_get_within}
 use Rattle.std.proofs.lemmas.List.{append-nil, length-append}
 use Rattle.rmm_spec.specs.declared.line.Line.{Line}
 use Rattle.rmm_spec.specs.HistoryText.{History, IsHistory}
 use Rattle.rmm_spec.specs.State.{State, opening}
-use Rattle.rmm_spec.specs.Run.{JournalEntry, IsRun}
-use Rattle.rmm_spec.specs.Linearization.{IsFinished, IsNamed, IsLinearization, ReturnsBefore, AreEntriesOf, NamesCall, IsOfItsKind, cpu_named, number_named}
+use Rattle.rmm_spec.specs.Linearization.{IsFinished, IsLinearization, ReturnsBefore, AreEntriesOf, NamesCall, IsOfItsKind, cpu_named, number_named}
 use Rattle.lemmas.proofs.Elements.{slice_get_push_cases, slice_get-append, slice_get-push}
-use Rattle.spec_lemmas.proofs.Calls.{HasOnePlaces}
 use Rattle.checker.proofs.Judging.{HasOnePlaces-from_history}
 use Rattle.rmm_laws.proofs.EntryRuns.{not-IsRefused}
 use Rattle.order_laws.specs.Order.{count_of, Reaches, LeadsNowhere, IsNext, HasOpen, GivesNowhere}
@@ -28,9 +26,11 @@ line_stands lines line more = slice_get-append (lines ++ line ∷ []) more (leng
 
 -- the lines come before it
 lines_before : (lines : List Line) (line : Line) (more : List Line) → take (length lines) ((lines ++ line ∷ []) ++ more) ≡ lines
-lines_before lines line more = ap (λ (ls : List Line). take (length lines) ls) (append_assoc lines (line ∷ []) more) ∙ take-append_seam lines (line ∷ more)
+lines_before lines line more =
+    ap (λ (ls : List Line). take (length lines) ls) (append_assoc lines (line ∷ []) more) ∙ take-append_seam lines (line ∷ more)
 
-module _ (history : History) (is_history : IsHistory history) (lines : List Line) (state : State) (reached : Reaches history lines state) (line : Line) where
+module _ (history : History) (is_history : IsHistory history) (lines : List Line)
+    (state : State) (reached : Reaches history lines state) (line : Line) where
   -- a call that returned before the line's was made, and isn't in the order, can't come behind it
   pub nowhere_past : (cpu number : ℕ) → IsFinished history.events cpu number → ¬ (number < count_of cpu lines)
       → ReturnsBefore history.events cpu number (cpu_named line) (number_named line) → LeadsNowhere history (lines ++ line ∷ [])
@@ -46,7 +46,8 @@ module _ (history : History) (is_history : IsHistory history) (lines : List Line
                 let itself : ReturnsBefore history.events cpu number cpu number =
                 subst (λ (n : ℕ). ReturnsBefore history.events cpu number cpu n) numbered
                 (subst (λ (c : ℕ). ReturnsBefore history.events cpu number c (number_named line)) of_cpu returns) in
-                let after = call_before_return history is_history cpu number itself.called itself.returned itself.command itself.given itself.is_called itself.is_returned in
+                let after = call_before_return history is_history cpu number itself.called
+                itself.returned itself.command itself.given itself.is_called itself.is_returned in
                 let before = itself.before in
                 omega (arith, after, before)
           ]
@@ -75,8 +76,10 @@ module _ (history : History) (is_history : IsHistory history) (lines : List Line
                 (line_stands lines line more) (named.3, named.4)
             | inr above ↦
                 let number = count_of (cpu_named line) lines in
-                (nowhere_past (cpu_named line) number (finished_before_call history is_history (cpu_named line) number (number_named line) above known)
-                (λ below. omega (arith, below)) (returns_before_later history is_history (cpu_named line) number (number_named line) above known)).none more valid
+                (nowhere_past (cpu_named line) number
+                (finished_before_call history is_history (cpu_named line) number (number_named line) above known)
+                (λ below. omega (arith, below))
+                (returns_before_later history is_history (cpu_named line) number (number_named line) above known)).none more valid
           ]
         ];
   }
@@ -85,9 +88,11 @@ module _ (history : History) (is_history : IsHistory history) (lines : List Line
   pub nowhere_by : GivesNowhere history lines state line → LeadsNowhere history (lines ++ line ∷ [])
   nowhere_by each = record {
     none = λ more valid.
-        not-IsRefused history.events (HasOnePlaces-from_history history is_history) ((lines ++ line ∷ []) ++ more) valid.entries (opening history.config) valid.last
+        not-IsRefused history.events (HasOnePlaces-from_history history is_history)
+        ((lines ++ line ∷ []) ++ more) valid.entries (opening history.config) valid.last
         valid.run.claimed valid.run.run (length lines) line reached.passes.entries state (line_stands lines line more)
-        (subst (λ (ls : List Line). AreEntriesOf history.events ls reached.passes.entries) (sym (lines_before lines line more)) reached.passes.run.claimed)
+        (subst (λ (ls : List Line). AreEntriesOf history.events ls reached.passes.entries)
+        (sym (lines_before lines line more)) reached.passes.run.claimed)
         reached.passes.run.run (λ entry new is_entry step. (each entry new is_entry step).none more valid);
   }
 

@@ -1,5 +1,5 @@
 -- A call that was refused, and is refused where an order has come to, may come next at once.
-use Rattle.std.proofs.Common.{◌≡◌, ℕ, zero, suc, ◌+◌, ◌<◌, ◌≤◌, ◌⊎◌, inl, inr, List, [], ◌∷◌, ◌++◌, length, Result, Ok, Err, Some, refl, sym, ◌∙◌, ap, subst, arith, append_assoc}
+use Rattle.std.proofs.Common.{◌≡◌, ℕ, zero, suc, ◌+◌, ◌≤◌, ◌⊎◌, inl, inr, List, [], ◌∷◌, ◌++◌, length, Result, Ok, Err, Some, refl, sym, ◌∙◌, ap, subst, arith, append_assoc}
 use Rattle.std.specs.List.{slice_get}
 use Rattle.std.proofs.lemmas.Bool.{cases_lt}
 use Rattle.std.proofs.lemmas.Option.{slice_get_within}
@@ -23,7 +23,7 @@ use Rattle.rmm_laws.proofs.StepLaws.{step-decides}
 use Rattle.spec_lemmas.proofs.Calls.{HasOnePlaces, SameEntries, same_entry}
 use Rattle.checker.proofs.Judging.{HasOnePlaces-from_history}
 use Rattle.order_laws.specs.Order.{count_of, Reaches, LeadsNowhere, Grows, IsRefusal}
-use Rattle.order_laws.proofs.Moves.{Each, Pairs, Each-from_places, Each-at, Pairs-from_places, Pairs-at, Each-moved, Pairs-moved, place_moved, Around, around_place}
+use Rattle.order_laws.proofs.Moves.{Each, Pairs, Each-from_places, Each-at, Pairs-from_places, Pairs-at, Each-moved, Pairs-moved, place_moved, around_place}
 use Rattle.lemmas.proofs.Elements.{slice_get-append}
 
 -- ---- runs
@@ -115,7 +115,8 @@ pub behind : {X : Type 0} (xs ys : List X) (i : ℕ) (x : X) → slice_get ys i 
 behind xs ys i x is = place_behind xs ys i ∙ is
 
 -- an element of two lists is one of the first or of the second
-pub in_either : {X : Type 0} (xs ys : List X) (i : ℕ) (x : X) → slice_get (xs ++ ys) i ≡ Some x → (slice_get xs i ≡ Some x) ⊎ ((j : ℕ) × (slice_get ys j ≡ Some x))
+pub in_either : {X : Type 0} (xs ys : List X) (i : ℕ) (x : X)
+    → slice_get (xs ++ ys) i ≡ Some x → (slice_get xs i ≡ Some x) ⊎ ((j : ℕ) × (slice_get ys j ≡ Some x))
 in_either [] ys i x is = inr (i, is)
 in_either (y ∷ xs) ys zero x is = inl is
 in_either (y ∷ xs) ys (suc i) x is = in_either xs ys i x is
@@ -133,9 +134,11 @@ record First (events : List Event) (lines front back : List Line) (line : Line) 
   claimed : AreEntriesOf events (lines ++ (line ∷ (front ++ back))) entries
   run : IsRun start entries last
 
-first_run : (events : List Event) → HasOnePlaces events → (lines front back : List Line) (line : Line) (start last state : State) (early : List JournalEntry)
+first_run : (events : List Event) → HasOnePlaces events
+    → (lines front back : List Line) (line : Line) (start last state : State) (early : List JournalEntry)
     → AreEntriesOf events lines early → IsRun start early state → (entry : JournalEntry) → IsEntryOf events line entry → IsRefusal entry.given
-    → Step state entry.cpu entry.command entry.given state → Split events lines (front ++ line ∷ back) start last → First events lines front back line start last
+    → Step state entry.cpu entry.command entry.given state
+    → Split events lines (front ++ line ∷ back) start last → First events lines front back line start last
 first_run events one lines front back line start last state early claimed run entry is_entry refused step parts =
     let at : state ≡ parts.middle = same_state events one lines early parts.first start state parts.middle claimed run parts.claimed parts.run in
     at_middle (split_run events front (line ∷ back) parts.rest parts.middle last parts.later parts.further)
@@ -145,7 +148,8 @@ first_run events one lines front back line start last state early claimed run en
         → First events lines front back line start last
     at_middle more here = with_rest more.rest more.later more.further
       where
-        with_rest : (rest : List JournalEntry) → AreEntriesOf events (line ∷ back) rest → IsRun more.middle rest last → First events lines front back line start last
+        with_rest : (rest : List JournalEntry)
+            → AreEntriesOf events (line ∷ back) rest → IsRun more.middle rest last → First events lines front back line start last
         with_rest [] later further = absurd later
         with_rest (e ∷ es) later further =
             let same = same_entry events one line e entry later.0 is_entry in
@@ -164,7 +168,8 @@ first_run events one lines front back line start last state early claimed run en
               run = run-append parts.first (e ∷ (more.first ++ es)) start parts.middle last parts.run (parts.middle, first, shorter);
             }
 
-module _ (history : History) (is_history : IsHistory history) (lines : List Line) (state : State) (reached : Reaches history lines state) (cpu number : ℕ) (grows : Grows history lines state (Keep cpu number) state) (refused : IsRefusal grows.entry.given) where
+module _ (history : History) (is_history : IsHistory history) (lines : List Line) (state : State) (reached : Reaches history lines state)
+    (cpu number : ℕ) (grows : Grows history lines state (Keep cpu number) state) (refused : IsRefusal grows.entry.given) where
   -- a line behind those that pass names an open call
   names_open : (more : List Line) → IsLinearization history (lines ++ more) → (i : ℕ) (other : Line) → slice_get more i ≡ Some other
       → count_of (cpu_named other) lines ≤ number_named other
@@ -178,7 +183,8 @@ module _ (history : History) (is_history : IsHistory history) (lines : List Line
   ]
 
   -- so that it may come behind the refused one
-  passes : (front back : List Line) → IsLinearization history (lines ++ (front ++ Keep cpu number ∷ back)) → Each (Apart history.events (Keep cpu number)) front
+  passes : (front back : List Line)
+      → IsLinearization history (lines ++ (front ++ Keep cpu number ∷ back)) → Each (Apart history.events (Keep cpu number)) front
   passes front back valid = Each-from_places (Apart history.events (Keep cpu number)) front (λ i other is. (
     λ same.
         let within = slice_get_within front i other is in
@@ -196,7 +202,8 @@ module _ (history : History) (is_history : IsHistory history) (lines : List Line
   ))
 
   -- the refused call may stand first behind the lines
-  moved : (front back : List Line) → IsLinearization history (lines ++ (front ++ Keep cpu number ∷ back)) → IsLinearization history (lines ++ (Keep cpu number ∷ (front ++ back)))
+  moved : (front back : List Line) → IsLinearization history (lines ++ (front ++ Keep cpu number ∷ back))
+      → IsLinearization history (lines ++ (Keep cpu number ∷ (front ++ back)))
   moved front back valid =
       let old = lines ++ (front ++ Keep cpu number ∷ back) in
       let new = lines ++ (Keep cpu number ∷ (front ++ back)) in
@@ -204,11 +211,15 @@ module _ (history : History) (is_history : IsHistory history) (lines : List Line
       Pairs-moved (Apart history.events) lines front back (Keep cpu number)
       (Pairs-from_places (Apart history.events) old (λ i j x y below is there.
       (valid.order.names.once i j x y below is there, valid.real_time i j x y below is there))) (passes front back valid) in
-      let known = Each-moved (NamesCall history.events) lines front back (Keep cpu number) (Each-from_places (NamesCall history.events) old valid.order.names.known) in
-      let kinds = Each-moved (IsOfItsKind history.events) lines front back (Keep cpu number) (Each-from_places (IsOfItsKind history.events) old valid.order.names.kinds) in
-      let first = first_run history.events (HasOnePlaces-from_history history is_history) lines front back (Keep cpu number) (opening history.config) valid.last state
+      let known = Each-moved (NamesCall history.events) lines front back (Keep cpu number)
+      (Each-from_places (NamesCall history.events) old valid.order.names.known) in
+      let kinds = Each-moved (IsOfItsKind history.events) lines front back (Keep cpu number)
+      (Each-from_places (IsOfItsKind history.events) old valid.order.names.kinds) in
+      let first = first_run history.events (HasOnePlaces-from_history history is_history) lines front back
+      (Keep cpu number) (opening history.config) valid.last state
       reached.passes.entries reached.passes.run.claimed reached.passes.run.run grows.entry grows.is_entry refused grows.step
-      (split_run history.events lines (front ++ Keep cpu number ∷ back) valid.entries (opening history.config) valid.last valid.run.claimed valid.run.run) in
+      (split_run history.events lines (front ++ Keep cpu number ∷ back) valid.entries
+      (opening history.config) valid.last valid.run.claimed valid.run.run) in
       record {
         order = record {
           names = record {

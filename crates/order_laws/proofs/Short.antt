@@ -1,6 +1,6 @@
 -- An order has no more lines than its history has events, since each line names a call of its own.
-use Rattle.std.proofs.Common.{◌≡◌, ◌≢◌, ℕ, zero, suc, ◌+◌, ◌<◌, ◌≤◌, true, false, eqb, List, [], ◌∷◌, inl, inr, length, get_or, Some, refl, sym, ◌∙◌, ap, subst, arith}
-use Rattle.std.specs.List.{slice_get, list_any, All}
+use Rattle.std.proofs.Common.{◌≡◌, ℕ, zero, suc, ◌<◌, ◌≤◌, true, false, eqb, List, [], ◌∷◌, inl, inr, length, get_or, Some, refl, sym, ◌∙◌, ap, subst, arith}
+use Rattle.std.specs.List.{slice_get, list_any}
 use Rattle.std.proofs.lemmas.Bool.{cases_lt, both_ways}
 use Rattle.std.proofs.lemmas.Bool.Decides.{eqb_tells}
 use Rattle.std.proofs.lemmas.List.Folds.{list_any_none}
@@ -21,7 +21,8 @@ record Placed (events : List Event) (lines : List Line) : Type 0 where
   each : (i : ℕ) (line : Line) → slice_get lines i ≡ Some line
       → (command : Command) × IsCalled events (get_or places i 0) (cpu_named line) (number_named line) command
 
-places_of : (events : List Event) (lines : List Line) → ((i : ℕ) (line : Line) → slice_get lines i ≡ Some line → NamesCall events line) → Placed events lines
+places_of : (events : List Event) (lines : List Line)
+    → ((i : ℕ) (line : Line) → slice_get lines i ≡ Some line → NamesCall events line) → Placed events lines
 places_of events [] known = record { places = []; counted = refl; each = λ i line is. absurd (none-some line is) }
 places_of events (first ∷ lines) known =
     let call = known 0 first refl in

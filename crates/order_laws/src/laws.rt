@@ -65,7 +65,8 @@ pub fn nowhere_after_a_refusal()
 
 /// Two orders of the same calls that lead to one state: where the one leads nowhere, the other does.
 pub fn nowhere_by_configuration()
-    ensures { (history : History) (one other : List Line) (state : State) → IsHistory history → Reaches history one state → Reaches history other state
+    ensures { (history : History) (one other : List Line) (state : State)
+        → IsHistory history → Reaches history one state → Reaches history other state
         → ((cpu : ℕ) → count_of cpu one ≡ count_of cpu other) → LeadsNowhere history one → LeadsNowhere history other }
 {}
 

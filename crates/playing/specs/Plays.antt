@@ -98,7 +98,8 @@ MayRefuse source = source.is_refused ⊎ (((text : List ℕ) × source.given tex
 -- The source was read to its end before anything was written, and the sink took the text that is printed of the scenario of its bytes:
 -- all of it, a beginning of it after `Write`, and nothing after any other fault. Each fault has its cause, and each failure of a
 -- device is reported.
-pub record IsPlay (IsPrinted : Scenario → Verdict → List ℕ → Type 0) (source : Reading) (sink : Writing) (answer : Result Verdict PlayFault) : Type 0 where
+pub record IsPlay (IsPrinted : Scenario → Verdict → List ℕ → Type 0) (source : Reading)
+    (sink : Writing) (answer : Result Verdict PlayFault) : Type 0 where
   pub read : (text : List ℕ) × source.given text
   pub ends : OnRead answer source.is_ended
   pub played : IfOk answer (λ verdict. (text : List ℕ) × (sink.taken_after ≡ sink.taken_before ++ text)

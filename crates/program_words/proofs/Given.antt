@@ -10,7 +10,7 @@ use Rattle.clap.specs.Kinds.{Kinds, or_else}
 use Rattle.clap.specs.Lexer.{long_of, short_of}
 use Rattle.clap.specs.Simple.{App, Shape, argument_words, built, built_leaf, entered, filled_from, help_rule, help_shape, index_after, inherited, label_of, names_of, rows_at, subcommand_of}
 use Rattle.clap.specs.Takes.{is_given}
-use Rattle.clap.specs.Walk.{Held, Names, Outcome, Row, Rule, Step, Text, Waiting, Walk, after_flag, after_step, answers_to, arg_by_index, arg_by_long, bundle, done, finished, first_of, long_met, long_or_other, nothing_held, plain_word, rows_after, settled, short_or_plain, subcommand_met, subcommand_or_other, to_positional, walk_from, walked, walked_from, word_met}
+use Rattle.clap.specs.Walk.{Held, Names, Outcome, Row, Rule, Step, Text, Waiting, Walk, after_flag, after_step, answers_to, arg_by_index, arg_by_long, bundle, done, finished, long_met, long_or_other, nothing_held, plain_word, rows_after, settled, short_or_plain, subcommand_met, subcommand_or_other, to_positional, walk_from, walked, walked_from, word_met}
 use Rattle.clap.specs.Walk as walk
 use Rattle.clap.specs.Words.{fault_of}
 use Rattle.clap.specs.declared.error.kind.ErrorKind.TheVariants as kind
@@ -36,16 +36,19 @@ plain_word-step : (c : List Rule) (waiting : Waiting) (word : Text) (held : Held
 plain_word-step c (walk.option id) word held = tt
 plain_word-step c _ word held = tt
 
-after_flag-step : (c : List Rule) (waiting : Waiting) (word : Text) (held : Held) (outcome : Outcome) → IsNoHelpStep (after_flag c waiting word held outcome).1
+after_flag-step : (c : List Rule) (waiting : Waiting) (word : Text) (held : Held) (outcome : Outcome)
+    → IsNoHelpStep (after_flag c waiting word held outcome).1
 after_flag-step c waiting word held done = tt
 after_flag-step c waiting word held (walk.waits id) = tt
 after_flag-step c waiting word held _ = plain_word-step c waiting word held
 
-short_or_plain-step : (c : List Rule) (waiting : Waiting) (word : Text) (flags : Option Text) (held : Held) → IsNoHelpStep (short_or_plain c waiting word flags held).1
+short_or_plain-step : (c : List Rule) (waiting : Waiting) (word : Text) (flags : Option Text) (held : Held)
+    → IsNoHelpStep (short_or_plain c waiting word flags held).1
 short_or_plain-step c waiting word (Some flags) held = after_flag-step c waiting word (bundle c flags held).0 (bundle c flags held).1
 short_or_plain-step c waiting word None held = plain_word-step c waiting word held
 
-long_or_other-step : (c : List Rule) (waiting : Waiting) (word : Text) (named : Option (Text × Option Text)) (held : Held) → IsNoHelpStep (long_or_other c waiting word named held).1
+long_or_other-step : (c : List Rule) (waiting : Waiting) (word : Text) (named : Option (Text × Option Text)) (held : Held)
+    → IsNoHelpStep (long_or_other c waiting word named held).1
 long_or_other-step c waiting word (Some p) held =
     after_flag-step c waiting word (long_met c (arg_by_long c p.0) p.1 held).0 (long_met c (arg_by_long c p.0) p.1 held).1
 long_or_other-step c waiting word None held = short_or_plain-step c waiting word (short_of word) held
@@ -65,17 +68,20 @@ other_fault-step s (Some name) waiting position word held offers e = not_help (b
 other_fault-step s None waiting position word held offers e =
     IsNoHelpStep-if (bytes_eq word (45 ∷ 45 ∷ [])) (held, walk.trailing position) _ tt (long_or_other-step s.rules waiting word (long_of word) held)
 
-word_fault-step : (s : Shape) (names : Names) (is_trailing : Bool) (waiting : Waiting) (position : ℕ) (word : Text) (held : Held) → s.disable_help_subcommand ≡ false
+word_fault-step : (s : Shape) (names : Names) (is_trailing : Bool) (waiting : Waiting) (position : ℕ) (word : Text) (held : Held)
+    → s.disable_help_subcommand ≡ false
     → word_fault s names is_trailing waiting word held ≡ [] → IsNoHelpStep (word_met s.rules names is_trailing waiting position word held).1
 word_fault-step s names true waiting position word held offers e = tt
 word_fault-step s names false waiting position word held offers e =
     other_fault-step s (subcommand_met names waiting word) waiting position word held offers e
 
-to_positional-stopped : (c : List Rule) (found : Option Rule) (word : Text) (w : Walk) (held : Held) → w.stopped ≡ None → (to_positional c found word w held).stopped ≡ None
+to_positional-stopped : (c : List Rule) (found : Option Rule) (word : Text) (w : Walk) (held : Held)
+    → w.stopped ≡ None → (to_positional c found word w held).stopped ≡ None
 to_positional-stopped c None word w held e = e
 to_positional-stopped c (Some a) word w held e = refl
 
-IsNotHelp-after_step : (c : List Rule) (word : Text) (w : Walk) (held : Held) (step : Step) → w.stopped ≡ None → IsNoHelpStep step → IsNotHelp (after_step c word w held step).stopped
+IsNotHelp-after_step : (c : List Rule) (word : Text) (w : Walk) (held : Held) (step : Step)
+    → w.stopped ≡ None → IsNoHelpStep step → IsNotHelp (after_step c word w held step).stopped
 IsNotHelp-after_step c word w held (walk.next waiting) e h = subst IsNotHelp (sym e) tt
 IsNotHelp-after_step c word w held (walk.trailing position) e h = subst IsNotHelp (sym e) tt
 IsNotHelp-after_step c word w held (walk.subcommand name) e h = h
@@ -168,7 +174,8 @@ abbrev IsFaultless : Option Shape → List Text → List Row → Type 0
 IsFaultless found words rows = (option_map_or (λ s. level_fault s [] nothing_held words false []) found [] ≡ [])
     × (check_fault program.top rows (is_some (option_map (λ s. rows_at s words) found)) ≡ [])
 
-IsFaultless-help : (is_help : Bool) (words : List Text) (rows : List Row) → (is_help ≡ true → ⊥) → IsFaultless (if is_help then Some help else None) words rows → ⊥
+IsFaultless-help : (is_help : Bool) (words : List Text) (rows : List Row)
+    → (is_help ≡ true → ⊥) → IsFaultless (if is_help then Some help else None) words rows → ⊥
 IsFaultless-help true words rows other e = other refl
 IsFaultless-help false words rows other e = let bad : kind.MissingSubcommand ∷ [] ≡ [] = e.1 in cc
 

@@ -5,7 +5,7 @@ use Rattle.std.specs.List.{AllByRecursion}
 use Rattle.std.specs.Str.{bytes_eq, chars}
 use Rattle.clap.specs.Lexer.{long_of, short_of}
 use Rattle.clap.specs.Takes.{is_given}
-use Rattle.clap.specs.Walk.{Held, Names, Outcome, Row, Rule, Step, Text, Waiting, Walk, after_flag, after_step, arg_by_id, arg_by_index, arg_by_long, arg_by_short, at_row, bundle, bundle_met, bundle_step, counted, default_rows, done, finished, first_of, flag_met, has_long, has_row, has_short, long_met, long_or_other, more_values, option_word, plain_word, positional_held, pushed, reacted, reading_by, refused, settled, settled_rows, short_met, short_or_plain, subcommand_met, subcommand_or_other, takes_values, to_positional, used, used_as, used_by_id, walk_from, walked, walked_from, with_default, with_values, without, word_met}
+use Rattle.clap.specs.Walk.{Held, Names, Outcome, Row, Rule, Step, Text, Waiting, Walk, after_flag, after_step, arg_by_id, arg_by_index, arg_by_long, arg_by_short, at_row, bundle, bundle_met, bundle_step, default_rows, done, first_of, flag_met, has_long, has_row, has_short, long_met, long_or_other, more_values, option_word, plain_word, pushed, reacted, reading_by, settled, settled_rows, short_met, short_or_plain, subcommand_met, subcommand_or_other, takes_values, to_positional, used, used_as, used_by_id, walk_from, walked, walked_from, with_default, with_values, without, word_met}
 use Rattle.clap.specs.Walk as walk
 use Rattle.clap.specs.declared.builder.value_parser.Reading.{Reading}
 use Rattle.clap.specs.declared.builder.action.ArgAction.{ArgAction}
@@ -80,7 +80,8 @@ HaveValues-used_as action.Append id how v vs rows h = HaveValues-with_values id 
 HaveValues-used_as action.Count id how v vs rows h = HaveValues-with_values id how _ v vs (without id rows) (HaveValues-without id rows h)
 HaveValues-used_as _ id how v vs rows h = h
 
-HaveValues-used_by_id : (found : Option Rule) (values : List Text) (rows : List Row) → 0 < length values → HaveValues rows → HaveValues (used_by_id found values rows)
+HaveValues-used_by_id : (found : Option Rule) (values : List Text) (rows : List Row)
+    → 0 < length values → HaveValues rows → HaveValues (used_by_id found values rows)
 HaveValues-used_by_id None values rows some h = h
 HaveValues-used_by_id (Some a) [] rows some h = absurd (omega arith)
 HaveValues-used_by_id (Some a) (v ∷ vs) rows some h = HaveValues-used_as (walk.action_of a) a.id (reading_by a) v vs rows h
@@ -128,7 +129,8 @@ HoldsValues-short_met : (c : List Rule) (found : Option Rule) (rest : Text) (hel
 HoldsValues-short_met c None rest held next flag f h = h
 HoldsValues-short_met c (Some a) rest held next flag f h = rw (flag.0) (f _ (HoldsValues-reacted c a held flag h))
 
-HoldsValues-bundle_step : (c : List Rule) (x : Option ℕ) (flags : Text) (skip : ℕ) (so_far : Outcome) (held : Held) (next : Text → ℕ → Outcome → Held → Held × Outcome)
+HoldsValues-bundle_step : (c : List Rule) (x : Option ℕ) (flags : Text) (skip : ℕ)
+    (so_far : Outcome) (held : Held) (next : Text → ℕ → Outcome → Held → Held × Outcome)
     → HasFlagsOnly c → ((t : Text) (n : ℕ) (o : Outcome) (k : Held) → HoldsValues k → HoldsValues (next t n o k).0) → HoldsValues held
     → HoldsValues (bundle_step c x flags skip so_far held next).0
 HoldsValues-bundle_step c None flags skip so_far held next flags_only f h = h
@@ -150,7 +152,8 @@ HoldsValues-option_word : (found : Option Rule) (id word : Text) (held : Held) �
 HoldsValues-option_word None id word held h = h
 HoldsValues-option_word (Some a) id word held h = HoldsValues-pushed id word held h.0
 
-HoldsValues-plain_word : (c : List Rule) (waiting : Waiting) (word : Text) (held : Held) → HoldsValues held → HoldsValues (plain_word c waiting word held).0
+HoldsValues-plain_word : (c : List Rule) (waiting : Waiting) (word : Text) (held : Held)
+    → HoldsValues held → HoldsValues (plain_word c waiting word held).0
 HoldsValues-plain_word c (walk.option id) word held h = HoldsValues-option_word (arg_by_id c id) id word held h
 HoldsValues-plain_word c _ word held h = h
 
@@ -167,8 +170,8 @@ HoldsValues-short_or_plain c waiting word (Some flags) held flags_only h =
     (HoldsValues-bundle_met c (length flags) flags held.skip _ _ flags_only h)
 HoldsValues-short_or_plain c waiting word None held flags_only h = HoldsValues-plain_word c waiting word held h
 
-HoldsValues-long_or_other : (c : List Rule) (waiting : Waiting) (word : Text) (named : Option (Text × Option Text)) (held : Held) → HasFlagsOnly c → HoldsValues held
-    → HoldsValues (long_or_other c waiting word named held).0
+HoldsValues-long_or_other : (c : List Rule) (waiting : Waiting) (word : Text) (named : Option (Text × Option Text)) (held : Held)
+    → HasFlagsOnly c → HoldsValues held → HoldsValues (long_or_other c waiting word named held).0
 HoldsValues-long_or_other c waiting word (Some p) held flags_only h =
     HoldsValues-after_flag c waiting word (long_met c (arg_by_long c p.0) p.1 held).0 (long_met c (arg_by_long c p.0) p.1 held).1
     (HoldsValues-long_met c (arg_by_long c p.0) p.1 held (IsFlagIfAny-find (λ a. has_long a p.0) c flags_only) h)
@@ -178,7 +181,8 @@ HoldsValues-if : (b : Bool) (p q : Held × Step) → HoldsValues p.0 → HoldsVa
 HoldsValues-if true p q h k = h
 HoldsValues-if false p q h k = k
 
-HoldsValues-subcommand_or_other : (c : List Rule) (met : Option Text) (waiting : Waiting) (position : ℕ) (word : Text) (held : Held) → HasFlagsOnly c → HoldsValues held
+HoldsValues-subcommand_or_other : (c : List Rule) (met : Option Text) (waiting : Waiting) (position : ℕ) (word : Text) (held : Held)
+    → HasFlagsOnly c → HoldsValues held
     → HoldsValues (subcommand_or_other c met waiting position word held).0
 HoldsValues-subcommand_or_other c (Some name) waiting position word held flags_only h = h
 HoldsValues-subcommand_or_other c None waiting position word held flags_only h =
@@ -189,25 +193,29 @@ HoldsValues-to_positional : (c : List Rule) (found : Option Rule) (word : Text) 
 HoldsValues-to_positional c None word w held h = h
 HoldsValues-to_positional c (Some a) word w held h =
     let go_on = walk.is_pending a held.pending && walk.takes_several a in
-    HoldsValues-pushed a.id word (if go_on then held else settled c held) (HaveValues-rows go_on held (settled c held) h.0 (HoldsValues-settled c held h).0)
+    HoldsValues-pushed a.id word (if go_on then held else settled c held)
+    (HaveValues-rows go_on held (settled c held) h.0 (HoldsValues-settled c held h).0)
   where
     HaveValues-rows : (b : Bool) (p q : Held) → HaveValues p.rows → HaveValues q.rows → HaveValues (if b then p else q).rows
     HaveValues-rows true p q h k = h
     HaveValues-rows false p q h k = k
 
-HoldsValues-after_step : (c : List Rule) (word : Text) (w : Walk) (held : Held) (step : Step) → HoldsValues held → HoldsValues (after_step c word w held step).held
+HoldsValues-after_step : (c : List Rule) (word : Text) (w : Walk) (held : Held) (step : Step)
+    → HoldsValues held → HoldsValues (after_step c word w held step).held
 HoldsValues-after_step c word w held (walk.next waiting) h = h
 HoldsValues-after_step c word w held (walk.trailing position) h = h
 HoldsValues-after_step c word w held (walk.subcommand name) h = h
 HoldsValues-after_step c word w held walk.value h = HoldsValues-to_positional c (arg_by_index c w.position) word w held h
 
-HoldsValues-walked_from : (c : List Rule) (names : Names) (stopped : Option (Text × List Text)) (w : Walk) (word : Text) → HasFlagsOnly c → HoldsValues w.held
+HoldsValues-walked_from : (c : List Rule) (names : Names) (stopped : Option (Text × List Text)) (w : Walk) (word : Text)
+    → HasFlagsOnly c → HoldsValues w.held
     → HoldsValues (walked_from c names stopped w word).held
 HoldsValues-walked_from c names (Some p) w word flags_only h = h
 HoldsValues-walked_from c names None w word flags_only h =
     let met = word_met c names w.is_trailing w.waiting w.position word w.held in
     HoldsValues-after_step c word w met.0 met.1
-    (HoldsValues-if w.is_trailing _ _ h (HoldsValues-subcommand_or_other c (subcommand_met names w.waiting word) w.waiting w.position word w.held flags_only h))
+    (HoldsValues-if w.is_trailing _ _ h
+    (HoldsValues-subcommand_or_other c (subcommand_met names w.waiting word) w.waiting w.position word w.held flags_only h))
 
 HoldsValues-fold : (c : List Rule) (names : Names) (w : Walk) (words : List Text) → HasFlagsOnly c → HoldsValues w.held
     → HoldsValues (fold (walked c names) w words).held
@@ -218,7 +226,8 @@ HoldsValues-fold c names w (word ∷ words) flags_only h =
 
 -- ---- the end of a walk
 
-HaveValues-default_rows : (id : Text) (how : Reading) (values : List Text) (rows : List Row) → HaveValues rows → HaveValues (default_rows id how values rows)
+HaveValues-default_rows : (id : Text) (how : Reading) (values : List Text) (rows : List Row)
+    → HaveValues rows → HaveValues (default_rows id how values rows)
 HaveValues-default_rows id how [] rows h = h
 HaveValues-default_rows id how (v ∷ vs) rows h = HaveValues-with_values id how _ v vs rows h
 
@@ -226,7 +235,8 @@ HaveValues-defaults : (xs : List Rule) (rows : List Row) → HaveValues rows →
 HaveValues-defaults [] rows h = h
 HaveValues-defaults (a ∷ xs) rows h =
     HaveValues-defaults xs (with_default rows a)
-    (HaveValues-if (has_row a.id rows) rows (default_rows a.id (reading_by a) a.defaults rows) h (HaveValues-default_rows a.id (reading_by a) a.defaults rows h))
+    (HaveValues-if (has_row a.id rows) rows (default_rows a.id (reading_by a) a.defaults rows) h
+    (HaveValues-default_rows a.id (reading_by a) a.defaults rows h))
 
 -- the rows at the end of a walk have values
 pub HaveValues-rows_after : (c : List Rule) (names : Names) (words : List Text) → HasFlagsOnly c → HaveValues (walk.rows_after c names words)
@@ -244,6 +254,7 @@ first_of-given id (row ∷ rows) h given = go (bytes_eq row.id id) refl (first_o
     first [] some = absurd (omega arith)
     first (v ∷ vs) some = (v, refl)
 
-    go : (b : Bool) → bytes_eq row.id id ≡ b → (is_given id rows ≡ true → (v : Text) × (first_of id rows ≡ Some v)) → (v : Text) × (first_of id (row ∷ rows) ≡ Some v)
+    go : (b : Bool) → bytes_eq row.id id ≡ b → (is_given id rows ≡ true → (v : Text) × (first_of id rows ≡ Some v))
+        → (v : Text) × (first_of id (row ∷ rows) ≡ Some v)
     go true e rest = let f = first row.values h.0 in (f.0, rw e f.1)
     go false e rest = let f = rest (rw e at given) in (f.0, rw e f.1)

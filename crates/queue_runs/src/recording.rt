@@ -66,7 +66,8 @@ fn record_named<N: Named + Send + Sync, R: Threads + Wait + Sync>(
     let ((), drained) = thread::join(
         rt,
         ||
-            requires { (0 < cpus) × (recorder.now.queue ≡ N.queue) × AllWithin (λ pass. pass.queue ≡ recorder.now.queue) passes.now 0 (length passes.now) }
+            requires { (0 < cpus) × (recorder.now.queue ≡ N.queue)
+                × AllWithin (λ pass. pass.queue ≡ recorder.now.queue) passes.now 0 (length passes.now) }
         {
             thread::for_each_mut(
                 rt,

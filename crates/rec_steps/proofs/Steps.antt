@@ -124,7 +124,8 @@ rec_enter-IsHeld s cpu address realm rec held tagged =
     let here = rec_at-held s address rec held.has_rec in
     ap (λ r. enter_rows r rec cpu address) (sym (realm_at-IsHeld s address realm rec held))
     ∙ ap (λ (r : RecRecord). enter_rows (realm_at s (rec_at s address).owner) r cpu address) (sym here)
-    ∙ when_true (has_tag s address tag.Rec) (enter_rows (realm_at s (rec_at s address).owner) (rec_at s address) cpu address) (Err (of.Input GranState)) tagged
+    ∙ when_true (has_tag s address tag.Rec)
+    (enter_rows (realm_at s (rec_at s address).owner) (rec_at s address) cpu address) (Err (of.Input GranState)) tagged
 
 -- a host enters a REC from outside
 pub outcome-enter : (s : State) (cpu address : ℕ) (c : Call) → c ≡ call.RecEnter address → is_inside s cpu ≡ false
@@ -150,7 +151,8 @@ exit_class _ class = absurd cc
 
 -- a REC with no exit pending is answered by its rows, and gives no host's command
 pub outcome-row : (s : State) (cpu : ℕ) (c : Call) (rec : RecRecord) → IsTrue (is_inside s cpu)
-    → s.rec (rec_inside s cpu) ≡ Some rec → is_none rec.pending ≡ true → (c ≡ call.Exit → ⊥) → answer_to_realm s (rec_inside s cpu) c ≡ outcome s cpu c
+    → s.rec (rec_inside s cpu) ≡ Some rec → is_none rec.pending ≡ true
+    → (c ≡ call.Exit → ⊥) → answer_to_realm s (rec_inside s cpu) c ≡ outcome s cpu c
 unfolding outcome answer_of
 outcome-row s cpu c rec inside held free other = sym (answer_to_realm-class s (rec_inside s cpu) c) ∙ by (class_of c) refl
   where
@@ -158,7 +160,8 @@ outcome-row s cpu c rec inside held free other = sym (answer_to_realm-class s (r
     placed = and_from (is_inside s cpu) _ inside (ap (λ (r : RecRecord). is_none r.pending) (rec_at-held s (rec_inside s cpu) rec held) ∙ free)
 
     by : (k : Class) → class_of c ≡ k
-        → realms_alone k (answer_to_realm s (rec_inside s cpu) c) ≡ (if is_placed s cpu k then answer_by k s cpu c else Err (of.Misplaced (misplacement (is_inside s cpu) k)))
+        → realms_alone k (answer_to_realm s (rec_inside s cpu) c)
+        ≡ (if is_placed s cpu k then answer_by k s cpu c else Err (of.Misplaced (misplacement (is_inside s cpu) k)))
     by ByRealm is = when_true (is_placed s cpu ByRealm) _ _ placed
     by ByHost is = when_false (is_placed s cpu ByHost) _ _ (ap not inside)
     by ByExit is = absurd (other (exit_class c is))

@@ -59,10 +59,12 @@ unfinished_header [] none =
     IsBadLine-end recordings_by_lines [] [] tt refl (λ none_before. absurd (omega (arith, none_before)))
     (λ taken. let spelled : [] ≡ recording_lines taken.recording = taken.spelled in cc)
 unfinished_header (byte ∷ text) none =
-    IsBadLine-unfinished recordings_by_lines [] (byte ∷ text) (byte ∷ text) tt refl none (λ ended. cc) (λ none_before. absurd (omega (arith, none_before)))
+    IsBadLine-unfinished recordings_by_lines [] (byte ∷ text) (byte ∷ text) tt refl none
+    (λ ended. cc) (λ none_before. absurd (omega (arith, none_before)))
 
 -- the first line is whole, and no header
-pub bad_header : (text front more : List ℕ) → text ≡ front ++ 10 ∷ more → HasNoNewline front → IsNoSizes (parts_of front) → IsBadLine InRecordings text 1
+pub bad_header : (text front more : List ℕ)
+    → text ≡ front ++ 10 ∷ more → HasNoNewline front → IsNoSizes (parts_of front) → IsBadLine InRecordings text 1
 bad_header text front more is_text none no_sizes =
     IsBadLine-line recordings_by_lines [] text front more tt is_text none (λ none_before. absurd (omega (arith, none_before)))
     (λ taken.

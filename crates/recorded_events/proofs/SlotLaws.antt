@@ -20,14 +20,16 @@ use Rattle.recorded_events.specs.declared.slot.Slot.{Slot}
 
 -- ---- words at the end leave those before them
 
-words_at-append : (words more : List ℕ) (first count : ℕ) → first + count ≤ length words → words_at (words ++ more) first count ≡ words_at words first count
+words_at-append : (words more : List ℕ) (first count : ℕ)
+    → first + count ≤ length words → words_at (words ++ more) first count ≡ words_at words first count
 words_at-append words more first count within =
     let before : first ≤ length words = omega (arith, within) in
     let enough : count ≤ length (drop first words) = omega (arith, within, length-drop first words) in
     ap (λ (ws : List ℕ). record { items = ws })
     (ap (take count) (drop-append-le first words more before) ∙ take-append-le count (drop first words) more enough)
 
-moment_at-append : (words more : List ℕ) (first : ℕ) (kept : What) → first + word_count_of kept ≤ length words → moment_at (words ++ more) first kept ≡ moment_at words first kept
+moment_at-append : (words more : List ℕ) (first : ℕ) (kept : What)
+    → first + word_count_of kept ≤ length words → moment_at (words ++ more) first kept ≡ moment_at words first kept
 moment_at-append words more first what.Nothing within = refl
 moment_at-append words more first (what.Call function count) within =
     let same = words_at-append words more first count within in
@@ -55,17 +57,20 @@ HasWords-more size more slot has = record { within = omega (arith, has.within); 
 
 -- ---- the words of the last event
 
-commit_at : (words : List ℕ) (first : ℕ) (given : Reply) → AreAt words (reply_words given) first → moment_at words first (commit_what given) ≡ Some (Commit given)
+commit_at : (words : List ℕ) (first : ℕ) (given : Reply)
+    → AreAt words (reply_words given) first → moment_at words first (commit_what given) ≡ Some (Commit given)
 commit_at words first (reply.Ok ws) at = λ i. Some (Commit (reply.Ok (record { items = at.found i })))
 commit_at words first (reply.Err status index) at = refl
 commit_at words first reply.Misplaced at = refl
 
-return_at : (words : List ℕ) (first : ℕ) (given : Reply) → AreAt words (reply_words given) first → moment_at words first (return_what given) ≡ Some (Return given)
+return_at : (words : List ℕ) (first : ℕ) (given : Reply)
+    → AreAt words (reply_words given) first → moment_at words first (return_what given) ≡ Some (Return given)
 return_at words first (reply.Ok ws) at = λ i. Some (Return (reply.Ok (record { items = at.found i })))
 return_at words first (reply.Err status index) at = refl
 return_at words first reply.Misplaced at = refl
 
-moment_at-own : (words : List ℕ) (first : ℕ) (moment : Moment) → AreAt words (moment_words moment) first → moment_at words first (what_of moment) ≡ Some moment
+moment_at-own : (words : List ℕ) (first : ℕ) (moment : Moment)
+    → AreAt words (moment_words moment) first → moment_at words first (what_of moment) ≡ Some moment
 moment_at-own words first (Call command) at = λ i. Some (Call (record { function = command.function; words = record { items = at.found i } }))
 moment_at-own words first (Commit given) at = commit_at words first given at
 moment_at-own words first (Return given) at = return_at words first given at
@@ -138,7 +143,8 @@ pub record IsStored (words new_words : List ℕ) (slots new_slots : List Slot) (
   pub kept : What
   pub is_kept : kept ≡ what_of moment
   pub is_placed : IsPlaced words new_words (moment_words moment) first
-  pub is_slots : new_slots ≡ set (slots ++ replicate (stamp + 1 - length slots) vacant) stamp (record { line = line; first = first; cpu = cpu; what = kept })
+  pub is_slots : new_slots
+      ≡ set (slots ++ replicate (stamp + 1 - length slots) vacant) stamp (record { line = line; first = first; cpu = cpu; what = kept })
   pub free : slot_at (slots_in words slots) stamp ≡ None
 
 module _ (words new_words : List ℕ) (slots new_slots : List Slot) (stamp line cpu : ℕ) (moment : Moment)
@@ -202,12 +208,14 @@ module _ (words new_words : List ℕ) (slots new_slots : List Slot) (stamp line 
             (AllByRecursion-set (HasWords (length new_words)) (slots ++ more) stamp _
             (AllByRecursion-append (HasWords (length new_words)) slots more
             (subst (λ size. AllByRecursion (HasWords size) slots) (sym longer)
-            (each-weaker (HasWords (length words)) (HasWords (length words + length placed.more)) (HasWords-more (length words) (length placed.more)) slots each))
+            (each-weaker (HasWords (length words)) (HasWords (length words + length placed.more))
+            (HasWords-more (length words) (length placed.more)) slots each))
             (each_vacant (length new_words) (stamp + 1 - length slots)))
             (record { within = omega (arith, placed.are_at.within, counted); few = omega (arith, counted, is_few) }));
         happened = λ at known is_known.
             ⊎_elim
-            (λ (same : at ≡ stamp). let e : Some slot ≡ Some known = sym put.here ∙ ap (slot_at (slots_in new_words new_slots)) (sym same) ∙ is_known in
+            (λ (same : at ≡ stamp). let e : Some slot ≡ Some known =
+            sym put.here ∙ ap (slot_at (slots_in new_words new_slots)) (sym same) ∙ is_known in
             let f : slot ≡ known = cc in subst IsHappened f is_happened)
             (λ (other : at ≢ stamp). held.happened at known (sym (put.others at other) ∙ is_known))
             (cases_eq at stamp);

@@ -27,24 +27,29 @@ module _ (parts : List (List ℕ)) where
   unfolding moment_parts
   is_return given is_reply spelled = record { is_moment = is_reply; spelled = ap (λ ps. codes "return" ∷ ps) spelled }
 
-  pub no_call : ((command : Command) → IsCommand command → parts ≡ command_parts command → ⊥) → (moment : Moment) → IsMomentOf (codes "call" ∷ parts) moment → ⊥
+  pub no_call : ((command : Command) → IsCommand command → parts ≡ command_parts command → ⊥) → (moment : Moment)
+      → IsMomentOf (codes "call" ∷ parts) moment → ⊥
   unfolding moment_parts
   no_call none (Call command) of_moment =
       none command of_moment.is_moment (let same : codes "call" ∷ parts ≡ codes "call" ∷ command_parts command = of_moment.spelled in cc)
   no_call none (Commit given) of_moment = absurd (bytes_apart 97 111 refl (ap (byte_at 1) of_moment.spelled))
   no_call none (Return given) of_moment = absurd (bytes_apart 99 114 refl (ap (byte_at 0) of_moment.spelled))
 
-  pub no_commit : ((given : Reply) → IsReply given → parts ≡ reply_parts given → ⊥) → (moment : Moment) → IsMomentOf (codes "commit" ∷ parts) moment → ⊥
+  pub no_commit : ((given : Reply) → IsReply given → parts ≡ reply_parts given → ⊥) → (moment : Moment)
+      → IsMomentOf (codes "commit" ∷ parts) moment → ⊥
   unfolding moment_parts
   no_commit none (Call command) of_moment = absurd (bytes_apart 111 97 refl (ap (byte_at 1) of_moment.spelled))
-  no_commit none (Commit given) of_moment = none given of_moment.is_moment (let same : codes "commit" ∷ parts ≡ codes "commit" ∷ reply_parts given = of_moment.spelled in cc)
+  no_commit none (Commit given) of_moment =
+      none given of_moment.is_moment (let same : codes "commit" ∷ parts ≡ codes "commit" ∷ reply_parts given = of_moment.spelled in cc)
   no_commit none (Return given) of_moment = absurd (bytes_apart 99 114 refl (ap (byte_at 0) of_moment.spelled))
 
-  pub no_return : ((given : Reply) → IsReply given → parts ≡ reply_parts given → ⊥) → (moment : Moment) → IsMomentOf (codes "return" ∷ parts) moment → ⊥
+  pub no_return : ((given : Reply) → IsReply given → parts ≡ reply_parts given → ⊥) → (moment : Moment)
+      → IsMomentOf (codes "return" ∷ parts) moment → ⊥
   unfolding moment_parts
   no_return none (Call command) of_moment = absurd (bytes_apart 114 99 refl (ap (byte_at 0) of_moment.spelled))
   no_return none (Commit given) of_moment = absurd (bytes_apart 114 99 refl (ap (byte_at 0) of_moment.spelled))
-  no_return none (Return given) of_moment = none given of_moment.is_moment (let same : codes "return" ∷ parts ≡ codes "return" ∷ reply_parts given = of_moment.spelled in cc)
+  no_return none (Return given) of_moment =
+      none given of_moment.is_moment (let same : codes "return" ∷ parts ≡ codes "return" ∷ reply_parts given = of_moment.spelled in cc)
 
 moment_parts-word : (moment : Moment) → (word : Word) × ((rest : List (List ℕ)) × (moment_parts moment ≡ word_text word ∷ rest))
 unfolding moment_parts

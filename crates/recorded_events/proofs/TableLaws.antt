@@ -24,7 +24,8 @@ slice_get-push_cases (first ∷ xs) x (suc place) y is =
     (slice_get-push_cases xs x place y is)
 
 -- one more event is placed where none was
-pub ArePlaced-put : (events : List Recorded) (event : Recorded) (count : ℕ) (slots new : List (Option Happened)) → ArePlaced events slots → count ≡ length events
+pub ArePlaced-put : (events : List Recorded) (event : Recorded) (count : ℕ) (slots new : List (Option Happened))
+    → ArePlaced events slots → count ≡ length events
     → IsPut slots new event.stamp (record { line = count + 2; cpu = event.cpu; moment = event.moment })
     → ArePlaced (events ++ event ∷ []) new
 ArePlaced-put events event count slots new placed counted put =
@@ -77,7 +78,8 @@ module _ (front bytes : List ℕ) (table : Table) (event : Recorded) (of_text : 
   events : List Recorded
   events = of_text.events ++ event ∷ []
 
-  text_is : IsRecordingText (front ++ (bytes ++ 10 ∷ [])) (record { granules = table.granules; cpus = table.cpus; events = of_text.events ++ event ∷ [] })
+  text_is : IsRecordingText (front ++ (bytes ++ 10 ∷ []))
+      (record { granules = table.granules; cpus = table.cpus; events = of_text.events ++ event ∷ [] })
   text_is = pushed table.granules table.cpus of_text.events event front bytes of_text.is_recording of_line (omega (arith, of_text.counted))
 
   pub IsTableOf-put : (new : List (Option Happened))
@@ -90,7 +92,8 @@ module _ (front bytes : List ℕ) (table : Table) (event : Recorded) (of_text : 
     are_placed = ArePlaced-put of_text.events event table.count table.slots new of_text.are_placed of_text.counted put;
   }
 
-  begins : (more : List ℕ) → BeginsWith (front ++ (bytes ++ 10 ∷ more)) (record { granules = table.granules; cpus = table.cpus; events = of_text.events ++ event ∷ [] })
+  begins : (more : List ℕ)
+      → BeginsWith (front ++ (bytes ++ 10 ∷ more)) (record { granules = table.granules; cpus = table.cpus; events = of_text.events ++ event ∷ [] })
   begins more = record {
     more = more;
     is_recording = text_is.is_recording;
@@ -107,7 +110,8 @@ module _ (front bytes : List ℕ) (table : Table) (event : Recorded) (of_text : 
   pub repeats : (more : List ℕ) → IsSome (slot_at table.slots event.stamp) → RepeatsStamp (front ++ (bytes ++ 10 ∷ more)) (table.count + 2)
   repeats more taken = earlier (slot_at table.slots event.stamp) refl taken
     where
-      earlier : (found : Option Happened) → slot_at table.slots event.stamp ≡ found → IsSome found → RepeatsStamp (front ++ (bytes ++ 10 ∷ more)) (table.count + 2)
+      earlier : (found : Option Happened)
+          → slot_at table.slots event.stamp ≡ found → IsSome found → RepeatsStamp (front ++ (bytes ++ 10 ∷ more)) (table.count + 2)
       earlier None is some = absurd cc
       earlier (Some slot) is some =
           let of_event = of_text.are_placed.each_slot event.stamp slot is in
@@ -137,7 +141,8 @@ module _ (front : List ℕ) (table : Table) (of_text : IsTableOf front table) wh
   unfolding recording
   too_many bytes more full = at_number _ (line_too_many recording front bytes more of_text.is_recording (sym of_text.counted ∙ full))
 
-  pub bad : (bytes more : List ℕ) → HasNoNewline bytes → IsNoLine (parts_of bytes) → IsBadLine InRecordings (front ++ (bytes ++ 10 ∷ more)) (table.count + 2)
+  pub bad : (bytes more : List ℕ) → HasNoNewline bytes → IsNoLine (parts_of bytes)
+      → IsBadLine InRecordings (front ++ (bytes ++ 10 ∷ more)) (table.count + 2)
   unfolding recording
   bad bytes more none no_line = at_number _ (bad_line recording front bytes more of_text.is_recording none no_line)
 
@@ -150,7 +155,8 @@ pub seen_known : {A B : Type 0} (f : A → B) (found : Option A) (known : Option
 seen_known f None known is some = absurd cc
 seen_known f (Some x) known is some = subst IsSome is refl
 
-pub not_seen_known : {A B : Type 0} (f : A → B) (found : Option A) (known : Option B) → option_map f found ≡ known → is_some found ≡ false → known ≡ None
+pub not_seen_known : {A B : Type 0} (f : A → B) (found : Option A) (known : Option B)
+    → option_map f found ≡ known → is_some found ≡ false → known ≡ None
 not_seen_known f None known is none = sym is
 not_seen_known f (Some x) known is none = absurd cc
 

@@ -24,19 +24,22 @@ nil_from_test [] test = refl
 nil_from_test (byte ∷ bytes) test = absurd (grind (arith, nat_tests))
 
 -- an empty part that stands behind others
-pub Contains-nil_among : (entry front parts rest : List (List ℕ)) (part : List ℕ) → entry ≡ front ++ parts → parts ≡ part ∷ rest → (length part == 0) ≡ true → Contains entry []
+pub Contains-nil_among : (entry front parts rest : List (List ℕ)) (part : List ℕ)
+    → entry ≡ front ++ parts → parts ≡ part ∷ rest → (length part == 0) ≡ true → Contains entry []
 Contains-nil_among entry front parts rest part read next test =
     let P : List (List ℕ) → Type 0 = λ ps. Contains ps [] in
     let whole : entry ≡ front ++ [] ∷ rest = read ∙ ap (λ ps. front ++ ps) (next ∙ ap (λ p. p ∷ rest) (sym (nil_from_test part test))) in
     subst P (sym whole) (Contains-among front [] rest)
 
-pub Any-read : (P : List ℕ → Type 0) (entry front parts rest : List (List ℕ)) (part : List ℕ) → entry ≡ front ++ parts → parts ≡ part ∷ rest → P part → Any P entry
+pub Any-read : (P : List ℕ → Type 0) (entry front parts rest : List (List ℕ)) (part : List ℕ)
+    → entry ≡ front ++ parts → parts ≡ part ∷ rest → P part → Any P entry
 Any-read P entry front parts rest part read next h =
     let Q : List (List ℕ) → Type 0 = λ ps. Any P ps in
     subst Q (sym (read ∙ ap (λ ps. front ++ ps) next)) (Any-among P front part rest h)
 
 -- a fault of a part that is to be a word is one of the words
-pub IsWordsFault-from_part : (excess told : CodecFault) (xs : List ℕ) (entry parts : List (List ℕ)) → entry ≡ map word xs ++ parts → parts ≢ [] → ((w : ℕ) (rest : List (List ℕ)) → w < 2 ^ 64 → parts ≢ word w ∷ rest) → IsPartFault told parts → IsWordsFault excess told entry
+pub IsWordsFault-from_part : (excess told : CodecFault) (xs : List ℕ) (entry parts : List (List ℕ)) → entry ≡ map word xs ++ parts → parts ≢ []
+    → ((w : ℕ) (rest : List (List ℕ)) → w < 2 ^ 64 → parts ≢ word w ∷ rest) → IsPartFault told parts → IsWordsFault excess told entry
 IsWordsFault-from_part excess UnknownNumber xs entry parts read some none h = absurd h
 IsWordsFault-from_part excess WordCount xs entry parts read some none h = absurd h
 IsWordsFault-from_part excess BadWord xs entry [] read some none h = absurd (some refl)
@@ -47,7 +50,8 @@ IsWordsFault-from_part excess BadSpacing xs entry parts read some none h =
 IsWordsFault-from_part excess BadForm xs entry parts read some none h = absurd (some h)
 
 -- and one of a part that is to be a status is one of the status
-pub IsSmallFault-from_part : (told : CodecFault) (parts : List (List ℕ)) → ((n : ℕ) (rest : List (List ℕ)) → n ≤ 255 → parts ≢ decimal n ∷ rest) → IsPartFault told parts → IsSmallFault told parts
+pub IsSmallFault-from_part : (told : CodecFault) (parts : List (List ℕ))
+    → ((n : ℕ) (rest : List (List ℕ)) → n ≤ 255 → parts ≢ decimal n ∷ rest) → IsPartFault told parts → IsSmallFault told parts
 IsSmallFault-from_part UnknownNumber parts none h = h
 IsSmallFault-from_part WordCount parts none h = h
 IsSmallFault-from_part BadWord [] none h = absurd (h refl)
@@ -63,11 +67,13 @@ Contains-cons : {X : Type 0} (x y : X) (xs : List X) → Contains xs y → Conta
 Contains-cons x y xs h = (h.0 + 1, omega (arith, h.1), rw (add-one h.0) h.2)
 
 -- a command's function takes another count of words
-pub WordCount-from : (f : FunctionId) (p : List ℕ) (rest parts : List (List ℕ)) → parts ≡ p ∷ rest → p ≡ fixed_hex 8 (number_of f) → length rest ≢ word_count f → IsCommandFault WordCount parts
+pub WordCount-from : (f : FunctionId) (p : List ℕ) (rest parts : List (List ℕ))
+    → parts ≡ p ∷ rest → p ≡ fixed_hex 8 (number_of f) → length rest ≢ word_count f → IsCommandFault WordCount parts
 WordCount-from f p rest parts next is count = (f, rest, next ∙ ap (λ q. q ∷ rest) is, count)
 
 -- a fault of a command's words is one of the command
-pub IsCommandFault-from_words : (f : FunctionId) (p : List ℕ) (rest parts : List (List ℕ)) (told : CodecFault) → parts ≡ p ∷ rest → p ≡ fixed_hex 8 (number_of f) → IsWordsFault WordCount told rest → IsCommandFault told parts
+pub IsCommandFault-from_words : (f : FunctionId) (p : List ℕ) (rest parts : List (List ℕ)) (told : CodecFault)
+    → parts ≡ p ∷ rest → p ≡ fixed_hex 8 (number_of f) → IsWordsFault WordCount told rest → IsCommandFault told parts
 IsCommandFault-from_words f p rest parts told next is (inl h) =
     let P : CodecFault → Type 0 = λ e. IsCommandFault e parts in
     let Q : List (List ℕ) → Type 0 = λ ps. Any IsNoWord (drop 1 ps) in
@@ -120,7 +126,8 @@ IsReplyFault-from_status BadSpacing rest h = Contains-cons (codes "err") [] rest
 IsReplyFault-from_status BadForm rest h = err_form rest (λ two. omega (arith, ap length h))
 
 -- and so is one of an index behind it
-pub IsReplyFault-from_index : (told : CodecFault) (status : List ℕ) (parts rest : List (List ℕ)) → parts ≡ status ∷ rest → IsSmallFault told rest → IsReplyFault told (codes "err" ∷ parts)
+pub IsReplyFault-from_index : (told : CodecFault) (status : List ℕ) (parts rest : List (List ℕ))
+    → parts ≡ status ∷ rest → IsSmallFault told rest → IsReplyFault told (codes "err" ∷ parts)
 IsReplyFault-from_index UnknownNumber status parts rest next h = h
 IsReplyFault-from_index WordCount status parts rest next h = h
 IsReplyFault-from_index BadWord status parts rest next h =
@@ -136,7 +143,8 @@ some_from [] h = absurd (h refl)
 some_from (part ∷ rest) h = omega arith
 
 -- and one of the end behind both
-pub IsReplyFault-from_err_end : (told : CodecFault) (status index : List ℕ) (parts mid rest : List (List ℕ)) → parts ≡ status ∷ mid → mid ≡ index ∷ rest → IsEndFault told rest → IsReplyFault told (codes "err" ∷ parts)
+pub IsReplyFault-from_err_end : (told : CodecFault) (status index : List ℕ) (parts mid rest : List (List ℕ))
+    → parts ≡ status ∷ mid → mid ≡ index ∷ rest → IsEndFault told rest → IsReplyFault told (codes "err" ∷ parts)
 IsReplyFault-from_err_end UnknownNumber status index parts mid rest first second h = h
 IsReplyFault-from_err_end WordCount status index parts mid rest first second h = h
 IsReplyFault-from_err_end BadWord status index parts mid rest first second h = absurd h

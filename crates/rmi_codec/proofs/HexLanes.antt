@@ -62,16 +62,20 @@ lane_all : (d : ℕ) → d < 16 → lane (glyph d) < 16
 lane_all d small = grind (arith, nat_tests)
 
 lane_at : (bytes : List ℕ) (i : ℕ) → length bytes ≡ 16 → i < 16 → get_or (lanes bytes) i 0 ≡ lane (get_or bytes i 0)
-lane_at bytes i long inside = ap (λ ds. get_or ds i 0) (ap (lanes_of bytes) (sym long) ∙ lanes_long bytes) ∙ get_or-map lane bytes i 0 0 (omega (arith, long))
+lane_at bytes i long inside =
+    ap (λ ds. get_or ds i 0) (ap (lanes_of bytes) (sym long) ∙ lanes_long bytes) ∙ get_or-map lane bytes i 0 0 (omega (arith, long))
 
 -- a lane below 16 is the digit that its byte shows
-pub lanes_shown : (bytes : List ℕ) → (length bytes ≡ 16) × Each1 (Fits w8) bytes → (i : ℕ) → i < 16 → get_or (lanes bytes) i 0 < 16 → glyph (get_or (lanes bytes) i 0) ≡ get_or bytes i 0
+pub lanes_shown : (bytes : List ℕ) → (length bytes ≡ 16) × Each1 (Fits w8) bytes → (i : ℕ)
+    → i < 16 → get_or (lanes bytes) i 0 < 16 → glyph (get_or (lanes bytes) i 0) ≡ get_or bytes i 0
 lanes_shown bytes vector i inside =
     let P : ℕ → Type 0 = λ d. d < 16 → glyph d ≡ get_or bytes i 0 in
-    subst P (sym (lane_at bytes i vector.0 inside)) (lane_shown (get_or bytes i 0) (Each1-get_or (Fits w8) bytes i 0 (omega (arith, vector.0)) vector.1).fits)
+    subst P (sym (lane_at bytes i vector.0 inside))
+    (lane_shown (get_or bytes i 0) (Each1-get_or (Fits w8) bytes i 0 (omega (arith, vector.0)) vector.1).fits)
 
 -- and a byte that shows a digit has such a lane
-pub lanes_all : (bytes : List ℕ) → (length bytes ≡ 16) × Each1 (Fits w8) bytes → (i d : ℕ) → i < 16 → d < 16 → glyph d ≡ get_or bytes i 0 → get_or (lanes bytes) i 0 < 16
+pub lanes_all : (bytes : List ℕ) → (length bytes ≡ 16) × Each1 (Fits w8) bytes → (i d : ℕ)
+    → i < 16 → d < 16 → glyph d ≡ get_or bytes i 0 → get_or (lanes bytes) i 0 < 16
 lanes_all bytes vector i d inside small shown =
     let is : lane (glyph d) ≡ get_or (lanes bytes) i 0 = ap lane shown ∙ sym (lane_at bytes i vector.0 inside) in
     subst (λ x. x < 16) is (lane_all d small)
@@ -100,14 +104,17 @@ pub record IsDigitCount (ds : List ℕ) (count : ℕ) : Type 0 where
   pub end : count < 16 → 16 ≤ get_or ds count 0
 
 -- these are the ones at the low end of the mask
-pub digits_counted : (ds : List ℕ) → length ds ≡ 16 → IsDigitCount ds (trailing_ones w64 (mask_l (map (top 7) (zip2 below_mask ds (replicate 16 16))) % 2 ^ 64))
+pub digits_counted : (ds : List ℕ)
+    → length ds ≡ 16 → IsDigitCount ds (trailing_ones w64 (mask_l (map (top 7) (zip2 below_mask ds (replicate 16 16))) % 2 ^ 64))
 digits_counted ds long =
     let mask = mask_l (map is_digit ds) in
     let small : mask + 1 < 2 ^ 64 = omega (arith, mask_l-lt (map is_digit ds), ap (λ n. 2 ^ n) (length-map ds is_digit ∙ long)) in
     let ones = bit_at-trailing_ones w64 mask small in
-    let lane_of : (i : ℕ) → i < trailing_ones w64 mask → (i < length ds) × (get_or ds i 0 < 16) = λ i before. set_lane ds i (sym (bit_mask_l (map is_digit ds) i) ∙ ones.2 i before) in
+    let lane_of : (i : ℕ) → i < trailing_ones w64 mask → (i < length ds) × (get_or ds i 0 < 16) =
+    λ i before. set_lane ds i (sym (bit_mask_l (map is_digit ds) i) ∙ ones.2 i before) in
     subst (λ m. IsDigitCount ds (trailing_ones w64 m)) (sym (bitmask_splat w8 ltb ds 16 16 long (omega arith))) (record {
-      within = elim (cases_lt 16 (trailing_ones w64 mask)) [ inl past ↦ (let inside = (lane_of 16 past).0 in absurd (omega (arith, long))) | inr h ↦ omega arith ];
+      within = elim (cases_lt 16
+          (trailing_ones w64 mask)) [ inl past ↦ (let inside = (lane_of 16 past).0 in absurd (omega (arith, long))) | inr h ↦ omega arith ];
       digits = λ i before. (lane_of i before).1;
       end = λ before. clear_lane ds _ (sym (bit_mask_l (map is_digit ds) _) ∙ ones.1) (omega (arith, long));
     })
@@ -135,7 +142,25 @@ word_of ds = paired (pick_l 0 (ds ++ ds) even) (pick_l 0 (ds ++ ds) odd)
 word_of-digits : (ds : List ℕ) → length ds ≡ 16 → ((i : ℕ) → get_or ds i 0 < 16) → word_of ds ≡ number_from_digits 16 ds
 word_of-digits ds long small =
     (λ i. paired (pick_l_left 0 ds ds 16 even long tt i) (pick_l_left 0 ds ds 16 odd long tt i))
-    ∙ omega (arith, small 0, small 1, small 2, small 3, small 4, small 5, small 6, small 7, small 8, small 9, small 10, small 11, small 12, small 13, small 14, small 15)
+    ∙ omega (
+      arith,
+      small 0,
+      small 1,
+      small 2,
+      small 3,
+      small 4,
+      small 5,
+      small 6,
+      small 7,
+      small 8,
+      small 9,
+      small 10,
+      small 11,
+      small 12,
+      small 13,
+      small 14,
+      small 15,
+    )
     ∙ ap (number_from_digits 16) (pick_l_whole 0 ds 16 long)
 
 -- a lower half is a digit

@@ -19,7 +19,8 @@ pub record SpellsSoFar (base : ℕ) (part : List ℕ) (count number : ℕ) : Typ
 abbrev pub IsDigit : ℕ → ℕ → Type 0
 IsDigit base byte = (d : ℕ) × (d < base) × (glyph d ≡ byte)
 
-first_digit_positive : (part : List ℕ) (count number base d : ℕ) → (0 < count → 0 < number) → get_or part 0 0 ≢ 48 → glyph d ≡ get_or part count 0 → 0 < base → 0 < number * base + d
+first_digit_positive : (part : List ℕ) (count number base d : ℕ)
+    → (0 < count → 0 < number) → get_or part 0 0 ≢ 48 → glyph d ≡ get_or part count 0 → 0 < base → 0 < number * base + d
 first_digit_positive part zero number base zero positive first is h = absurd (first (sym is))
 first_digit_positive part zero number base (suc d) positive first is h = omega arith
 first_digit_positive part (suc count) number base d positive first is h =
@@ -28,7 +29,8 @@ first_digit_positive part (suc count) number base d positive first is h =
     omega arith
 
 -- one digit more
-pub SpellsSoFar-more : (base : ℕ) (part : List ℕ) (count number d : ℕ) → 2 ≤ base → count < length part → SpellsSoFar base part count number → d < base → glyph d ≡ get_or part count 0 → SpellsSoFar base part (count + 1) (number * base + d)
+pub SpellsSoFar-more : (base : ℕ) (part : List ℕ) (count number d : ℕ) → 2 ≤ base → count < length part
+    → SpellsSoFar base part count number → d < base → glyph d ≡ get_or part count 0 → SpellsSoFar base part (count + 1) (number * base + d)
 SpellsSoFar-more base part count number d big inside so_far small is =
     let positive : 0 < number * base + d = first_digit_positive part count number base d so_far.positive so_far.first is (omega arith) in
     let step = digits_of_step base (number * base + d) big positive in
@@ -61,7 +63,8 @@ SpellsSoFar-none base part d positive is = record {
 }
 
 -- the first digit alone
-pub SpellsSoFar-first : (base : ℕ) (part : List ℕ) (d : ℕ) → 2 ≤ base → 0 < length part → 0 < d → d < base → glyph d ≡ get_or part 0 0 → SpellsSoFar base part 1 d
+pub SpellsSoFar-first : (base : ℕ) (part : List ℕ) (d : ℕ)
+    → 2 ≤ base → 0 < length part → 0 < d → d < base → glyph d ≡ get_or part 0 0 → SpellsSoFar base part 1 d
 SpellsSoFar-first base part d big some positive small is =
     let sum : 0 * base + d ≡ d = omega arith in
     subst (λ n. SpellsSoFar base part 1 n) sum (SpellsSoFar-more base part 0 0 d big some (SpellsSoFar-none base part d positive is) small is)
@@ -77,7 +80,8 @@ numeral-digits base (suc n) big =
     rw (numeral_some base (suc n) (omega arith)) (map-glyph-digits base (digits_of base (suc n)) (all_below_base_digits_of base (suc n) big))
 
 -- no number is spelled with a byte that isn't a digit
-pub no_numeral-at_byte : (base : ℕ) (part : List ℕ) (i n : ℕ) → 2 ≤ base → i < length part → (IsDigit base (get_or part i 0) → ⊥) → part ≡ numeral base n → ⊥
+pub no_numeral-at_byte : (base : ℕ) (part : List ℕ) (i n : ℕ)
+    → 2 ≤ base → i < length part → (IsDigit base (get_or part i 0) → ⊥) → part ≡ numeral base n → ⊥
 no_numeral-at_byte base part i n big inside bad e =
     let P : List ℕ → Type 0 = λ bytes. AllByRecursion (IsDigit base) bytes in
     bad (All-from_recursion (IsDigit base) part (subst P (sym e) (numeral-digits base n big)) i 0 inside)
@@ -109,7 +113,8 @@ front_le base ds k big =
     omega (arith, whole, cut, more)
 
 -- what the first bytes spell is at most what all of them do
-pub le_from_SpellsSoFar : (base : ℕ) (part : List ℕ) (count number n : ℕ) → 2 ≤ base → SpellsSoFar base part count number → part ≡ numeral base n → number ≤ n
+pub le_from_SpellsSoFar : (base : ℕ) (part : List ℕ) (count number n : ℕ)
+    → 2 ≤ base → SpellsSoFar base part count number → part ≡ numeral base n → number ≤ n
 le_from_SpellsSoFar base part count number zero big so_far e = absurd (so_far.first (ap (λ bytes. get_or bytes 0 0) (e ∙ numeral-zero base)))
 le_from_SpellsSoFar base part count number (suc n) big so_far e =
     let whole : part ≡ map glyph (digits_of base (suc n)) = e ∙ numeral_some base (suc n) (omega arith) in

@@ -196,7 +196,8 @@ pub fn command_at<'w>(
 #[inline(always)]
 pub fn ok_at<'w>(words: &'w mut [u64; 10], text: &[u8], at: usize) -> Option<(&'w [u64], usize)>
     requires { at < length text.now }
-    ensures found { IfSome result (λ p. take p.1 text.now ≡ take at text.now ++ (32 ∷ reply_text (Reply.Ok (record { items = p.0.now })) ++ 10 ∷ [])) }
+    ensures found { IfSome result (λ p. take p.1 text.now
+        ≡ take at text.now ++ (32 ∷ reply_text (Reply.Ok (record { items = p.0.now })) ++ 10 ∷ [])) }
     ensures words { IfSome result (λ p. AreWords p.0.now) }
     ensures few { IfSome result (λ p. length p.0.now ≤ 10) }
     ensures inside { IfSome result (λ p. p.1 ≤ length text.now) }

@@ -1,35 +1,28 @@
 -- A step with an `ok` reply: the command's rows hold, and its change is made.
-use Rattle.std.proofs.Common.{◌≡◌, ℕ, true, ◌<◌, ◌^◌, List, [], Some, Result, Ok, Err, slice_index, refl, sym, ◌∙◌, ap, subst, arith}
+use Rattle.rmm_laws.proofs.Common.{◌<◌, ◌∙◌, ◌≡◌, Accepted, Delegated, Err, IsSound, List, Ok, RealmRecord, Refusal, Reply, Result, Some, State, Step, [], ap, arith, both_ways, changed, is_accepted, ok, outcome, refl, subst, sym, tag-has_tag, true, ℕ}
+use Rattle.std.proofs.Common.{◌^◌, slice_index}
 use Rattle.std.proofs.Math.Nat.{div-eq_of_lt}
-use Rattle.rmm_spec.specs.declared.accepted.Accepted.{Accepted}
 use Rattle.rmm_spec.specs.declared.call.Call.{Call}
 use Rattle.rmm_spec.specs.declared.call.Call.TheVariants as call
 use Rattle.rmm_spec.specs.declared.function_id.FunctionId.TheVariants as function
-use Rattle.rmm_spec.specs.declared.refusal.Refusal.{Refusal}
-use Rattle.rmm_spec.specs.declared.reply.Reply.{Reply}
-use Rattle.rmm_spec.specs.declared.tag.Tag.TheVariants.{Undelegated, Delegated}
+use Rattle.rmm_spec.specs.declared.tag.Tag.TheVariants.{Undelegated}
 use Rattle.rmm_spec.specs.Call.{call_from}
-use Rattle.rmm_spec.specs.Change.{changed}
-use Rattle.rmm_spec.specs.Ownership.{is_accepted}
-use Rattle.rmm_spec.specs.Rows.{ok}
-use Rattle.rmm_spec.specs.State.{State, RealmRecord}
 use Rattle.rmm_spec.specs.Update.{with_tag}
 use Rattle.rmm_spec.specs.Walk.{table_number, entry_for, IsWalk}
-use Rattle.rmm_spec.specs.Step.{outcome, CarriesOut, Step}
+use Rattle.rmm_spec.specs.Step.{CarriesOut}
 use Rattle.rmm_spec.specs.Step.Front.{with_front}
 use Rattle.rmm_spec.specs.Step.Terms.{named, is_space, words_of}
-use Rattle.rmm_spec.specs.Sound.{IsSound}
-use Rattle.spec_lemmas.proofs.TagLaws.{tag-has_tag, with_tag-restored}
+use Rattle.spec_lemmas.proofs.TagLaws.{with_tag-restored}
 use Rattle.rmm_sound.proofs.Cases.{spot_itself}
 use Rattle.rmm_laws.specs.Commands.{command}
 use Rattle.rmm_laws.proofs.Facts.{root_covers}
 use Rattle.rmm_sound.proofs.ByRows.{AllHold}
 use Rattle.spec_lemmas.proofs.Behind.{behind}
 use Rattle.rmm_laws.proofs.RowLaws.{Leads, front-rest, outcome-leads}
-use Rattle.lemmas.proofs.Tests.{both_ways}
 
 -- what leads to a reply that accepts
-leads-accepted : (s : State) (cpu : ℕ) (c : Call) (found : Result Accepted Refusal) (given : Reply) (next : State) → Leads s cpu c found → is_accepted given ≡ true
+leads-accepted : (s : State) (cpu : ℕ) (c : Call) (found : Result Accepted Refusal) (given : Reply) (next : State)
+    → Leads s cpu c found → is_accepted given ≡ true
     → CarriesOut found s given next → AllHold (with_front s c (behind s cpu c).0) × CarriesOut (Ok (behind s cpu c).1) s given next
 leads-accepted s cpu c (Ok found) given next all accepted carried = (all.0, subst (λ a. CarriesOut (Ok a) s given next) (sym all.1) carried)
 leads-accepted s cpu c (Err refusal) given next refused accepted carried = both_ways (sym (ap is_accepted carried.0) ∙ accepted) refused
@@ -56,7 +49,8 @@ undelegated s cpu words next step = (step-accepted s cpu (call.GranuleUndelegate
 
 -- a granule that is lent and taken back leaves the state as it was
 pub undelegated-delegated : (old middle next : State) (cpu other : ℕ) (words : List ℕ)
-    → Step old cpu (command function.GranuleDelegate words) (ok []) middle → Step middle other (command function.GranuleUndelegate words) (ok []) next → next ≡ old
+    → Step old cpu (command function.GranuleDelegate words) (ok []) middle
+    → Step middle other (command function.GranuleUndelegate words) (ok []) next → next ≡ old
 undelegated-delegated old middle next cpu other words there back =
     let g = slice_index words 0 in
     let lent = delegated old cpu words middle there in
@@ -71,7 +65,8 @@ unfolding table_number
 root_number width level ipa space below = rw ((root_covers width level space).1) (div-eq_of_lt below)
 
 -- a walk to the level of a root that covers the address ends there
-pub root-walk : (s : State) (rd ipa level root : ℕ) → s.table rd level 0 ≡ Some root → table_number level ipa ≡ 0 → IsWalk s rd ipa level level root (entry_for s rd level ipa)
+pub root-walk : (s : State) (rd ipa level root : ℕ)
+    → s.table rd level 0 ≡ Some root → table_number level ipa ≡ 0 → IsWalk s rd ipa level level root (entry_for s rd level ipa)
 root-walk s rd ipa level root is number = record {
   within = omega arith;
   is_table = rw number is;
@@ -80,8 +75,10 @@ root-walk s rd ipa level root is number = record {
 }
 
 -- the root of a realm that was just made covers every address of the space
-pub fresh-root : (old next : State) (cpu ipa : ℕ) (words : List ℕ) → Step old cpu (command function.RealmCreate words) (ok []) next → ipa < 2 ^ slice_index words 2
-    → let rd = slice_index words 0 in let level = slice_index words 3 in IsWalk next rd ipa level level (slice_index words 1) (entry_for next rd level ipa)
+pub fresh-root : (old next : State) (cpu ipa : ℕ) (words : List ℕ)
+    → Step old cpu (command function.RealmCreate words) (ok []) next → ipa < 2 ^ slice_index words 2
+    → let rd = slice_index words 0 in let level = slice_index words 3 in
+    IsWalk next rd ipa level level (slice_index words 1) (entry_for next rd level ipa)
 unfolding behind call_from words_of changed
 fresh-root old next cpu ipa words step below =
     let rd = slice_index words 0 in
@@ -91,7 +88,8 @@ fresh-root old next cpu ipa words step below =
     let c = call.RealmCreate rd root width level (slice_index words 4) (slice_index words 5) in
     let carried = step-accepted old cpu c (ok []) next refl step in
     let space = (front-rest old c _ carried.0).0.1.1.0 in
-    root-walk next rd ipa level root (ap (λ (s : State). s.table rd level 0) carried.1.1 ∙ rw (spot_itself rd level 0) refl) (root_number width level ipa space below)
+    root-walk next rd ipa level root
+    (ap (λ (s : State). s.table rd level 0) carried.1.1 ∙ rw (spot_itself rd level 0) refl) (root_number width level ipa space below)
 
 -- and so in every sound state
 pub sound-root : (s : State) (rd ipa : ℕ) (realm : RealmRecord) → IsSound s → s.realm rd ≡ Some realm → ipa < 2 ^ realm.width

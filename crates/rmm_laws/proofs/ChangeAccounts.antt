@@ -1,28 +1,23 @@
 -- Each kind of change opens and closes claims as the state's ties come and go.
-use Rattle.std.proofs.Common.{◌≡◌, ℕ, ◌+◌, ◌-◌, ◌/◌, ◌<◌, ◌≤◌, ◌==◌, Bool, true, false, ◌⊎◌, if◌then◌else◌, nat_lt, nat_le, ◌&&◌, List, [], ◌∷◌, Option, Some, None, is_some, option_map, IsTrue, refl, sym, ◌∙◌, ap, ap₂, subst, inl, inr, arith}
-use Rattle.std.proofs.lemmas.Bool.{eqb-true, eq-eqb, ne_eqb}
-use Rattle.rmm_spec.specs.declared.change.Change.{Change}
-use Rattle.rmm_spec.specs.declared.change.Change.TheVariants.{Unchanged, Retagged, RealmMade, RealmDestroyed, RecMade, RecDestroyed, RecordsChanged, TableMade, TableDestroyed, EntriesChanged}
+use Rattle.rmm_laws.proofs.Common.{◌&&◌, ◌+◌, ◌<◌, ◌==◌, ◌∙◌, ◌∷◌, ◌≡◌, ◌⊎◌, Bool, Change, Claim, Delegated, IsSound, IsTrue, List, None, Option, Rd, RealmDestroyed, RealmRecord, RecDestroyed, Rtt, Some, State, Tag, TagChange, [], ap, arith, both_ways, changed, claim, eq-eqb, eqb-true, false, has_tag, if◌then◌else◌, inl, inr, is_some, realm_at, rec_at, refl, subst, sym, tag-has_tag, true, ℕ}
+use Rattle.std.proofs.Common.{◌-◌, ◌/◌, ◌≤◌, nat_lt, nat_le, option_map, ap₂}
+use Rattle.std.proofs.lemmas.Bool.{ne_eqb}
+use Rattle.rmm_spec.specs.declared.change.Change.TheVariants.{Unchanged, Retagged, RealmMade, RecMade, RecordsChanged, TableMade, TableDestroyed, EntriesChanged}
 use Rattle.rmm_spec.specs.declared.change.EntryChange.TheVariants.{Replaced, RipasSet}
 use Rattle.rmm_spec.specs.declared.change.RealmChange.{RealmChange}
 use Rattle.rmm_spec.specs.declared.change.RecChange.{RecChange}
-use Rattle.rmm_spec.specs.declared.change.TagChange.{TagChange}
 use Rattle.rmm_spec.specs.declared.change.RealmUpdate.TheVariants as realm_update
 use Rattle.rmm_spec.specs.declared.entry.Entry.{Entry}
 use Rattle.rmm_spec.specs.declared.entry.Entry.TheVariants.{Unassigned, Assigned, UnassignedNs}
 use Rattle.rmm_spec.specs.declared.tag.Ripas.{Ripas}
 use Rattle.rmm_spec.specs.declared.tag.Ripas.TheVariants.{Empty}
-use Rattle.rmm_spec.specs.declared.tag.Tag.{Tag}
-use Rattle.rmm_spec.specs.declared.tag.Tag.TheVariants.{Delegated, Rd, Rec, RecAux, Data, Rtt}
+use Rattle.rmm_spec.specs.declared.tag.Tag.TheVariants.{Rec, RecAux, Data}
 use Rattle.rmm_spec.specs.Applicable.{CanRetag, CanMakeRealm, CanDestroyRealm, CanMakeRec, CanDestroyRec, CanMakeTable, CanDestroyTable, GoesWith, CanApply}
-use Rattle.rmm_spec.specs.Change.{new_realm, new_rec, realm_updated, with_tag_change, changed}
-use Rattle.rmm_spec.specs.Ownership.{Claim, claim, RecParts}
-use Rattle.rmm_spec.specs.Sound.{IsSound}
-use Rattle.rmm_spec.specs.State.{State, RealmRecord, RecRecord}
+use Rattle.rmm_spec.specs.Change.{new_realm, new_rec, realm_updated, with_tag_change}
+use Rattle.rmm_spec.specs.Ownership.{RecParts}
+use Rattle.rmm_spec.specs.State.{RecRecord}
 use Rattle.rmm_spec.specs.Update.{with_tag, with_leaf, with_ripas, entry_with_ripas, is_same_entry}
-use Rattle.rmm_spec.specs.Lookup.{has_tag, realm_at, rec_at}
 use Rattle.rmm_spec.specs.Walk.{is_table, is_assigned, entry_at}
-use Rattle.spec_lemmas.proofs.TagLaws.{tag-has_tag}
 use Rattle.rmm_sound.proofs.Cases.{spot_itself}
 use Rattle.rmm_sound.proofs.Searches.{realm_there, rec_there}
 use Rattle.rmm_laws.proofs.ChangeWords.{of_page, page_opened, page_closed, opened, closed}
@@ -30,7 +25,6 @@ use Rattle.rmm_laws.proofs.Claims.{IsAmong}
 use Rattle.rmm_laws.proofs.Facts.{waits_not, entry_at-table, page-last, page-entry, entry-page, page-in_use, root_covers, unlinked-root}
 use Rattle.rmm_laws.proofs.Keeps.{IsRecLike, IsPage, keeps-kept, keeps-all, same-realms, same-recs, same-tables, same-pages, with_records, records-kept, records-tag, records-leaf}
 use Rattle.rmm_laws.proofs.Owners.{IsKept, Accounts}
-use Rattle.lemmas.proofs.Tests.{both_ways}
 use Rattle.rmm_laws.proofs.Tests.{kept_unless, some_value, there, same_value, spot_parts, moved}
 use Rattle.rmm_laws.proofs.Ties.{IsUnused}
 
@@ -51,7 +45,8 @@ tag_here : (g : ℕ) (x y : Tag) → IsUnused x → IsUnused (if g == g then x e
 tag_here g x y unused = rw (eq-eqb g g refl) unused
 
 -- ties and unused tags stay
-pub stays-accounts : (s new : State) → ((c : Claim) → IsKept s c → IsKept new c) → ((granule : ℕ) → IsUnused (s.tag granule) → IsUnused (new.tag granule)) → Accounts s new [] []
+pub stays-accounts : (s new : State)
+    → ((c : Claim) → IsKept s c → IsKept new c) → ((granule : ℕ) → IsUnused (s.tag granule) → IsUnused (new.tag granule)) → Accounts s new [] []
 stays-accounts s new kept unused = record {
   opened = tt;
   apart = tt;
@@ -64,7 +59,8 @@ stays-accounts s new kept unused = record {
 retagged-accounts : (s : State) (change : TagChange) → CanRetag s change → Accounts s (with_tag s change.granule change.tag) [] []
 retagged-accounts s change can =
     stays-accounts s (with_tag s change.granule change.tag)
-    (keeps-all s (with_tag s change.granule change.tag) (record { realms = same-realms s []; recs = same-recs s []; tables = same-tables s []; pages = same-pages s [] }))
+    (keeps-all s (with_tag s change.granule change.tag)
+    (record { realms = same-realms s []; recs = same-recs s []; tables = same-tables s []; pages = same-pages s [] }))
     (λ granule is. choice_unused (granule == change.granule) change.tag (s.tag granule)
     (elim can [ inl lent ↦ inr lent.1 | inr back ↦ inl back.1 ]) is)
 
@@ -95,13 +91,15 @@ realm_made-accounts s rd root width level vmid algo sound can = record {
     realms = λ other some. kept_unless (λ (found : Option RealmRecord). is_some found ≡ true) (other == rd)
         (Some (new_realm root width level vmid algo)) (s.realm other) (inl some) (λ _. inl refl);
     recs = same-recs s [];
-    tables = λ other l n granule is. kept_unless (λ (found : Option ℕ). found ≡ Some granule) (is_same_entry rd level 0 other l n) (Some root) (s.table other l n) (inl is)
+    tables = λ other l n granule is. kept_unless (λ (found : Option ℕ). found ≡ Some granule)
+        (is_same_entry rd level 0 other l n) (Some root) (s.table other l n) (inl is)
         (λ hit. absurd (no_realm-table s rd l n granule sound can.rd_tag (rw (spot_parts rd level 0 other l n hit).0 at is)));
     pages = λ other l n granule ripas is. kept_unless (IsPage granule) (is_same_entry rd level 0 other l (n / 512))
         (Some (if nat_lt n 256 then Unassigned Empty else UnassignedNs)) (s.leaf other l n) (inl (ripas, is))
         (λ hit.
         let table = page-table s other l n granule ripas sound is in
-        absurd (no_realm-table s rd l (n / 512) table.0 sound can.rd_tag (subst (λ o. s.table o l (n / 512) ≡ Some table.0) (spot_parts rd level 0 other l (n / 512) hit).0 table.1)));
+        absurd (no_realm-table s rd l (n / 512) table.0 sound can.rd_tag
+        (subst (λ o. s.table o l (n / 512) ≡ Some table.0) (spot_parts rd level 0 other l (n / 512) hit).0 table.1)));
   });
   unused = λ granule is elsewhere.
       rw (ne_eqb granule root (λ same. elsewhere.1.0 (sym same)), ne_eqb granule rd (λ same. elsewhere.0 (sym same))) is;
@@ -115,12 +113,16 @@ realm_destroyed-accounts s rd root sound can =
     let realm = realm_at s rd in
     let is_there = realm_there s rd sound can.rd_tag in
     let closes : List Claim = claim rd Rd rd ∷ claim realm.root Rtt rd ∷ [] in
-    let alone = λ (level number granule : ℕ) (is : s.table rd level number ≡ Some granule). unlinked-root s rd level number granule realm sound is_there can.unlinked is in
+    let alone = λ (level number granule : ℕ) (is : s.table rd level number ≡ Some granule).
+    unlinked-root s rd level number granule realm sound is_there can.unlinked is in
     record {
       opened = tt;
       apart = tt;
       closed = (
-        ((refl, there is_there), choice_unused (rd == root) Delegated (if rd == rd then Delegated else s.tag rd) (inr refl) (tag_here rd Delegated (s.tag rd) (inr refl))),
+        (
+          (refl, there is_there),
+          choice_unused (rd == root) Delegated (if rd == rd then Delegated else s.tag rd) (inr refl) (tag_here rd Delegated (s.tag rd) (inr refl)),
+        ),
         (((realm.start_level, 0, sound.tables.roots rd realm is_there), rw (eq-eqb realm.root root (sym can.is_root)) (inr refl)), tt),
       );
       kept = keeps-kept s (changed s (RealmDestroyed rd root)) closes (record {
@@ -156,7 +158,10 @@ rec_made-accounts s rd rec mpidr flags aux0 aux1 sound can =
     record {
       opened = (
         (tag-has_tag s rec Delegated can.rec_tag, (made, is, refl)),
-        ((tag-has_tag s aux0 Delegated can.aux0_tag, (rec, made, is, refl, inl refl)), ((tag-has_tag s aux1 Delegated can.aux1_tag, (rec, made, is, refl, inr refl)), tt)),
+        (
+          (tag-has_tag s aux0 Delegated can.aux0_tag, (rec, made, is, refl, inl refl)),
+          ((tag-has_tag s aux1 Delegated can.aux1_tag, (rec, made, is, refl, inr refl)), tt),
+        ),
       );
       apart = ((can.apart0, (can.apart1, tt)), ((can.apart, tt), (tt, tt)));
       closed = tt;
@@ -171,13 +176,18 @@ rec_made-accounts s rd rec mpidr flags aux0 aux1 sound can =
         pages = same-pages s [];
       });
       unused = λ granule unused elsewhere.
-          rw (ne_eqb granule aux1 (λ same. elsewhere.1.1.0 (sym same)), ne_eqb granule aux0 (λ same. elsewhere.1.0 (sym same)), ne_eqb granule rec (λ same. elsewhere.0 (sym same))) unused;
+          rw (
+            ne_eqb granule aux1 (λ same. elsewhere.1.1.0 (sym same)),
+            ne_eqb granule aux0 (λ same. elsewhere.1.0 (sym same)),
+            ne_eqb granule rec (λ same. elsewhere.0 (sym same)),
+          ) unused;
     }
 
 -- a REC is destroyed, with its auxiliary granules
 rec_destroyed-accounts : (s : State) (rec aux0 aux1 : ℕ) → IsSound s → CanDestroyRec s rec aux0 aux1
     → Accounts s (changed s (RecDestroyed rec aux0 aux1)) []
-    (claim rec Rec (rec_at s rec).owner ∷ claim (rec_at s rec).aux0 RecAux (rec_at s rec).owner ∷ claim (rec_at s rec).aux1 RecAux (rec_at s rec).owner ∷ [])
+    (claim rec Rec (rec_at s rec).owner ∷ claim (rec_at s rec).aux0 RecAux (rec_at s rec).owner
+    ∷ claim (rec_at s rec).aux1 RecAux (rec_at s rec).owner ∷ [])
 unfolding changed
 rec_destroyed-accounts s rec aux0 aux1 sound can =
     let r = rec_at s rec in
@@ -188,9 +198,17 @@ rec_destroyed-accounts s rec aux0 aux1 sound can =
       opened = tt;
       apart = tt;
       closed = (
-        ((r, is_there, refl), either rec (if rec == aux0 then Delegated else if rec == rec then Delegated else s.tag rec) (choice_unused (rec == aux0) Delegated (if rec == rec then Delegated else s.tag rec) (inr refl) (tag_here rec Delegated (s.tag rec) (inr refl)))),
         (
-          ((rec, r, is_there, refl, inl refl), either r.aux0 (if r.aux0 == aux0 then Delegated else if r.aux0 == rec then Delegated else s.tag r.aux0) (rw (eq-eqb r.aux0 aux0 (sym can.is_aux0)) (inr refl))),
+          (r, is_there, refl),
+          either rec (if rec == aux0 then Delegated else if rec == rec then Delegated else s.tag rec) (choice_unused (rec == aux0) Delegated
+              (if rec == rec then Delegated else s.tag rec) (inr refl) (tag_here rec Delegated (s.tag rec) (inr refl))),
+        ),
+        (
+          (
+            (rec, r, is_there, refl, inl refl),
+            either r.aux0 (if r.aux0 == aux0 then Delegated else if r.aux0 == rec then Delegated else s.tag r.aux0)
+                (rw (eq-eqb r.aux0 aux0 (sym can.is_aux0)) (inr refl)),
+          ),
           (((rec, r, is_there, refl, inr refl), rw (eq-eqb r.aux1 aux1 (sym can.is_aux1)) (inr refl)), tt),
         ),
       );
@@ -208,8 +226,10 @@ rec_destroyed-accounts s rec aux0 aux1 sound can =
         tables = same-tables s closes;
         pages = same-pages s closes;
       });
-      unused = λ granule is _. choice_unused (granule == aux1) Delegated (if granule == aux0 then Delegated else if granule == rec then Delegated else s.tag granule) (inr refl)
-          (choice_unused (granule == aux0) Delegated (if granule == rec then Delegated else s.tag granule) (inr refl) (choice_unused (granule == rec) Delegated (s.tag granule) (inr refl) is));
+      unused = λ granule is _. choice_unused (granule == aux1) Delegated
+          (if granule == aux0 then Delegated else if granule == rec then Delegated else s.tag granule) (inr refl)
+          (choice_unused (granule == aux0) Delegated (if granule == rec then Delegated else s.tag granule)
+          (inr refl) (choice_unused (granule == rec) Delegated (s.tag granule) (inr refl) is));
     }
 
 -- where the entry above is no link there is no table
@@ -234,8 +254,10 @@ table_made-accounts s rd level number rtt entry sound can =
       kept = keeps-kept s (changed s (TableMade rd level number rtt entry)) [] (record {
         realms = same-realms s [];
         recs = same-recs s [];
-        tables = λ other l n granule is. kept_unless (λ (found : Option ℕ). found ≡ Some granule) (is_same_entry rd level number other l n) (Some rtt) (s.table other l n) (inl is)
-            (λ hit. let at_spot = spot_parts rd level number other l n hit in absurd (absent granule (moved s.table rd level number other l n at_spot ∙ is)));
+        tables = λ other l n granule is. kept_unless (λ (found : Option ℕ). found ≡ Some granule)
+            (is_same_entry rd level number other l n) (Some rtt) (s.table other l n) (inl is)
+            (λ hit. let at_spot = spot_parts rd level number other l n hit in
+            absurd (absent granule (moved s.table rd level number other l n at_spot ∙ is)));
         pages = λ other l n granule ripas is. kept_unless (IsPage granule) (is_same_entry rd level number other l (n / 512)) (Some entry)
             (if is_same_entry rd level number other (l + 1) n then None else s.leaf other l n)
             (kept_unless (IsPage granule) (is_same_entry rd level number other (l + 1) n) None (s.leaf other l n) (inl (ripas, is))
@@ -265,7 +287,8 @@ table_destroyed-accounts s rd level number rtt entry sound can =
       kept = keeps-kept s (changed s (TableDestroyed rd level number rtt entry)) closes (record {
         realms = same-realms s closes;
         recs = same-recs s closes;
-        tables = λ other l n granule is. kept_unless (λ (found : Option ℕ). found ≡ Some granule) (is_same_entry rd level number other l n) None (s.table other l n) (inl is)
+        tables = λ other l n granule is. kept_unless (λ (found : Option ℕ). found ≡ Some granule)
+            (is_same_entry rd level number other l n) None (s.table other l n) (inl is)
             (λ hit.
             let at_spot = spot_parts rd level number other l n hit in
             inr (inl (ap₂ (λ g r. claim g Rtt r) (same_value can.there (moved s.table rd level number other l n at_spot ∙ is)) (sym at_spot.0))));
@@ -311,11 +334,13 @@ module _ (s : State) (sound : IsSound s) (realm : Option RealmChange) (rec : Opt
         realms = same-realms mid closes;
         recs = same-recs mid closes;
         tables = same-tables mid closes;
-        pages = λ other l n granule ripas is. kept_unless (IsPage granule) (is_same_entry rd level number other l n) (Some entry) (mid.leaf other l n) (inl (ripas, is))
+        pages = λ other l n granule ripas is. kept_unless (IsPage granule)
+            (is_same_entry rd level number other l n) (Some entry) (mid.leaf other l n) (inl (ripas, is))
             (λ hit.
             let at_spot = spot_parts rd level number other l n hit in
             let was : s.leaf rd level number ≡ Some (Assigned ripas granule) =
-            ap (λ (f : ℕ → ℕ → ℕ → Option Entry). f rd level number) (sym (records-leaf s page realm rec)) ∙ (moved mid.leaf rd level number other l n at_spot ∙ is) in
+            ap (λ (f : ℕ → ℕ → ℕ → Option Entry). f rd level number) (sym (records-leaf s page realm rec))
+            ∙ (moved mid.leaf rd level number other l n at_spot ∙ is) in
             inr (rw at_spot.0 (old granule ripas (page-entry s rd level number granule ripas sound was))));
       }) c (records-kept s page realm rec c tied)
 
@@ -327,7 +352,8 @@ module _ (s : State) (sound : IsSound s) (realm : Option RealmChange) (rec : Opt
       (records-unused s None realm rec)
 
   -- a page is given
-  given-accounts : (granule : ℕ) (ripas : Ripas) → IsTrue (has_tag s granule Delegated) → is_assigned (entry_at s rd level number) ≡ false → entry ≡ Assigned ripas granule
+  given-accounts : (granule : ℕ) (ripas : Ripas)
+      → IsTrue (has_tag s granule Delegated) → is_assigned (entry_at s rd level number) ≡ false → entry ≡ Assigned ripas granule
       → Accounts s (replaced (Some (record { granule = granule; tag = Data }))) (claim granule Data rd ∷ []) []
   given-accounts granule ripas waits plain is = record {
     opened = ((tag-has_tag s granule Delegated waits, (level, number, ripas, rw (spot_itself rd level number) (ap Some is))), tt);
@@ -347,24 +373,29 @@ module _ (s : State) (sound : IsSound s) (realm : Option RealmChange) (rec : Opt
     closed = (
       (
         (level, number, ripas, entry-page s rd level number granule ripas is),
-        records-unused s (Some (record { granule = granule; tag = Delegated })) realm rec granule (tag_here granule Delegated (s.tag granule) (inr refl)),
+        records-unused s (Some (record { granule = granule; tag = Delegated })) realm rec granule
+            (tag_here granule Delegated (s.tag granule) (inr refl)),
       ),
       tt,
     );
     kept = replaced-kept (Some (record { granule = granule; tag = Delegated })) (claim granule Data rd ∷ [])
-        (λ other r page. inl (let both : Assigned ripas granule ≡ Assigned r other = sym is ∙ page in let same : granule ≡ other = cc in ap (λ g. claim g Data rd) same));
+        (λ other r page. inl (let both : Assigned ripas granule ≡ Assigned r other =
+        sym is ∙ page in let same : granule ≡ other = cc in ap (λ g. claim g Data rd) same));
     unused = λ other unused _. records-unused s (Some (record { granule = granule; tag = Delegated })) realm rec other
         (choice_unused (other == granule) Delegated (s.tag other) (inr refl) unused);
   }
 
   -- an entry is replaced, with a page or without
-  replaced-accounts : (page : Option TagChange) → GoesWith s rd level number entry page → Accounts s (replaced page) (of_page (page_opened rd) page) (of_page (page_closed rd) page)
+  replaced-accounts : (page : Option TagChange)
+      → GoesWith s rd level number entry page → Accounts s (replaced page) (of_page (page_opened rd) page) (of_page (page_closed rd) page)
   replaced-accounts None goes = plain-accounts goes.1
   replaced-accounts (Some page) (inl (waits, is_data, plain, (ripas, is))) =
-      subst (λ t. Accounts s (replaced (Some (record { granule = page.granule; tag = t }))) (page_opened rd page.granule t) (page_closed rd page.granule t))
+      subst (λ t. Accounts s (replaced (Some (record { granule = page.granule; tag = t })))
+      (page_opened rd page.granule t) (page_closed rd page.granule t))
       (sym is_data) (given-accounts page.granule ripas waits plain is)
   replaced-accounts (Some page) (inr (is_delegated, _, (ripas, is))) =
-      subst (λ t. Accounts s (replaced (Some (record { granule = page.granule; tag = t }))) (page_opened rd page.granule t) (page_closed rd page.granule t))
+      subst (λ t. Accounts s (replaced (Some (record { granule = page.granule; tag = t })))
+      (page_opened rd page.granule t) (page_closed rd page.granule t))
       (sym is_delegated) (taken-accounts page.granule ripas is)
 
 -- the RIPAS of entries is set
@@ -378,7 +409,8 @@ ripas_set-accounts s realm rec rd level first last ripas =
       recs = same-recs mid [];
       tables = same-tables mid [];
       pages = λ other l n granule old is. kept_unless (IsPage granule) (other == rd && l == level && nat_le first n && nat_lt n last)
-          (option_map (entry_with_ripas ripas) (mid.leaf other l n)) (mid.leaf other l n) (inl (old, is)) (λ _. inl (ripas, ap (option_map (entry_with_ripas ripas)) is));
+          (option_map (entry_with_ripas ripas) (mid.leaf other l n)) (mid.leaf other l n)
+          (inl (old, is)) (λ _. inl (ripas, ap (option_map (entry_with_ripas ripas)) is));
     }) c (records-kept s None realm rec c tied))
     (records-unused s None realm rec)
 
@@ -398,6 +430,7 @@ change-accounts s (TableMade rd level number rtt entry) sound can = table_made-a
 change-accounts s (TableDestroyed rd level number rtt entry) sound can = table_destroyed-accounts s rd level number rtt entry sound can
 change-accounts s (EntriesChanged rd level (Replaced number entry) page realm rec) sound can =
     replaced-accounts s sound realm rec rd level number entry page can.1.1
-change-accounts s (EntriesChanged rd level (RipasSet first last ripas) None realm rec) sound can = ripas_set-accounts s realm rec rd level first last ripas
+change-accounts s (EntriesChanged rd level (RipasSet first last ripas) None realm rec) sound can =
+    ripas_set-accounts s realm rec rd level first last ripas
 change-accounts s (EntriesChanged rd level (RipasSet first last ripas) (Some page) realm rec) sound can =
     absurd (let bad : Some page ≡ None = can.1.1 in cc)

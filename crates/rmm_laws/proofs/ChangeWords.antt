@@ -1,14 +1,11 @@
 -- What each kind of change is, told without the state: the maps that it touches, the claims that it opens and closes,
 -- and the root or REC that it makes.
-use Rattle.std.proofs.Common.{ℕ, Bool, true, ◌&&◌, ◌==◌, if◌then◌else◌, List, [], ◌∷◌, Option, Some, None}
-use Rattle.rmm_spec.specs.declared.change.Change.{Change}
-use Rattle.rmm_spec.specs.declared.change.Change.TheVariants.{Unchanged, Retagged, RealmMade, RealmDestroyed, RecMade, RecDestroyed, RecordsChanged, TableMade, TableDestroyed, EntriesChanged}
-use Rattle.rmm_spec.specs.declared.change.TagChange.{TagChange}
-use Rattle.rmm_spec.specs.declared.tag.Tag.{Tag}
-use Rattle.rmm_spec.specs.declared.tag.Tag.TheVariants.{Delegated, Rd, Data, Rtt}
+use Rattle.rmm_laws.proofs.Common.{◌&&◌, ◌==◌, ◌∷◌, Bool, Change, Claim, Delegated, List, None, Option, Rd, RealmDestroyed, RecDestroyed, Rtt, Some, Tag, TagChange, [], claim, if◌then◌else◌, true, ℕ}
+use Rattle.rmm_spec.specs.declared.change.Change.TheVariants.{Unchanged, Retagged, RealmMade, RecMade, RecordsChanged, TableMade, TableDestroyed, EntriesChanged}
+use Rattle.rmm_spec.specs.declared.tag.Tag.TheVariants.{Data}
 use Rattle.rmm_spec.specs.Function.{Part, Tags, Realms, Recs, Tables, Leaves}
 use Rattle.rmm_spec.specs.Footprint.{is_listed}
-use Rattle.rmm_spec.specs.Ownership.{Claim, claim, RecParts, rec_claims}
+use Rattle.rmm_spec.specs.Ownership.{RecParts, rec_claims}
 
 -- whether the part is listed, where something is changed in it
 abbrev pub is_listed_for : {A : Type 0} → Option A → Part → List Part → Bool
@@ -19,7 +16,8 @@ is_listed_for (Some x) part parts = is_listed part parts
 abbrev pub is_within : Change → List Part → Bool
 is_within Unchanged parts = true
 is_within (Retagged change) parts = is_listed Tags parts
-is_within (RealmMade rd root width level vmid algo) parts = is_listed Tags parts && (is_listed Realms parts && (is_listed Tables parts && is_listed Leaves parts))
+is_within (RealmMade rd root width level vmid algo) parts =
+    is_listed Tags parts && (is_listed Realms parts && (is_listed Tables parts && is_listed Leaves parts))
 is_within (RealmDestroyed rd root) parts = is_listed Tags parts && (is_listed Realms parts && (is_listed Tables parts && is_listed Leaves parts))
 is_within (RecMade rd rec mpidr flags aux0 aux1) parts = is_listed Tags parts && (is_listed Realms parts && is_listed Recs parts)
 is_within (RecDestroyed rec aux0 aux1) parts = is_listed Tags parts && is_listed Recs parts

@@ -15,14 +15,16 @@ pub claims_on-opened : (granule : ℕ) (c : Claim) (held : List Claim) → c.gra
 claims_on-opened granule c held here = rw (eq-eqb c.granule granule here) refl
 
 -- a claim that is opened elsewhere
-pub claims_on-opened_elsewhere : (granule : ℕ) (c : Claim) (held : List Claim) → (c.granule ≡ granule → ⊥) → claims_on granule (c ∷ held) ≡ claims_on granule held
+pub claims_on-opened_elsewhere : (granule : ℕ) (c : Claim) (held : List Claim)
+    → (c.granule ≡ granule → ⊥) → claims_on granule (c ∷ held) ≡ claims_on granule held
 claims_on-opened_elsewhere granule c held elsewhere = rw (ne_eqb c.granule granule elsewhere) refl
 
 -- a claim is itself
 is_same_claim-same : (c : Claim) → is_same_claim c c ≡ true
 is_same_claim-same c =
     and_from (c.granule == c.granule && tag_number c.role == tag_number c.role) (c.realm == c.realm)
-    (and_from (c.granule == c.granule) (tag_number c.role == tag_number c.role) (eq-eqb c.granule c.granule refl) (eq-eqb (tag_number c.role) (tag_number c.role) refl))
+    (and_from (c.granule == c.granule) (tag_number c.role == tag_number c.role)
+    (eq-eqb c.granule c.granule refl) (eq-eqb (tag_number c.role) (tag_number c.role) refl))
     (eq-eqb c.realm c.realm refl)
 
 -- a claim that is closed is on its granule
@@ -33,7 +35,8 @@ is_same_claim-granule a b same =
     eqb-true a.granule b.granule inner.0
 
 -- the first of claims is closed or another is
-claims_on-closed_by : (granule : ℕ) (closed c : Claim) (claims : List Claim) (same here : Bool) → is_same_claim closed c ≡ same → (c.granule == granule) ≡ here
+claims_on-closed_by : (granule : ℕ) (closed c : Claim) (claims : List Claim) (same here : Bool)
+    → is_same_claim closed c ≡ same → (c.granule == granule) ≡ here
     → closed.granule ≡ granule → claims_on granule (without_claim closed claims) ≡ without_claim closed (claims_on granule claims)
     → claims_on granule (without_claim closed (c ∷ claims)) ≡ without_claim closed (claims_on granule (c ∷ claims))
 claims_on-closed_by granule closed c claims true true same here on later = rw (same, here) (rw same refl)
@@ -56,7 +59,8 @@ claims_on-closed_only closed held only =
     claims_on-closed closed.granule closed held refl ∙ ap (without_claim closed) only ∙ rw (is_same_claim-same closed) refl
 
 -- one claim more, where another granule's is closed
-claims_on-closed_elsewhere_by : (granule : ℕ) (closed c : Claim) (claims : List Claim) (same here : Bool) → is_same_claim closed c ≡ same → (c.granule == granule) ≡ here
+claims_on-closed_elsewhere_by : (granule : ℕ) (closed c : Claim) (claims : List Claim) (same here : Bool)
+    → is_same_claim closed c ≡ same → (c.granule == granule) ≡ here
     → (closed.granule ≡ granule → ⊥) → claims_on granule (without_claim closed claims) ≡ claims_on granule claims
     → claims_on granule (without_claim closed (c ∷ claims)) ≡ claims_on granule (c ∷ claims)
 claims_on-closed_elsewhere_by granule closed c claims true true same here elsewhere later =
@@ -124,7 +128,8 @@ elsewhere-among c (d ∷ ds) (away, others) (inl here) = away (ap (λ (x : Claim
 elsewhere-among c (d ∷ ds) (away, others) (inr later) = elsewhere-among c ds others later
 
 -- claims that are apart from one on the granule are elsewhere
-apart-elsewhere : (c : Claim) (cs : List Claim) (granule : ℕ) → c.granule ≡ granule → AllByRecursion (λ (d : Claim). (c.granule == d.granule) ≡ false) cs → AreElsewhere granule cs
+apart-elsewhere : (c : Claim) (cs : List Claim) (granule : ℕ)
+    → c.granule ≡ granule → AllByRecursion (λ (d : Claim). (c.granule == d.granule) ≡ false) cs → AreElsewhere granule cs
 apart-elsewhere c [] granule here apart = tt
 apart-elsewhere c (d ∷ ds) granule here (first, others) = (
   λ on. both_ways (eq-eqb c.granule d.granule (here ∙ sym on)) first,

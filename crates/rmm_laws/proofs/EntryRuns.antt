@@ -1,14 +1,11 @@
 -- The commits of one more line, and the state that the first lines of a run lead to.
-use Rattle.std.proofs.Common.{◌≡◌, ℕ, zero, suc, List, [], ◌∷◌, ◌++◌, take, Some, sym, subst}
+use Rattle.rmm_laws.proofs.Common.{◌++◌, ◌∷◌, ◌≡◌, IsRun, JournalEntry, List, Reply, Some, State, Step, [], subst, suc, sym, zero, ℕ}
+use Rattle.std.proofs.Common.{take}
 use Rattle.std.specs.List.{slice_get}
 use Rattle.std.proofs.lemmas.Option.{none-some, same_Some}
 use Rattle.rmm_spec.specs.declared.command.Command.{Command}
 use Rattle.rmm_spec.specs.declared.event.Event.{Event}
 use Rattle.rmm_spec.specs.declared.line.Line.{Line}
-use Rattle.rmm_spec.specs.declared.reply.Reply.{Reply}
-use Rattle.rmm_spec.specs.State.{State}
-use Rattle.rmm_spec.specs.Step.{Step}
-use Rattle.rmm_spec.specs.Run.{JournalEntry, IsRun}
 use Rattle.rmm_laws.proofs.StepLaws.{step-decides}
 use Rattle.rmm_spec.specs.Linearization.{IsEntryOf, AreEntriesOf}
 use Rattle.rmm_spec.specs.FirstFault.{IsRefused}

@@ -1,21 +1,14 @@
 -- What a sound state says of a realm's tables and pages, as changes need it.
-use Rattle.std.proofs.Common.{◌≡◌, ℕ, zero, suc, ◌+◌, ◌-◌, ◌*◌, ◌/◌, ◌%◌, ◌^◌, ◌<◌, ◌≤◌, Bool, true, false, ◌&&◌, ◌||◌, ◌==◌, ◌⊎◌, if◌then◌else◌, nat_lt, Option, Some, None, is_some, IsTrue, refl, sym, ◌∙◌, ap, subst, inl, inr, arith}
+use Rattle.rmm_laws.proofs.Common.{◌&&◌, ◌+◌, ◌<◌, ◌==◌, ◌∙◌, ◌≡◌, ◌⊎◌, Bool, Delegated, IsSound, IsTrue, None, Option, RealmRecord, Some, State, Tag, and_parts, ap, arith, both_ways, eqb-true, false, has_tag, if◌then◌else◌, inl, inr, is_some, refl, subst, suc, sym, tag-has_tag, true, zero, ℕ}
+use Rattle.std.proofs.Common.{◌-◌, ◌*◌, ◌/◌, ◌%◌, ◌^◌, ◌≤◌, ◌||◌, nat_lt}
 use Rattle.std.proofs.Math.Nat.{div-add-mod}
-use Rattle.std.proofs.lemmas.Bool.{and_parts, eqb-true}
 use Rattle.std.proofs.lemmas.Bool.Decides.{nat_tests}
 use Rattle.rmm_spec.specs.declared.entry.Entry.{Entry}
 use Rattle.rmm_spec.specs.declared.entry.Entry.TheVariants.{Unassigned, Assigned, Table, UnassignedNs, AssignedNs}
 use Rattle.rmm_spec.specs.declared.tag.Ripas.{Ripas}
 use Rattle.rmm_spec.specs.declared.tag.Ripas.TheVariants.{Empty}
-use Rattle.rmm_spec.specs.declared.tag.Tag.{Tag}
-use Rattle.rmm_spec.specs.declared.tag.Tag.TheVariants.{Delegated}
-use Rattle.rmm_spec.specs.State.{State, RealmRecord}
-use Rattle.rmm_spec.specs.Lookup.{has_tag}
 use Rattle.rmm_spec.specs.Walk.{table_size, full, is_table, linked_entry, entry_at, is_live, is_in_use, has_link, has_entry}
 use Rattle.rmm_spec.specs.Step.Terms.{is_space}
-use Rattle.rmm_spec.specs.Sound.{IsSound}
-use Rattle.spec_lemmas.proofs.TagLaws.{tag-has_tag}
-use Rattle.lemmas.proofs.Tests.{both_ways}
 use Rattle.rmm_sound.proofs.Searches.{any_below-false}
 use Rattle.rmm_laws.proofs.Tests.{some_value, there}
 
@@ -28,13 +21,15 @@ waits_not s g tag other waits has = other (sym (tag-has_tag s g tag has) ∙ tag
 -- ---- entries
 
 -- an entry above a table is a link
-pub entry_at-table : (s : State) (rd level number granule : ℕ) → level < 3 → s.table rd (level + 1) number ≡ Some granule → is_table (entry_at s rd level number) ≡ true
+pub entry_at-table : (s : State) (rd level number granule : ℕ)
+    → level < 3 → s.table rd (level + 1) number ≡ Some granule → is_table (entry_at s rd level number) ≡ true
 unfolding entry_at
 entry_at-table s rd level number granule above is =
     let test : nat_lt level 3 ≡ true = grind (arith, nat_tests) in rw test (rw is refl)
 
 -- a page is at the last level
-pub page-last : (s : State) (rd level number granule : ℕ) (ripas : Ripas) → IsSound s → s.leaf rd level number ≡ Some (Assigned ripas granule) → level ≡ 3
+pub page-last : (s : State) (rd level number granule : ℕ) (ripas : Ripas)
+    → IsSound s → s.leaf rd level number ≡ Some (Assigned ripas granule) → level ≡ 3
 page-last s rd level number granule ripas sound is =
     let table = some_value (s.table rd level (number / 512)) (sound.leaves.placed rd level number (Assigned ripas granule) is) in
     let realm = sound.tables.owned rd level (number / 512) table.0 table.1 in
@@ -54,7 +49,8 @@ unassigned_page : (ripas : Ripas) (granule : ℕ) → Unassigned Empty ≡ Assig
 unassigned_page ripas granule bad = cc
 
 -- what is linked to no table is its leaf, where it is a page
-linked_page : (below : Option ℕ) (leaf : Option Entry) (ripas : Ripas) (granule : ℕ) → linked_entry below leaf ≡ Assigned ripas granule → leaf ≡ Some (Assigned ripas granule)
+linked_page : (below : Option ℕ) (leaf : Option Entry) (ripas : Ripas) (granule : ℕ)
+    → linked_entry below leaf ≡ Assigned ripas granule → leaf ≡ Some (Assigned ripas granule)
 linked_page (Some table) leaf ripas granule is = absurd (let bad : Table table ≡ Assigned ripas granule = is in cc)
 linked_page None None ripas granule is = absurd (unassigned_page ripas granule is)
 linked_page None (Some (Unassigned old)) ripas granule is = ap Some is
@@ -83,7 +79,8 @@ page-in_use s rd level number granule ripas sound is unused =
 -- ---- the root
 
 -- a root covers a whole address space, by which of the two it is
-root_covers_by : (width level : ℕ) (large small : Bool) → (width == 0x27 && level == 1) ≡ large → (width == 0x30 && level == 0) ≡ small → (large || small) ≡ true
+root_covers_by : (width level : ℕ) (large small : Bool)
+    → (width == 0x27 && level == 1) ≡ large → (width == 0x30 && level == 0) ≡ small → (large || small) ≡ true
     → (level ≤ 1) × (table_size level ≡ 2 ^ width)
 unfolding table_size
 root_covers_by width level true small is _ _ =
@@ -108,11 +105,13 @@ below_one zero unit below = refl
 below_one (suc n) unit below = absurd (omega arith)
 
 -- a table of the root's level is the root
-root-first : (s : State) (rd number granule : ℕ) (r : RealmRecord) → IsSound s → s.realm rd ≡ Some r → s.table rd r.start_level number ≡ Some granule → number ≡ 0
+root-first : (s : State) (rd number granule : ℕ) (r : RealmRecord)
+    → IsSound s → s.realm rd ≡ Some r → s.table rd r.start_level number ≡ Some granule → number ≡ 0
 root-first s rd number granule r sound is table =
     let owner = sound.tables.owned rd r.start_level number granule table in
     let same : owner.0 ≡ r = let both : Some owner.0 ≡ Some r = sym owner.1 ∙ is in cc in
-    let inside : number * table_size r.start_level < full r = subst (λ (q : RealmRecord). number * table_size r.start_level < full q) same owner.2.inside in
+    let inside : number * table_size r.start_level < full r =
+    subst (λ (q : RealmRecord). number * table_size r.start_level < full q) same owner.2.inside in
     let size = (root_covers r.width r.start_level (sound.realms.spaces rd r is)).1 in
     below_one number (full r) (rw size at inside)
 
@@ -145,7 +144,8 @@ first_or_past_by a b true is from = let past : a < b = grind (arith, nat_tests) 
 first_or_past_by a b false is from = let end : b ≤ a = grind (arith, nat_tests) in inl (omega arith)
 
 -- a realm whose root has no link has its root alone
-pub unlinked-root : (s : State) (rd level number granule : ℕ) (r : RealmRecord) → IsSound s → s.realm rd ≡ Some r → has_link s rd r.start_level 0 ≡ false
+pub unlinked-root : (s : State) (rd level number granule : ℕ) (r : RealmRecord)
+    → IsSound s → s.realm rd ≡ Some r → has_link s rd r.start_level 0 ≡ false
     → s.table rd level number ≡ Some granule → (level ≡ r.start_level) × (granule ≡ r.root)
 unlinked-root s rd level number granule r sound is unlinked table =
     let owner = sound.tables.owned rd level number granule table in

@@ -1,26 +1,14 @@
 -- Along a run the state is sound, the open claims are its ties, and the commits say what made its realms and RECs.
-use Rattle.std.proofs.Common.{◌≡◌, ℕ, false, ◌++◌, List, [], ◌∷◌, None, Some, Result, Ok, Err, take, refl, sym, ◌∙◌, ap, subst, inl}
-use Rattle.rmm_spec.specs.declared.accepted.Accepted.{Accepted}
+use Rattle.rmm_laws.proofs.Common.{◌++◌, ◌∙◌, ◌∷◌, ◌≡◌, Accepted, Change, Claim, Err, IsRun, IsSound, JournalEntry, List, None, Ok, Rd, RealmDestroyed, RecDestroyed, Refusal, Reply, Result, Rtt, Some, State, Step, [], ap, both_ways, changed, claim, false, inl, is_accepted, ok, opening, outcome, reached_change, realm_at, rec_at, refl, subst, sym, ℕ}
+use Rattle.std.proofs.Common.{take}
 use Rattle.rmm_spec.specs.declared.accepted.Accepted.TheVariants.{Done, Reaches}
-use Rattle.rmm_spec.specs.declared.change.Change.{Change}
-use Rattle.rmm_spec.specs.declared.change.Change.TheVariants.{RealmDestroyed, RecDestroyed}
-use Rattle.rmm_spec.specs.declared.refusal.Refusal.{Refusal}
-use Rattle.rmm_spec.specs.declared.reply.Reply.{Reply}
 use Rattle.rmm_spec.specs.declared.reply.Reply.TheVariants as reply
-use Rattle.rmm_spec.specs.declared.tag.Tag.TheVariants.{Rd, Rtt}
 use Rattle.rmm_spec.specs.Applicable.{CanApply}
 use Rattle.rmm_spec.specs.Call.{call_of}
-use Rattle.rmm_spec.specs.Change.{changed}
 use Rattle.rmm_spec.specs.HistoryText.{Config, History}
 use Rattle.rmm_spec.specs.Judgement.{IsIsolatedThroughout}
-use Rattle.rmm_spec.specs.Ownership.{Claim, claim, is_accepted, latest_root, latest_rec, rec_claims, claims, claims_closed, claims_after, claims_from, without_claims, IsIsolated}
-use Rattle.rmm_spec.specs.Run.{JournalEntry, IsRun}
-use Rattle.rmm_spec.specs.Rows.{ok}
-use Rattle.rmm_spec.specs.Sound.{IsSound}
-use Rattle.rmm_spec.specs.State.{State, opening}
-use Rattle.rmm_spec.specs.Lookup.{realm_at, rec_at}
-use Rattle.rmm_spec.specs.Step.{outcome, CarriesOut, Step}
-use Rattle.rmm_spec.specs.Step.Ripas.{reached_change}
+use Rattle.rmm_spec.specs.Ownership.{latest_root, latest_rec, rec_claims, claims, claims_closed, claims_after, claims_from, without_claims, IsIsolated}
+use Rattle.rmm_spec.specs.Step.{CarriesOut}
 use Rattle.rmm_sound.proofs.Changes.{changed_sound}
 use Rattle.rmm_sound.proofs.Opening.{opening_sound}
 use Rattle.rmm_sound.proofs.Runs.{done_applies, reached_applies}
@@ -30,7 +18,6 @@ use Rattle.rmm_laws.proofs.ChangeWords.{opened, closed}
 use Rattle.rmm_laws.proofs.CommandFacts.{Tells, OutcomeTells, outcome-tells}
 use Rattle.rmm_laws.proofs.Owners.{AreOwned, changed-owned, owned-isolated}
 use Rattle.rmm_laws.proofs.Recorded.{IsRecorded, root_in, parts_in, roots-after, recs-after}
-use Rattle.lemmas.proofs.Tests.{both_ways}
 
 -- Of the commits so far (latest first), the open claims and the state.
 pub record IsAccounted (earlier : List JournalEntry) (held : List Claim) (s : State) : Type 0 where
@@ -49,7 +36,8 @@ closed-same earlier held s _ a can = refl
 
 module _ (earlier : List JournalEntry) (held : List Claim) (old : State) (entry : JournalEntry) (a : IsAccounted earlier held old) where
   -- a refusal leaves all as it is
-  refused-accounted : (given : Reply) → entry.given ≡ given → is_accepted given ≡ false → IsAccounted (entry ∷ earlier) (claims_after given entry earlier held) old
+  refused-accounted : (given : Reply)
+      → entry.given ≡ given → is_accepted given ≡ false → IsAccounted (entry ∷ earlier) (claims_after given entry earlier held) old
   refused-accounted (reply.Ok words) is refused = both_ways refl refused
   refused-accounted (reply.Err status index) is refused = record {
     sound = a.sound;
@@ -65,12 +53,15 @@ module _ (earlier : List JournalEntry) (held : List Claim) (old : State) (entry 
   }
 
   -- an acceptance makes a change that opens and closes claims
-  accepted-accounted : (words : List ℕ) (change : Change) → entry.given ≡ ok words → Tells entry.command.function entry.command.words.items words change → CanApply old change
+  accepted-accounted : (words : List ℕ) (change : Change)
+      → entry.given ≡ ok words → Tells entry.command.function entry.command.words.items words change → CanApply old change
       → IsAccounted (entry ∷ earlier) (claims_after (ok words) entry earlier held) (changed old change)
   accepted-accounted words change is tells can =
       let call = call_of entry.command in
-      let closes : claims_closed call words earlier ≡ closed (roots_at old) (recs_at old) change = tells.closes earlier ∙ closed-same earlier held old change a can in
-      let owned = changed-owned old (changed old change) (opened change) (closed (roots_at old) (recs_at old) change) held a.sound (change-accounts old change a.sound can) a.owned in
+      let closes : claims_closed call words earlier ≡ closed (roots_at old) (recs_at old) change =
+      tells.closes earlier ∙ closed-same earlier held old change a can in
+      let owned = changed-owned old (changed old change) (opened change)
+      (closed (roots_at old) (recs_at old) change) held a.sound (change-accounts old change a.sound can) a.owned in
       record {
         sound = changed_sound old change a.sound can;
         owned = subst (λ opens. AreOwned (opens ++ without_claims (claims_closed call words earlier) held) (changed old change)) (sym tells.opens)
@@ -104,7 +95,8 @@ run-accounted : (entries earlier : List JournalEntry) (held : List Claim) (old l
     → (all : List JournalEntry) × IsAccounted all (claims_from earlier held entries) last
 run-accounted [] earlier held old last a run = (earlier, rw run a)
 run-accounted (entry ∷ entries) earlier held old last a (next, step, run) =
-    run-accounted entries (entry ∷ earlier) (claims_after entry.given entry earlier held) next last (step-accounted earlier held old next entry a step) run
+    run-accounted entries (entry ∷ earlier) (claims_after entry.given entry earlier held) next last
+    (step-accounted earlier held old next entry a step) run
 
 -- at the opening nothing is claimed, and nothing is there
 opening-accounted : (config : Config) → IsAccounted [] [] (opening config)
@@ -117,7 +109,8 @@ opening-accounted config = record {
 }
 
 -- what a run leaves is sound, and its ties are the open claims
-pub run-owned : (config : Config) (entries : List JournalEntry) (last : State) → IsRun (opening config) entries last → IsSound last × AreOwned (claims entries) last
+pub run-owned : (config : Config) (entries : List JournalEntry) (last : State)
+    → IsRun (opening config) entries last → IsSound last × AreOwned (claims entries) last
 unfolding claims
 run-owned config entries last run =
     let kept = run-accounted entries [] [] (opening config) last (opening-accounted config) run in (kept.1.sound, kept.1.owned)

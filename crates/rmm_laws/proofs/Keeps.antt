@@ -1,24 +1,20 @@
 -- What stays tied where the maps of a state stay, or is closed.
-use Rattle.std.proofs.Common.{◌≡◌, ℕ, ◌==◌, true, ◌⊎◌, List, [], Option, Some, None, is_some, refl, sym, ◌∙◌, ap, inl, inr}
+use Rattle.rmm_laws.proofs.Common.{◌==◌, ◌∙◌, ◌≡◌, ◌⊎◌, Claim, Delegated, List, None, Option, Rd, RealmRecord, Rtt, Some, State, Tag, TagChange, [], ap, claim, eqb-true, inl, inr, is_some, realm_at, rec_at, refl, sym, true, ℕ}
 use Rattle.rmm_spec.specs.declared.change.RealmChange.{RealmChange}
 use Rattle.rmm_spec.specs.declared.change.RecChange.{RecChange}
 use Rattle.rmm_spec.specs.declared.change.RecUpdate.{RecUpdate}
 use Rattle.rmm_spec.specs.declared.change.RecUpdate.TheVariants as rec_update
-use Rattle.rmm_spec.specs.declared.change.TagChange.{TagChange}
 use Rattle.rmm_spec.specs.declared.entry.Entry.{Entry}
 use Rattle.rmm_spec.specs.declared.entry.Entry.TheVariants.{Assigned}
 use Rattle.rmm_spec.specs.declared.tag.Ripas.{Ripas}
-use Rattle.rmm_spec.specs.declared.tag.Tag.{Tag}
-use Rattle.rmm_spec.specs.declared.tag.Tag.TheVariants.{Undelegated, Delegated, Rd, Rec, RecAux, Data, Rtt}
+use Rattle.rmm_spec.specs.declared.tag.Tag.TheVariants.{Undelegated, Rec, RecAux, Data}
 use Rattle.rmm_spec.specs.Change.{realm_updated, rec_updated, with_realm_change, with_rec_change, with_tag_change}
-use Rattle.rmm_spec.specs.State.{State, RealmRecord, RecRecord}
-use Rattle.rmm_spec.specs.Lookup.{realm_at, rec_at}
-use Rattle.rmm_spec.specs.Ownership.{Claim, claim, IsTied}
+use Rattle.rmm_spec.specs.State.{RecRecord}
+use Rattle.rmm_spec.specs.Ownership.{IsTied}
 use Rattle.rmm_sound.proofs.Searches.{rec_at-is}
 use Rattle.rmm_laws.proofs.Claims.{IsAmong}
 use Rattle.rmm_laws.proofs.Owners.{IsKept}
 use Rattle.rmm_laws.proofs.Tests.{kept_unless}
-use Rattle.std.proofs.lemmas.Bool.{eqb-true}
 
 -- a REC of this realm with these auxiliary granules
 abbrev pub IsRecLike : RecRecord → Option RecRecord → Type 0
@@ -30,7 +26,8 @@ IsPage granule found = (ripas : Ripas) × (found ≡ Some (Assigned ripas granul
 
 -- the three claims of a REC are closed
 abbrev pub IsRecAmong : ℕ → RecRecord → List Claim → Type 0
-IsRecAmong rec r closes = IsAmong (claim rec Rec r.owner) closes × IsAmong (claim r.aux0 RecAux r.owner) closes × IsAmong (claim r.aux1 RecAux r.owner) closes
+IsRecAmong rec r closes =
+    IsAmong (claim rec Rec r.owner) closes × IsAmong (claim r.aux0 RecAux r.owner) closes × IsAmong (claim r.aux1 RecAux r.owner) closes
 
 -- Each realm, REC, table and page stays, or is closed.
 pub record Keeps (s new : State) (closes : List Claim) : Type 0 where
@@ -80,7 +77,8 @@ keeps-all s new k c tied = elim (keeps-kept s new [] k c tied) [ inl still ↦ s
 
 -- ---- maps that stay
 
-pub same-realms : (s : State) (closes : List Claim) (rd : ℕ) → is_some (s.realm rd) ≡ true → (is_some (s.realm rd) ≡ true) ⊎ IsAmong (claim rd Rd rd) closes
+pub same-realms : (s : State) (closes : List Claim) (rd : ℕ)
+    → is_some (s.realm rd) ≡ true → (is_some (s.realm rd) ≡ true) ⊎ IsAmong (claim rd Rd rd) closes
 same-realms s closes rd some = inl some
 
 pub same-recs : (s : State) (closes : List Claim) (rec : ℕ) (r : RecRecord) → s.rec rec ≡ Some r → IsRecLike r (s.rec rec) ⊎ IsRecAmong rec r closes
@@ -90,7 +88,8 @@ pub same-tables : (s : State) (closes : List Claim) (rd level number granule : �
     → (s.table rd level number ≡ Some granule) ⊎ IsAmong (claim granule Rtt rd) closes
 same-tables s closes rd level number granule is = inl is
 
-pub same-pages : (s : State) (closes : List Claim) (rd level number granule : ℕ) (ripas : Ripas) → s.leaf rd level number ≡ Some (Assigned ripas granule)
+pub same-pages : (s : State) (closes : List Claim) (rd level number granule : ℕ) (ripas : Ripas)
+    → s.leaf rd level number ≡ Some (Assigned ripas granule)
     → IsPage granule (s.leaf rd level number) ⊎ IsAmong (claim granule Data rd) closes
 same-pages s closes rd level number granule ripas is = inl (ripas, is)
 
@@ -109,7 +108,8 @@ tag_change-keeps s (Some change) = record { realms = same-realms s []; recs = sa
 realm_change-keeps : (s : State) (change : Option RealmChange) → Keeps s (with_realm_change s change) []
 realm_change-keeps s None = record { realms = same-realms s []; recs = same-recs s []; tables = same-tables s []; pages = same-pages s [] }
 realm_change-keeps s (Some change) = record {
-  realms = λ rd some. kept_unless (λ (found : Option RealmRecord). is_some found ≡ true) (rd == change.rd) (Some (realm_updated change.update (realm_at s change.rd))) (s.realm rd) (inl some) (λ _. inl refl);
+  realms = λ rd some. kept_unless (λ (found : Option RealmRecord). is_some found ≡ true) (rd == change.rd)
+      (Some (realm_updated change.update (realm_at s change.rd))) (s.realm rd) (inl some) (λ _. inl refl);
   recs = same-recs s [];
   tables = same-tables s [];
   pages = same-pages s [];
@@ -119,7 +119,8 @@ rec_change-keeps : (s : State) (change : Option RecChange) → Keeps s (with_rec
 rec_change-keeps s None = record { realms = same-realms s []; recs = same-recs s []; tables = same-tables s []; pages = same-pages s [] }
 rec_change-keeps s (Some change) = record {
   realms = same-realms s [];
-  recs = λ rec r is. kept_unless (IsRecLike r) (rec == change.rec) (Some (rec_updated change.update (rec_at s change.rec))) (s.rec rec) (inl (r, is, refl, refl, refl))
+  recs = λ rec r is. kept_unless (IsRecLike r) (rec == change.rec)
+      (Some (rec_updated change.update (rec_at s change.rec))) (s.rec rec) (inl (r, is, refl, refl, refl))
       (λ hit.
       let here : s.rec change.rec ≡ Some r = ap s.rec (sym (eqb-true rec change.rec hit)) ∙ is in
       inl (rw (rec_at-is s change.rec r here) (rec_updated-like change.update r)));
@@ -132,7 +133,8 @@ abbrev pub with_records : State → Option TagChange → Option RealmChange → 
 with_records s page realm rec = with_rec_change (with_realm_change (with_tag_change s page) realm) rec
 
 -- every tie stays
-pub records-kept : (s : State) (page : Option TagChange) (realm : Option RealmChange) (rec : Option RecChange) (c : Claim) → IsKept s c → IsKept (with_records s page realm rec) c
+pub records-kept : (s : State) (page : Option TagChange) (realm : Option RealmChange) (rec : Option RecChange) (c : Claim)
+    → IsKept s c → IsKept (with_records s page realm rec) c
 records-kept s page realm rec c tied =
     let tagged = with_tag_change s page in
     let updated = with_realm_change tagged realm in
@@ -140,25 +142,31 @@ records-kept s page realm rec c tied =
     (keeps-all tagged updated (realm_change-keeps tagged realm) c (keeps-all s tagged (tag_change-keeps s page) c tied))
 
 -- records leave the tags, tables and leaves as they are
-pub realm_change-rest : (s : State) (change : Option RealmChange) → ((with_realm_change s change).tag ≡ s.tag) × ((with_realm_change s change).table ≡ s.table)
+pub realm_change-rest : (s : State) (change : Option RealmChange)
+    → ((with_realm_change s change).tag ≡ s.tag) × ((with_realm_change s change).table ≡ s.table)
     × ((with_realm_change s change).leaf ≡ s.leaf) × ((with_realm_change s change).rec ≡ s.rec)
 realm_change-rest s None = (refl, refl, refl, refl)
 realm_change-rest s (Some change) = (refl, refl, refl, refl)
 
-pub rec_change-rest : (s : State) (change : Option RecChange) → ((with_rec_change s change).tag ≡ s.tag) × ((with_rec_change s change).table ≡ s.table)
+pub rec_change-rest : (s : State) (change : Option RecChange)
+    → ((with_rec_change s change).tag ≡ s.tag) × ((with_rec_change s change).table ≡ s.table)
     × ((with_rec_change s change).leaf ≡ s.leaf) × ((with_rec_change s change).realm ≡ s.realm)
 rec_change-rest s None = (refl, refl, refl, refl)
 rec_change-rest s (Some change) = (refl, refl, refl, refl)
 
-pub tag_change-rest : (s : State) (change : Option TagChange) → ((with_tag_change s change).table ≡ s.table) × ((with_tag_change s change).leaf ≡ s.leaf)
+pub tag_change-rest : (s : State) (change : Option TagChange)
+    → ((with_tag_change s change).table ≡ s.table) × ((with_tag_change s change).leaf ≡ s.leaf)
     × ((with_tag_change s change).realm ≡ s.realm) × ((with_tag_change s change).rec ≡ s.rec)
 tag_change-rest s None = (refl, refl, refl, refl)
 tag_change-rest s (Some change) = (refl, refl, refl, refl)
 
-pub records-tag : (s : State) (page : Option TagChange) (realm : Option RealmChange) (rec : Option RecChange) → (with_records s page realm rec).tag ≡ (with_tag_change s page).tag
+pub records-tag : (s : State) (page : Option TagChange) (realm : Option RealmChange) (rec : Option RecChange)
+    → (with_records s page realm rec).tag ≡ (with_tag_change s page).tag
 records-tag s page realm rec =
     (rec_change-rest (with_realm_change (with_tag_change s page) realm) rec).0 ∙ (realm_change-rest (with_tag_change s page) realm).0
 
-pub records-leaf : (s : State) (page : Option TagChange) (realm : Option RealmChange) (rec : Option RecChange) → (with_records s page realm rec).leaf ≡ s.leaf
+pub records-leaf : (s : State) (page : Option TagChange) (realm : Option RealmChange) (rec : Option RecChange)
+    → (with_records s page realm rec).leaf ≡ s.leaf
 records-leaf s page realm rec =
-    (rec_change-rest (with_realm_change (with_tag_change s page) realm) rec).2 ∙ (realm_change-rest (with_tag_change s page) realm).2 ∙ (tag_change-rest s page).1
+    (rec_change-rest (with_realm_change (with_tag_change s page) realm) rec).2
+    ∙ (realm_change-rest (with_tag_change s page) realm).2 ∙ (tag_change-rest s page).1

@@ -1,3 +1,4 @@
+pub mod Common
 pub mod Tests
 pub mod RowLaws
 pub mod StepLaws

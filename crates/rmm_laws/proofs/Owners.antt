@@ -1,12 +1,8 @@
 -- The open claims are the ties of the state, each once: kept by a change that opens and closes as ties come and go.
-use Rattle.std.proofs.Common.{◌≡◌, ℕ, List, [], ◌∷◌, ◌++◌, ◌⊎◌, Contains, refl, sym, ◌∙◌, ap, subst, inl, inr, arith}
+use Rattle.rmm_laws.proofs.Common.{◌++◌, ◌∙◌, ◌∷◌, ◌≡◌, ◌⊎◌, Claim, Delegated, IsSound, JournalEntry, List, State, [], ap, arith, claim, inl, inr, refl, subst, sym, tag-has_tag, ℕ}
+use Rattle.std.proofs.Common.{Contains}
 use Rattle.std.specs.List.{AllByRecursion}
-use Rattle.rmm_spec.specs.declared.tag.Tag.TheVariants.{Delegated}
-use Rattle.rmm_spec.specs.Run.{JournalEntry}
-use Rattle.rmm_spec.specs.Sound.{IsSound}
-use Rattle.rmm_spec.specs.State.{State}
-use Rattle.rmm_spec.specs.Ownership.{Claim, claim, claims, without_claims, owners, IsTied, Spot, IsIsolated}
-use Rattle.spec_lemmas.proofs.TagLaws.{tag-has_tag}
+use Rattle.rmm_spec.specs.Ownership.{claims, without_claims, owners, IsTied, Spot, IsIsolated}
 use Rattle.rmm_laws.proofs.Claims.{claims_on, among-Contains, Contains-among, among-on, on-among, AreElsewhere, AreApart, IsAmong, elsewhere-among, opened_on, none_closed, closed_on}
 use Rattle.rmm_laws.proofs.Ties.{IsUnused, tied-tag, tied-used, tied-once}
 
@@ -43,7 +39,8 @@ kept-once s a b sound first second here =
     let tag = tag-has_tag s a.granule a.role (tied-tag s a.role a.granule a.realm sound first) in
     let tag_too = tag-has_tag s b.granule b.role (tied-tag s b.role b.granule b.realm sound second) in
     let role : a.role ≡ b.role = sym tag ∙ ap s.tag here ∙ tag_too in
-    let moved : IsTied b.role s b.granule a.realm = subst (λ r. IsTied r s b.granule a.realm) role (subst (λ g. IsTied a.role s g a.realm) here first) in
+    let moved : IsTied b.role s b.granule a.realm =
+    subst (λ r. IsTied r s b.granule a.realm) role (subst (λ g. IsTied a.role s g a.realm) here first) in
     same_claim a b here role (tied-once s b.role b.granule a.realm b.realm sound moved second)
 
 -- ---- one change
@@ -61,7 +58,8 @@ module _ (old new : State) (opens closes held : List Claim) (sound : IsSound old
   -- an owner stays, or its claim is closed
   taken-owned : (c : Claim) → claims_on c.granule held ≡ c ∷ [] → IsKept old c → IsOwned (opens ++ without_claims closes held) new c.granule
   taken-owned c one kept =
-      let same = λ (d : Claim) (p : IsKept old d × IsUnused (new.tag d.granule)) (here : d.granule ≡ c.granule). kept-once old d c sound p.0 kept here in
+      let same =
+      λ (d : Claim) (p : IsKept old d × IsUnused (new.tag d.granule)) (here : d.granule ≡ c.granule). kept-once old d c sound p.0 kept here in
       elim (opened_on (λ (d : Claim). (old.tag d.granule ≡ Delegated) × IsKept new d) c.granule opens (without_claims closes held) a.opened a.apart) [
         | inl others ↦ elim (closed_on (λ (d : Claim). IsKept old d × IsUnused (new.tag d.granule)) c closes held one same a.closed) [
           | inl gone ↦ inl (others.1 ∙ gone.1, gone.0.1)

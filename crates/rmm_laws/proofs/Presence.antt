@@ -1,15 +1,12 @@
 -- What a run leaves has what rows read: it is sound, and each granule in use is tied to its realm.
-use Rattle.std.proofs.Common.{◌≡◌, ℕ, suc, ◌+◌, ◌*◌, ◌/◌, ◌<◌, ◌≤◌, IsTrue, Some, is_some, List, sym, ◌∙◌, ap, subst, inl, inr, arith}
+use Rattle.rmm_laws.proofs.Common.{◌+◌, ◌<◌, ◌∙◌, ◌≡◌, Claim, IsRun, IsSound, IsTrue, JournalEntry, List, RealmRecord, Some, State, ap, arith, has_tag, inl, inr, is_some, opening, rec_at, subst, suc, sym, tag-has_tag, ℕ}
+use Rattle.std.proofs.Common.{◌*◌, ◌/◌, ◌≤◌}
 use Rattle.std.proofs.lemmas.Bool.{or_cases}
 use Rattle.rmm_spec.specs.declared.tag.Tag.TheVariants.{RecAux}
 use Rattle.rmm_spec.specs.HistoryText.{Config}
-use Rattle.rmm_spec.specs.Lookup.{has_tag, rec_at}
-use Rattle.rmm_spec.specs.Ownership.{Claim, IsTied}
-use Rattle.rmm_spec.specs.Run.{JournalEntry, IsRun}
-use Rattle.rmm_spec.specs.Sound.{has_aux, IsSound}
-use Rattle.rmm_spec.specs.State.{State, RealmRecord, opening}
+use Rattle.rmm_spec.specs.Ownership.{IsTied}
+use Rattle.rmm_spec.specs.Sound.{has_aux}
 use Rattle.rmm_spec.specs.Walk.{full, reach, table_number}
-use Rattle.spec_lemmas.proofs.TagLaws.{tag-has_tag}
 use Rattle.spec_lemmas.proofs.WalkLaws.{reach-is_walk}
 use Rattle.rmm_sound.proofs.Entries.{value_there, leaf_fits, fitting_leaf, entry-leaf, entry-link}
 use Rattle.rmm_sound.proofs.Searches.{rec_there, inside_runs}
@@ -26,10 +23,12 @@ aux_there : (held : List Claim) (s : State) (granule : ℕ) → IsSound s → Ar
 aux_there held s granule sound owned has =
     let tag = tag-has_tag s granule RecAux has in
     elim (owned.each granule) [
-      | inl free ↦ elim free.1 [ inl host ↦ absurd (let bad : _ ≡ _ = sym tag ∙ host in cc) | inr lent ↦ absurd (let bad : _ ≡ _ = sym tag ∙ lent in cc) ]
+      | inl free ↦
+          elim free.1 [ inl host ↦ absurd (let bad : _ ≡ _ = sym tag ∙ host in cc) | inr lent ↦ absurd (let bad : _ ≡ _ = sym tag ∙ lent in cc) ]
       | inr taken ↦
           (let c : Claim = taken.0 in
-          let role : c.role ≡ RecAux = sym (tag-has_tag s c.granule c.role (tied-tag s c.role c.granule c.realm sound taken.3)) ∙ ap s.tag taken.1 ∙ tag in
+          let role : c.role ≡ RecAux =
+          sym (tag-has_tag s c.granule c.role (tied-tag s c.role c.granule c.realm sound taken.3)) ∙ ap s.tag taken.1 ∙ tag in
           let tied = subst (λ r. IsTied r s c.granule c.realm) role taken.3 in
           (tied.0, subst (λ g. IsTrue (has_aux g (s.rec tied.0))) taken.1 (aux-has_aux s tied.0 c.granule tied.1 tied.2 tied.4)))
     ]

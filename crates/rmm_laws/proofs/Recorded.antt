@@ -1,25 +1,21 @@
 -- What made a realm or a REC that there is, is read from the commits: the latest that names it.
-use Rattle.std.proofs.Common.{◌≡◌, ℕ, ◌==◌, Bool, true, false, if◌then◌else◌, Option, Some, None, unwrap_or, refl, sym, ◌∙◌, ap, inl, inr}
-use Rattle.std.proofs.lemmas.Bool.{eqb-true, eq-eqb, ne_eqb}
-use Rattle.rmm_spec.specs.declared.change.Change.{Change}
-use Rattle.rmm_spec.specs.declared.change.Change.TheVariants.{Unchanged, Retagged, RealmMade, RealmDestroyed, RecMade, RecDestroyed, RecordsChanged, TableMade, TableDestroyed, EntriesChanged}
+use Rattle.rmm_laws.proofs.Common.{◌==◌, ◌∙◌, ◌≡◌, Bool, Change, IsSound, None, Option, RealmDestroyed, RealmRecord, RecDestroyed, Some, State, TagChange, ap, both_ways, changed, eq-eqb, eqb-true, false, if◌then◌else◌, inl, inr, realm_at, rec_at, refl, sym, true, ℕ}
+use Rattle.std.proofs.Common.{unwrap_or}
+use Rattle.std.proofs.lemmas.Bool.{ne_eqb}
+use Rattle.rmm_spec.specs.declared.change.Change.TheVariants.{Unchanged, Retagged, RealmMade, RecMade, RecordsChanged, TableMade, TableDestroyed, EntriesChanged}
 use Rattle.rmm_spec.specs.declared.change.EntryChange.{EntryChange}
 use Rattle.rmm_spec.specs.declared.change.EntryChange.TheVariants.{Replaced, RipasSet}
 use Rattle.rmm_spec.specs.declared.change.RealmChange.{RealmChange}
 use Rattle.rmm_spec.specs.declared.change.RealmUpdate.TheVariants as realm_update
 use Rattle.rmm_spec.specs.declared.change.RecChange.{RecChange}
-use Rattle.rmm_spec.specs.declared.change.TagChange.{TagChange}
 use Rattle.rmm_spec.specs.Applicable.{CanChangeRealm, CanChangeRec, CanApply}
-use Rattle.rmm_spec.specs.Change.{new_realm, new_rec, realm_updated, rec_updated, with_tag_change, with_realm_change, with_rec_change, with_entry_change, changed}
+use Rattle.rmm_spec.specs.Change.{new_realm, new_rec, realm_updated, rec_updated, with_tag_change, with_realm_change, with_rec_change, with_entry_change}
 use Rattle.rmm_spec.specs.Ownership.{RecParts}
-use Rattle.rmm_spec.specs.Sound.{IsSound}
-use Rattle.rmm_spec.specs.State.{State, RealmRecord, RecRecord}
-use Rattle.rmm_spec.specs.Lookup.{realm_at, rec_at}
+use Rattle.rmm_spec.specs.State.{RecRecord}
 use Rattle.rmm_sound.proofs.Records.{updated_like}
 use Rattle.rmm_sound.proofs.Searches.{realm_at-is, realm_there, rec_at-is, rec_there}
 use Rattle.rmm_laws.proofs.ChangeWords.{root_of, rec_of}
 use Rattle.rmm_laws.proofs.Keeps.{with_records, rec_updated-like, tag_change-rest, realm_change-rest, rec_change-rest}
-use Rattle.lemmas.proofs.Tests.{both_ways}
 use Rattle.rmm_laws.proofs.Tests.{chosen}
 
 -- each value of the map is recorded: this is read from it
@@ -38,7 +34,8 @@ swapped a b true same = eq-eqb b a (sym (eqb-true a b same))
 swapped a b false apart = ne_eqb b a (λ same. both_ways (eq-eqb a b (sym same)) apart)
 
 -- a value is put in, or replaced, and is recorded
-put-recorded : {V R : Type 0} (read : V → R) (recorded : ℕ → R) (values : ℕ → Option V) (place : ℕ) (new : V) → IsRecorded read recorded values → recorded place ≡ read new
+put-recorded : {V R : Type 0} (read : V → R) (recorded : ℕ → R) (values : ℕ → Option V) (place : ℕ) (new : V)
+    → IsRecorded read recorded values → recorded place ≡ read new
     → IsRecorded read recorded (λ x. if x == place then Some new else values x)
 put-recorded read recorded values place new before here x v is = elim (chosen (x == place) (Some new) (values x) (Some v) is) [
   | inl p ↦ (let same : new ≡ v = (let both : Some new ≡ Some v = p.1 in cc) in ap recorded (eqb-true x place p.0) ∙ here ∙ ap read same)
@@ -46,7 +43,8 @@ put-recorded read recorded values place new before here x v is = elim (chosen (x
 ]
 
 -- a value is put in that a commit makes
-made-recorded : {V R : Type 0} (read : V → R) (recorded : ℕ → R) (values : ℕ → Option V) (place : ℕ) (new : V) (made : R) → IsRecorded read recorded values → made ≡ read new
+made-recorded : {V R : Type 0} (read : V → R) (recorded : ℕ → R) (values : ℕ → Option V) (place : ℕ) (new : V) (made : R)
+    → IsRecorded read recorded values → made ≡ read new
     → IsRecorded read (λ x. unwrap_or (if place == x then Some made else None) (recorded x)) (λ x. if x == place then Some new else values x)
 made-recorded read recorded values place new made before here x v is = elim (chosen (x == place) (Some new) (values x) (Some v) is) [
   | inl p ↦ (let same : new ≡ v = (let both : Some new ≡ Some v = p.1 in cc) in rw (swapped x place true p.0) (here ∙ ap read same))
@@ -77,7 +75,8 @@ realm_change-recorded s t (Some change) roots sound can same recorded =
     let is = realm_there s change.rd sound can.0 in
     let here : t.realm change.rd ≡ Some (realm_at s change.rd) = ap (λ (f : ℕ → Option RealmRecord). f change.rd) same ∙ is in
     put-recorded root_in roots t.realm change.rd (realm_updated change.update (realm_at t change.rd)) (rw same recorded)
-    (recorded change.rd (realm_at s change.rd) is ∙ sym ((updated_like change.update (realm_at t change.rd)).root ∙ ap root_in (realm_at-is t change.rd (realm_at s change.rd) here)))
+    (recorded change.rd (realm_at s change.rd) is
+    ∙ sym ((updated_like change.update (realm_at t change.rd)).root ∙ ap root_in (realm_at-is t change.rd (realm_at s change.rd) here)))
 
 rec_change-recorded : (s t : State) (change : Option RecChange) (recs : ℕ → RecParts) → IsSound s → CanChangeRec s change → t.rec ≡ s.rec
     → IsRecorded parts_in recs s.rec → IsRecorded parts_in recs (with_rec_change t change).rec
@@ -86,20 +85,24 @@ rec_change-recorded s t (Some change) recs sound can same recorded =
     let is = rec_there s change.rec sound can.0 in
     let here : t.rec change.rec ≡ Some (rec_at s change.rec) = ap (λ (f : ℕ → Option RecRecord). f change.rec) same ∙ is in
     put-recorded parts_in recs t.rec change.rec (rec_updated change.update (rec_at t change.rec)) (rw same recorded)
-    (recorded change.rec (rec_at s change.rec) is ∙ sym (rec_updated-parts change (rec_at t change.rec) ∙ ap parts_in (rec_at-is t change.rec (rec_at s change.rec) here)))
+    (recorded change.rec (rec_at s change.rec) is
+    ∙ sym (rec_updated-parts change (rec_at t change.rec) ∙ ap parts_in (rec_at-is t change.rec (rec_at s change.rec) here)))
 
 -- entries leave realms and RECs as they are
-entry_change-rest : (s : State) (rd level : ℕ) (entries : EntryChange) → ((with_entry_change s rd level entries).realm ≡ s.realm) × ((with_entry_change s rd level entries).rec ≡ s.rec)
+entry_change-rest : (s : State) (rd level : ℕ) (entries : EntryChange)
+    → ((with_entry_change s rd level entries).realm ≡ s.realm) × ((with_entry_change s rd level entries).rec ≡ s.rec)
 entry_change-rest s rd level (Replaced number entry) = (refl, refl)
 entry_change-rest s rd level (RipasSet first last ripas) = (refl, refl)
 
-with_records-roots : (s : State) (page : Option TagChange) (realm : Option RealmChange) (rec : Option RecChange) (roots : ℕ → ℕ) → IsSound s → CanChangeRealm s realm
+with_records-roots : (s : State) (page : Option TagChange) (realm : Option RealmChange) (rec : Option RecChange) (roots : ℕ → ℕ)
+    → IsSound s → CanChangeRealm s realm
     → IsRecorded root_in roots s.realm → IsRecorded root_in roots (with_records s page realm rec).realm
 with_records-roots s page realm rec roots sound can recorded =
     rw ((rec_change-rest (with_realm_change (with_tag_change s page) realm) rec).3)
     (realm_change-recorded s (with_tag_change s page) realm roots sound can (tag_change-rest s page).2 recorded)
 
-with_records-recs : (s : State) (page : Option TagChange) (realm : Option RealmChange) (rec : Option RecChange) (recs : ℕ → RecParts) → IsSound s → CanChangeRec s rec
+with_records-recs : (s : State) (page : Option TagChange) (realm : Option RealmChange)
+    (rec : Option RecChange) (recs : ℕ → RecParts) → IsSound s → CanChangeRec s rec
     → IsRecorded parts_in recs s.rec → IsRecorded parts_in recs (with_records s page realm rec).rec
 with_records-recs s page realm rec recs sound can recorded =
     rec_change-recorded s (with_realm_change (with_tag_change s page) realm) rec recs sound can

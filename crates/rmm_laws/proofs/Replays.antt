@@ -1,29 +1,23 @@
 -- A script that is replayed to a state is a run that leads there.
-use Rattle.std.proofs.Common.{◌≡◌, ℕ, zero, suc, ◌+◌, ◌-◌, ◌*◌, ◌/◌, ◌%◌, ◌^◌, ◌<◌, ◌≤◌, Bool, true, false, ◌&&◌, if◌then◌else◌, ◌==◌, inl, inr, IsTrue, List, [], ◌∷◌, Option, Some, None, is_some, option_map, Result, Ok, Err, nat_lt, nat_le, refl, sym, ◌∙◌, ap, ap₂, arith}
+use Rattle.rmm_laws.proofs.Common.{◌&&◌, ◌+◌, ◌<◌, ◌==◌, ◌∙◌, ◌∷◌, ◌≡◌, Accepted, Bool, Err, IsRun, IsTrue, JournalEntry, List, None, Ok, Option, Refusal, Reply, Result, Some, State, [], and_parts, ap, arith, both_ways, changed, eq-eqb, eqb-true, false, if◌then◌else◌, inl, inr, is_some, ok, opening, outcome, reached_change, refl, suc, sym, true, zero, ℕ}
+use Rattle.std.proofs.Common.{◌-◌, ◌*◌, ◌/◌, ◌%◌, ◌^◌, ◌≤◌, option_map, nat_lt, nat_le, ap₂}
 use Rattle.std.proofs.Math.Nat.{div-add-mod, mul-mod_left, mul-div_cancel}
 use Rattle.std.proofs.lemmas.Nat.{pow_pos}
-use Rattle.std.proofs.lemmas.Bool.{and_parts, and_from, eqb-true, eq-eqb}
+use Rattle.std.proofs.lemmas.Bool.{and_from}
 use Rattle.std.proofs.lemmas.Bool.Decides.{nat_tests}
 use Rattle.std.specs.List.{AllByRecursion}
 use Rattle.std.specs.Option.{option_and_then}
-use Rattle.rmm_spec.specs.declared.accepted.Accepted.{Accepted}
 use Rattle.rmm_spec.specs.declared.accepted.Accepted.TheVariants.{Done, Reaches}
 use Rattle.rmm_spec.specs.declared.accepted.Stretch.{Stretch}
-use Rattle.rmm_spec.specs.declared.refusal.Refusal.{Refusal}
-use Rattle.rmm_spec.specs.declared.reply.Reply.{Reply}
 use Rattle.rmm_spec.specs.declared.reply.Reply.TheVariants as reply
 use Rattle.rmm_spec.specs.Call.{call_of}
-use Rattle.rmm_spec.specs.Change.{changed}
 use Rattle.rmm_spec.specs.HistoryText.{Config}
-use Rattle.rmm_spec.specs.Rows.{ok, reply_of}
-use Rattle.rmm_spec.specs.Run.{JournalEntry, IsRun}
+use Rattle.rmm_spec.specs.Rows.{reply_of}
 use Rattle.rmm_spec.specs.Script.{are_same_words, is_same_reply, end_among, end_given, next_by, replay}
-use Rattle.rmm_spec.specs.State.{State, opening}
 use Rattle.rmm_spec.specs.Lookup.{all_below}
-use Rattle.rmm_spec.specs.Step.{outcome, CarriesOut}
-use Rattle.rmm_spec.specs.Step.Ripas.{can_be_set, IsReached, is_reached, reached_change}
+use Rattle.rmm_spec.specs.Step.{CarriesOut}
+use Rattle.rmm_spec.specs.Step.Ripas.{can_be_set, IsReached, is_reached}
 use Rattle.rmm_spec.specs.Walk.{entry_size, table_size, entry_number, table_number, entry_at, is_multiple}
-use Rattle.lemmas.proofs.Tests.{both_ways}
 use Rattle.rmm_laws.specs.Worked.{AreRuns}
 use Rattle.rmm_laws.proofs.Tests.{last_or_below}
 
@@ -91,13 +85,15 @@ is_reached-reached s stretch top reached =
       each = all_below-each n _ to_fifth.1;
     }
 
-end_among-one : (words : List ℕ) (is_allowed : ℕ → Bool) (top : ℕ) → end_among words is_allowed ≡ Some top → (words ≡ top ∷ []) × (is_allowed top ≡ true)
+end_among-one : (words : List ℕ) (is_allowed : ℕ → Bool) (top : ℕ)
+    → end_among words is_allowed ≡ Some top → (words ≡ top ∷ []) × (is_allowed top ≡ true)
 end_among-one [] is_allowed top is = absurd (let bad : None ≡ Some top = is in cc)
 end_among-one (word ∷ []) is_allowed top is =
     let found = if_some (is_allowed word) word top is in (ap (λ w. w ∷ []) found.1, rw (← found.1) found.0)
 end_among-one (word ∷ (other ∷ others)) is_allowed top is = absurd (let bad : None ≡ Some top = is in cc)
 
-end_given-ok : (given : Reply) (is_allowed : ℕ → Bool) (top : ℕ) → end_given given is_allowed ≡ Some top → (given ≡ ok (top ∷ [])) × (is_allowed top ≡ true)
+end_given-ok : (given : Reply) (is_allowed : ℕ → Bool) (top : ℕ)
+    → end_given given is_allowed ≡ Some top → (given ≡ ok (top ∷ [])) × (is_allowed top ≡ true)
 end_given-ok (reply.Ok words) is_allowed top is =
     let found = end_among-one words.items is_allowed top is in (ap (λ items. ok items) found.0, found.1)
 end_given-ok (reply.Err status index) is_allowed top is = absurd (let bad : None ≡ Some top = is in cc)
@@ -109,17 +105,20 @@ mapped_some : (f : ℕ → State) (found : Option ℕ) (next : State) → option
 mapped_some f None next is = absurd (let bad : None ≡ Some next = is in cc)
 mapped_some f (Some x) next is = (x, refl, let same : Some (f x) ≡ Some next = is in cc)
 
-next_by-carries : (found : Result Accepted Refusal) (s : State) (given : Reply) (next : State) → next_by found s given ≡ Some next → CarriesOut found s given next
+next_by-carries : (found : Result Accepted Refusal) (s : State) (given : Reply) (next : State)
+    → next_by found s given ≡ Some next → CarriesOut found s given next
 next_by-carries (Err refusal) s given next is =
     let found = if_some (is_same_reply given (reply_of refusal)) s next is in (is_same_reply-same given (reply_of refusal) found.0, sym found.1)
 next_by-carries (Ok (Done words change)) s given next is =
-    let found = if_some (is_same_reply given (reply.Ok words)) (changed s change) next is in (is_same_reply-same given (reply.Ok words) found.0, sym found.1)
+    let found = if_some (is_same_reply given (reply.Ok words)) (changed s change) next is in
+    (is_same_reply-same given (reply.Ok words) found.0, sym found.1)
 next_by-carries (Ok (Reaches stretch)) s given next is =
     let found = mapped_some (λ top. changed s (reached_change stretch top)) (end_given given (is_reached s stretch)) next is in
     let end = end_given-ok given (is_reached s stretch) found.0 found.1 in
     (found.0, (is_reached-reached s stretch found.0 end.1, end.0, found.2))
 
-then_some : (f : State → Option State) (found : Option State) (last : State) → option_and_then f found ≡ Some last → (next : State) × (found ≡ Some next) × (f next ≡ Some last)
+then_some : (f : State → Option State) (found : Option State) (last : State)
+    → option_and_then f found ≡ Some last → (next : State) × (found ≡ Some next) × (f next ≡ Some last)
 then_some f None last is = absurd (let bad : None ≡ Some last = is in cc)
 then_some f (Some next) last is = (next, refl, is)
 
@@ -129,10 +128,14 @@ unfolding replay
 replay-run [] old last is = let same : Some old ≡ Some last = is in cc
 replay-run (entry ∷ entries) old last is =
     let found = next_by (outcome old entry.cpu (call_of entry.command)) old entry.given in
-    let parts = then_some (λ next. replay next entries) found last is in
-    (parts.0, next_by-carries (outcome old entry.cpu (call_of entry.command)) old entry.given parts.0 parts.1, replay-run entries parts.0 last parts.2)
+    let parts = then_some (λ next. replay next entries) found last is in (
+      parts.0,
+      next_by-carries (outcome old entry.cpu (call_of entry.command)) old entry.given parts.0 parts.1,
+      replay-run entries parts.0 last parts.2,
+    )
 
-some_run : (old : State) (entries : List JournalEntry) (found : Option State) → replay old entries ≡ found → is_some found ≡ true → (last : State) × IsRun old entries last
+some_run : (old : State) (entries : List JournalEntry) (found : Option State)
+    → replay old entries ≡ found → is_some found ≡ true → (last : State) × IsRun old entries last
 some_run old entries None is there = both_ways there refl
 some_run old entries (Some last) is there = (last, replay-run entries old last is)
 
@@ -189,12 +192,15 @@ reached-is_reached s stretch top r =
     let passes = λ (k : ℕ). can_be_set stretch.purpose (entry_at s stretch.rd stretch.level (entry_number stretch.level stretch.base + k)) in
     let number : d / size ≡ r.count = ap (λ x. x / size) whole ∙ mul-div_cancel r.count unit in
     let fifth : all_below (d / size) passes ≡ true = rw number (all_below-from r.count passes r.each) in
-    and_from _ (all_below (d / size) passes) (and_from _ (nat_le top ((table_number stretch.level stretch.base + 1) * table_size stretch.level)) (and_from _ (nat_le top stretch.top) (and_from (nat_lt stretch.base top) (is_multiple d size) first second) third) fourth) fifth
+    and_from _ (all_below (d / size) passes) (and_from _ (nat_le top ((table_number stretch.level stretch.base + 1) * table_size stretch.level))
+    (and_from _ (nat_le top stretch.top) (and_from (nat_lt stretch.base top) (is_multiple d size) first second) third) fourth) fifth
 
-carries-next_by : (found : Result Accepted Refusal) (s : State) (given : Reply) (next : State) → CarriesOut found s given next → next_by found s given ≡ Some next
+carries-next_by : (found : Result Accepted Refusal) (s : State) (given : Reply) (next : State)
+    → CarriesOut found s given next → next_by found s given ≡ Some next
 carries-next_by (Err refusal) s given next p = rw (p.0, p.1) (rw (is_same_reply-itself (reply_of refusal)) refl)
 carries-next_by (Ok (Done words change)) s given next p = rw (p.0, p.1) (rw (are_same_words-itself words.items) refl)
-carries-next_by (Ok (Reaches stretch)) s given next (top, (reached, is_ok, is_next)) = rw (is_ok, is_next) (rw (reached-is_reached s stretch top reached) refl)
+carries-next_by (Ok (Reaches stretch)) s given next (top, (reached, is_ok, is_next)) =
+    rw (is_ok, is_next) (rw (reached-is_reached s stretch top reached) refl)
 
 -- a run is replayed to its end
 pub run-replay : (entries : List JournalEntry) (old last : State) → IsRun old entries last → replay old entries ≡ Some last
@@ -205,5 +211,6 @@ run-replay (entry ∷ entries) old last (next, step, run) =
     ∙ run-replay entries next last run
 
 -- what isn't replayed is no run
-pub no_replay-no_run : (old : State) (entries : List JournalEntry) → is_some (replay old entries) ≡ false → (last : State) → IsRun old entries last → ⊥
+pub no_replay-no_run : (old : State) (entries : List JournalEntry)
+    → is_some (replay old entries) ≡ false → (last : State) → IsRun old entries last → ⊥
 no_replay-no_run old entries none last run = both_ways (rw (run-replay entries old last run) refl) none

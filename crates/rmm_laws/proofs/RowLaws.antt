@@ -1,16 +1,12 @@
 -- Rows: what a command accepts is what stands behind its rows, and then each of them holds; what it refuses is no acceptance.
-use Rattle.std.proofs.Common.{◌≡◌, ℕ, Bool, true, false, List, [], ◌∷◌, IsTrue, Ok, Err, Result, if◌then◌else◌, refl, sym, ◌∙◌, subst}
+use Rattle.rmm_laws.proofs.Common.{◌∙◌, ◌∷◌, ◌≡◌, Accepted, Bool, Err, IsTrue, List, Ok, Refusal, Result, State, [], false, has_tag, if◌then◌else◌, is_accepted, outcome, refl, subst, sym, true, ℕ}
 use Rattle.std.specs.List.{AllByRecursion}
-use Rattle.rmm_spec.specs.declared.accepted.Accepted.{Accepted}
 use Rattle.rmm_spec.specs.declared.call.Call.{Call}
-use Rattle.rmm_spec.specs.declared.refusal.Refusal.{Refusal}
 use Rattle.rmm_spec.specs.declared.refusal.Refusal.TheVariants as of
 use Rattle.rmm_spec.specs.Call.{class_of}
-use Rattle.rmm_spec.specs.Ownership.{is_accepted}
 use Rattle.rmm_spec.specs.Rows.{Row, Needed, Word, inputs, reply_of, tagged}
-use Rattle.rmm_spec.specs.State.{State}
-use Rattle.rmm_spec.specs.Lookup.{has_tag, is_inside}
-use Rattle.rmm_spec.specs.Step.{is_placed, misplacement, answer_of, outcome}
+use Rattle.rmm_spec.specs.Lookup.{is_inside}
+use Rattle.rmm_spec.specs.Step.{is_placed, misplacement, answer_of}
 use Rattle.rmm_spec.specs.Step.Front.{with_front}
 use Rattle.rmm_spec.specs.Step.Terms.{named, words_of}
 use Rattle.rmm_sound.proofs.ByRows.{AllHold, decided-accepted}
@@ -23,7 +19,8 @@ refusal-refuses _ = refl
 
 -- ---- the rows that every command begins with
 
-inputs-rest : (tests : List Word) (rows : List Row) → AllHold (inputs tests rows) → AllByRecursion (λ (w : Word). IsTrue w.allowed) tests × AllHold rows
+inputs-rest : (tests : List Word) (rows : List Row)
+    → AllHold (inputs tests rows) → AllByRecursion (λ (w : Word). IsTrue w.allowed) tests × AllHold rows
 inputs-rest [] rows hold = (tt, hold)
 inputs-rest (test ∷ tests) rows (here, later) = let rest = inputs-rest tests rows later in ((here, rest.0), rest.1)
 
@@ -34,7 +31,8 @@ tagged-rest s (need ∷ needs) rows (here, later) = let rest = tagged-rest s nee
 
 -- where they hold the words are allowed, each granule has its tag, and the rows behind them hold
 pub front-rest : (s : State) (c : Call) (rows : List Row) → AllHold (with_front s c rows)
-    → AllByRecursion (λ (w : Word). IsTrue w.allowed) (words_of c) × AllByRecursion (λ (n : Needed). IsTrue (has_tag s n.granule n.tag)) (named c) × AllHold rows
+    → AllByRecursion (λ (w : Word). IsTrue w.allowed) (words_of c)
+    × AllByRecursion (λ (n : Needed). IsTrue (has_tag s n.granule n.tag)) (named c) × AllHold rows
 front-rest s c rows hold =
     let words = inputs-rest (words_of c) (tagged s (named c) rows) hold in
     let tags = tagged-rest s (named c) rows words.1 in

@@ -1,8 +1,6 @@
 -- Runs in parts, and that commands and replies decide a run's states.
-use Rattle.std.proofs.Common.{ℕ, zero, suc, List, [], ◌∷◌, ◌++◌, take, refl}
-use Rattle.rmm_spec.specs.State.{State}
-use Rattle.rmm_spec.specs.Step.{Step}
-use Rattle.rmm_spec.specs.Run.{JournalEntry, IsRun}
+use Rattle.rmm_laws.proofs.Common.{◌++◌, ◌∷◌, IsRun, JournalEntry, List, State, Step, [], refl, suc, zero, ℕ}
+use Rattle.std.proofs.Common.{take}
 
 -- two runs, one after the other, are one
 pub run-append : (entries later : List JournalEntry) (old middle last : State)

@@ -1,23 +1,16 @@
 -- Steps, by what a command leads to: a refusal, one change, or a change for each end that a reply may give.
-use Rattle.std.proofs.Common.{◌≡◌, ℕ, false, List, [], ◌∷◌, Result, Ok, Err, slice_index, refl, sym, ◌∙◌, ap}
-use Rattle.rmm_spec.specs.declared.accepted.Accepted.{Accepted}
+use Rattle.rmm_laws.proofs.Common.{◌∙◌, ◌∷◌, ◌≡◌, Accepted, Err, List, Ok, Refusal, Reply, Result, State, Step, [], ap, both_ways, changed, false, is_accepted, ok, outcome, reached_change, refl, sym, ℕ}
+use Rattle.std.proofs.Common.{slice_index}
 use Rattle.rmm_spec.specs.declared.accepted.Accepted.TheVariants.{Done, Reaches}
 use Rattle.rmm_spec.specs.declared.command.Command.{Command}
 use Rattle.rmm_spec.specs.declared.function_id.FunctionId.{FunctionId}
-use Rattle.rmm_spec.specs.declared.refusal.Refusal.{Refusal}
-use Rattle.rmm_spec.specs.declared.reply.Reply.{Reply}
 use Rattle.rmm_spec.specs.declared.reply.Reply.TheVariants as reply
 use Rattle.rmm_spec.specs.Call.{call_of}
-use Rattle.rmm_spec.specs.Change.{changed}
 use Rattle.rmm_spec.specs.Footprint.{changed_parts, KeepsOthers}
-use Rattle.rmm_spec.specs.Ownership.{is_accepted}
-use Rattle.rmm_spec.specs.Rows.{ok, reply_of}
-use Rattle.rmm_spec.specs.State.{State}
-use Rattle.rmm_spec.specs.Step.{outcome, CarriesOut, Step}
-use Rattle.rmm_spec.specs.Step.Ripas.{reached_change}
+use Rattle.rmm_spec.specs.Rows.{reply_of}
+use Rattle.rmm_spec.specs.Step.{CarriesOut}
 use Rattle.rmm_laws.proofs.CommandFacts.{OutcomeTells, outcome-tells}
 use Rattle.rmm_laws.proofs.Footprints.{same-keeps, changed-keeps}
-use Rattle.lemmas.proofs.Tests.{both_ways}
 
 -- the first word of a reply
 first_word : Reply → ℕ
@@ -62,10 +55,12 @@ carried-keeps function w (Ok (Reaches stretch)) old given new tells (top, (_, _,
 
 -- ---- steps
 
-pub step-decides : (old a b : State) (cpu : ℕ) (command : Command) (given : Reply) → Step old cpu command given a → Step old cpu command given b → a ≡ b
+pub step-decides : (old a b : State) (cpu : ℕ) (command : Command) (given : Reply)
+    → Step old cpu command given a → Step old cpu command given b → a ≡ b
 step-decides old a b cpu command given = carried-decides (outcome old cpu (call_of command)) old given a b
 
-pub step-refuses : (old next : State) (cpu : ℕ) (command : Command) (given : Reply) → Step old cpu command given next → is_accepted given ≡ false → next ≡ old
+pub step-refuses : (old next : State) (cpu : ℕ) (command : Command) (given : Reply)
+    → Step old cpu command given next → is_accepted given ≡ false → next ≡ old
 step-refuses old next cpu command given = refused-unchanged (outcome old cpu (call_of command)) old given next
 
 pub step-exists : (old : State) (cpu : ℕ) (command : Command) → (given : Reply) × (next : State) × Step old cpu command given next
@@ -73,7 +68,8 @@ step-exists old cpu command =
     let found = outcome old cpu (call_of command) in
     carried-exists command.function command.words.items found old (outcome-tells command old cpu found refl)
 
-pub step-keeps : (old next : State) (cpu : ℕ) (command : Command) (given : Reply) → Step old cpu command given next → KeepsOthers (changed_parts command.function) old next
+pub step-keeps : (old next : State) (cpu : ℕ) (command : Command) (given : Reply)
+    → Step old cpu command given next → KeepsOthers (changed_parts command.function) old next
 step-keeps old next cpu command given step =
     let found = outcome old cpu (call_of command) in
     carried-keeps command.function command.words.items found old given next (outcome-tells command old cpu found refl) step

@@ -1,8 +1,6 @@
 -- Values chosen by a test, and searches.
-use Rattle.std.proofs.Common.{◌≡◌, ℕ, suc, ◌<◌, Bool, true, false, ◌&&◌, ◌==◌, ◌⊎◌, if◌then◌else◌, Option, Some, None, is_some, refl, sym, ◌∙◌, inl, inr, arith}
-use Rattle.std.proofs.lemmas.Bool.{and_parts, eqb-true}
+use Rattle.rmm_laws.proofs.Common.{◌&&◌, ◌<◌, ◌==◌, ◌∙◌, ◌≡◌, ◌⊎◌, Bool, None, Option, Some, and_parts, arith, both_ways, eqb-true, false, if◌then◌else◌, inl, inr, is_some, refl, suc, sym, true, ℕ}
 use Rattle.rmm_spec.specs.Update.{is_same_entry}
-use Rattle.lemmas.proofs.Tests.{both_ways}
 
 -- what is chosen is the one or the other
 pub chosen : {A : Type 0} (b : Bool) (x y z : A) → (if b then x else y) ≡ z → ((b ≡ true) × (x ≡ z)) ⊎ ((b ≡ false) × (y ≡ z))
@@ -35,7 +33,8 @@ spot_parts rd level number other l n hit =
     (eqb-true other rd inner.0, eqb-true l level inner.1, eqb-true n number outer.1)
 
 -- what a map has at one spot and at the other
-pub moved : {A : Type 0} (f : ℕ → ℕ → ℕ → A) (rd level number other l n : ℕ) → (other ≡ rd) × (l ≡ level) × (n ≡ number) → f rd level number ≡ f other l n
+pub moved : {A : Type 0} (f : ℕ → ℕ → ℕ → A) (rd level number other l n : ℕ)
+    → (other ≡ rd) × (l ≡ level) × (n ≡ number) → f rd level number ≡ f other l n
 moved f rd level number other l n same = sym (λ i. f (same.0 i) (same.1 i) (same.2 i))
 
 -- a number up to the next one is this one, or is below

@@ -1,13 +1,10 @@
 -- What a sound state ties to a realm: a tie tells the granule's tag, and its one realm.
-use Rattle.std.proofs.Common.{◌≡◌, ℕ, ◌==◌, ◌||◌, Bool, true, false, ◌⊎◌, Some, IsTrue, refl, sym, ◌∙◌, ap, subst, inl, inr}
-use Rattle.std.proofs.lemmas.Bool.{eq-eqb}
-use Rattle.rmm_spec.specs.declared.tag.Tag.{Tag}
-use Rattle.rmm_spec.specs.declared.tag.Tag.TheVariants.{Undelegated, Delegated, Rd, Rec, RecAux, Data, Rtt}
-use Rattle.rmm_spec.specs.State.{State, RecRecord}
-use Rattle.rmm_spec.specs.Lookup.{has_tag}
-use Rattle.rmm_spec.specs.Sound.{has_aux, IsSound}
+use Rattle.rmm_laws.proofs.Common.{◌==◌, ◌∙◌, ◌≡◌, ◌⊎◌, Bool, Delegated, IsSound, IsTrue, Rd, Rtt, Some, State, Tag, ap, eq-eqb, false, has_tag, inl, inr, refl, subst, sym, tag-has_tag, true, ℕ}
+use Rattle.std.proofs.Common.{◌||◌}
+use Rattle.rmm_spec.specs.declared.tag.Tag.TheVariants.{Undelegated, Rec, RecAux, Data}
+use Rattle.rmm_spec.specs.State.{RecRecord}
+use Rattle.rmm_spec.specs.Sound.{has_aux}
 use Rattle.rmm_spec.specs.Ownership.{IsTied}
-use Rattle.spec_lemmas.proofs.TagLaws.{tag-has_tag}
 use Rattle.rmm_laws.proofs.Tests.{there, same_value}
 
 -- a tag that no realm's granule has
@@ -46,11 +43,13 @@ aux_is r granule (inl aux) = rw (eq-eqb r.aux0 granule aux) refl
 aux_is r granule (inr aux) = or_second (r.aux0 == granule) (r.aux1 == granule) (eq-eqb r.aux1 granule aux)
 
 -- a granule is an auxiliary granule of the REC
-pub aux-has_aux : (s : State) (rec granule : ℕ) (r : RecRecord) → s.rec rec ≡ Some r → (r.aux0 ≡ granule) ⊎ (r.aux1 ≡ granule) → IsTrue (has_aux granule (s.rec rec))
+pub aux-has_aux : (s : State) (rec granule : ℕ) (r : RecRecord)
+    → s.rec rec ≡ Some r → (r.aux0 ≡ granule) ⊎ (r.aux1 ≡ granule) → IsTrue (has_aux granule (s.rec rec))
 aux-has_aux s rec granule r is aux = rw is (aux_is r granule aux)
 
 -- a granule is tied to one realm in a role
-pub tied-once : (s : State) (role : Tag) (granule realm other : ℕ) → IsSound s → IsTied role s granule realm → IsTied role s granule other → realm ≡ other
+pub tied-once : (s : State) (role : Tag) (granule realm other : ℕ)
+    → IsSound s → IsTied role s granule realm → IsTied role s granule other → realm ≡ other
 tied-once s Rd granule realm other sound (here, _) (there, _) = sym here ∙ there
 tied-once s Rec granule realm other sound (r, is, owner) (q, is_too, owner_too) =
     sym owner ∙ ap (λ (x : RecRecord). x.owner) (same_value is is_too) ∙ owner_too

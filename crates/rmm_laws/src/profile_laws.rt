@@ -82,7 +82,8 @@ pub fn a_page_is_given_once()
 /// Behind two worked scripts, a reply that says that more of a stretch was set than the definitions allow makes no run.
 pub fn longer_stretches_are_no_runs()
     ensures past_the_table { (last : State) → IsRun (opening script_config)
-        (take 15 tables.ripas_change_past_table ++ script.answered RttSetRipas (0x1000 ∷ 0x5000 ∷ 0x1ff000 ∷ 0x201000 ∷ []) (ok (0x201000 ∷ [])) ∷ []) last → ⊥ }
+        (take 15 tables.ripas_change_past_table
+        ++ script.answered RttSetRipas (0x1000 ∷ 0x5000 ∷ 0x1ff000 ∷ 0x201000 ∷ []) (ok (0x201000 ∷ [])) ∷ []) last → ⊥ }
     ensures over_a_page { (last : State) → IsRun (opening script_config)
         (take 11 tables.ripas_before_a_realm_runs ++ script.answered RttInitRipas (0x1000 ∷ 0 ∷ 0x3000 ∷ []) (ok (0x2000 ∷ [])) ∷ []) last → ⊥ }
 {}

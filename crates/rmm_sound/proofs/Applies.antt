@@ -1,12 +1,11 @@
 -- What an accepted command does is a change that the state can take; and what is known of the REC that a command is about.
-use Rattle.std.proofs.Common.{◌≡◌, ℕ, IsTrue, Option, Some, None, Ok, is_some, is_none, refl, sym, ◌∙◌, ap, subst, unwrap_or}
+use Rattle.rmm_sound.proofs.Common.{◌∙◌, ◌≡◌, IsRequest, IsSound, IsTrue, None, Option, Rd, Rec, RecRecord, Request, Some, State, ap, both_ways, has_tag, is_some, realm_at, rec_at, refl, runs_on, subst, sym, ℕ}
+use Rattle.std.proofs.Common.{Ok, is_none, unwrap_or}
 use Rattle.rmm_spec.specs.declared.accepted.Accepted.{Accepted}
 use Rattle.rmm_spec.specs.declared.accepted.Accepted.TheVariants.{Done, Reaches}
 use Rattle.rmm_spec.specs.declared.call.Call.{Call}
-use Rattle.rmm_spec.specs.declared.tag.Tag.TheVariants.{Rd, Rec}
-use Rattle.rmm_spec.specs.State.{State, RecRecord, Request, Pending}
-use Rattle.rmm_spec.specs.Lookup.{no_request, has_tag, is_cpu, runs_on, is_inside, rec_inside, realm_at, rec_at, request_of}
-use Rattle.rmm_spec.specs.Sound.{IsRequest, IsSound}
+use Rattle.rmm_spec.specs.State.{Pending}
+use Rattle.rmm_spec.specs.Lookup.{no_request, is_cpu, is_inside, rec_inside, request_of}
 use Rattle.rmm_spec.specs.Step.Ripas.{IsReached, reached_change}
 use Rattle.rmm_spec.specs.Applicable.{CanApply}
 use Rattle.rmm_spec.specs.Step.{answer_of}
@@ -14,7 +13,6 @@ use Rattle.rmm_spec.specs.Step.Front.{with_front}
 use Rattle.spec_lemmas.proofs.Behind.{behind}
 use Rattle.rmm_sound.proofs.ByRows.{AllHold, decided-accepted}
 use Rattle.rmm_sound.proofs.Searches.{inside_runs, realm_there, rec_there, rec_at-is}
-use Rattle.lemmas.proofs.Tests.{both_ways}
 
 -- what is done can be applied, and so can each end that a stretch may reach
 abbrev pub Applies : State → Accepted → Type 0
@@ -78,7 +76,8 @@ awaits_by s rec c None sound at is idle = refl
 awaits_by s rec c (Some p) sound at is idle = not_both c.cpu idle (sound.recs.running rec c p at is)
 
 -- a REC that does not run waits for nothing
-pub idle_awaits_nothing : (s : State) (rec : ℕ) → IsSound s → IsTrue (has_tag s rec Rec) → IsTrue (is_none (rec_at s rec).cpu) → IsTrue (is_none (rec_at s rec).pending)
+pub idle_awaits_nothing : (s : State) (rec : ℕ)
+    → IsSound s → IsTrue (has_tag s rec Rec) → IsTrue (is_none (rec_at s rec).cpu) → IsTrue (is_none (rec_at s rec).pending)
 idle_awaits_nothing s rec sound tag idle = awaits_by s rec (rec_at s rec) _ sound (rec_there s rec sound tag) refl idle
 
 -- a request that there is
@@ -92,4 +91,5 @@ pub request_there : (s : State) (rec : ℕ) → IsSound s → IsTrue (has_tag s 
 request_there s rec sound tag there =
     let c : RecRecord = rec_at s rec in
     let at : s.rec rec ≡ Some c = rec_there s rec sound tag in
-    sound.recs.requests rec c (realm_at s c.owner) (request_of c) at (realm_there s c.owner sound (sound.recs.owned rec c at)) (request_read c.request there)
+    sound.recs.requests rec c (realm_at s c.owner)
+    (request_of c) at (realm_there s c.owner sound (sound.recs.owned rec c at)) (request_read c.request there)

@@ -1,15 +1,14 @@
 -- What is looked up in a changed map: at the address that was changed, or elsewhere.
-use Rattle.std.proofs.Common.{◌≡◌, ℕ, ◌==◌, ◌&&◌, Bool, true, false, if◌then◌else◌, IsTrue, Option, Some, None, is_some, refl, sym, ◌∙◌}
-use Rattle.std.proofs.lemmas.Bool.{and_parts, eqb-true, eq-eqb, false_from_ne_true}
+use Rattle.rmm_sound.proofs.Common.{◌&&◌, ◌==◌, ◌∙◌, ◌≡◌, Bool, IsTrue, None, Option, Some, and_parts, both_ways, eq-eqb, eqb-true, false, false_from_ne_true, if◌then◌else◌, is_some, refl, sym, true, ℕ}
 use Rattle.rmm_spec.specs.Update.{is_same_entry}
-use Rattle.lemmas.proofs.Tests.{both_ways}
 
 -- what is not there has no value
 pub nothing_there : {A X : Type 0} {x : X} {found : Option X} → found ≡ None → found ≡ Some x → A
 nothing_there {A} {X} {x} {found} none some = absurd (let bad : None ≡ Some x = sym none ∙ some in cc)
 
 -- what both sides have, their choice has
-pub choice : {A : Type 0} (Has : A → Type 0) (b test : Bool) (x y : A) → test ≡ b → (IsTrue test → Has x) → (test ≡ false → Has y) → Has (if test then x else y)
+pub choice : {A : Type 0} (Has : A → Type 0) (b test : Bool) (x y : A)
+    → test ≡ b → (IsTrue test → Has x) → (test ≡ false → Has y) → Has (if test then x else y)
 choice Has true test x y is here elsewhere = rw is (here is)
 choice Has false test x y is here elsewhere = rw is (elsewhere is)
 
@@ -18,7 +17,8 @@ pub by_address : {A : Type 0} (Has : A → Type 0) (g a : ℕ) (x y : A) → (g 
 by_address Has g a x y here elsewhere = choice Has _ (g == a) x y refl (λ same. here (eqb-true g a same)) elsewhere
 
 -- a place that is hit is the one that is meant
-pub spot_hit : {A : Type 0} (rd level number other l n : ℕ) → IsTrue (is_same_entry rd level number other l n) → (other ≡ rd → l ≡ level → n ≡ number → A) → A
+pub spot_hit : {A : Type 0} (rd level number other l n : ℕ)
+    → IsTrue (is_same_entry rd level number other l n) → (other ≡ rd → l ≡ level → n ≡ number → A) → A
 spot_hit rd level number other l n hit here =
     let outer = and_parts (other == rd && l == level) (n == number) hit in
     let inner = and_parts (other == rd) (l == level) outer.0 in

@@ -1,9 +1,8 @@
 -- Every change that a state can take keeps it sound: by kind of change.
+use Rattle.rmm_sound.proofs.Common.{IsSound, State}
 use Rattle.rmm_spec.specs.declared.change.Change.{Change}
 use Rattle.rmm_spec.specs.declared.change.Change.TheVariants.{Unchanged, Retagged, RealmMade, RealmDestroyed, RecMade, RecDestroyed, RecordsChanged, TableMade, TableDestroyed, EntriesChanged}
-use Rattle.rmm_spec.specs.State.{State}
 use Rattle.rmm_spec.specs.Change.{changed}
-use Rattle.rmm_spec.specs.Sound.{IsSound}
 use Rattle.rmm_spec.specs.Applicable.{CanApply}
 use Rattle.rmm_sound.proofs.ChangesMade.{retag_sound, make_realm_sound, destroy_realm_sound, make_rec_sound, destroy_rec_sound}
 use Rattle.rmm_sound.proofs.EntriesChanged.{make_table_sound, destroy_table_sound, entries_and_records_sound}

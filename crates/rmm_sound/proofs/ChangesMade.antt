@@ -1,18 +1,14 @@
 -- Granules retagged, and realms and RECs made and destroyed, keep states sound.
-use Rattle.std.proofs.Common.{◌≡◌, ℕ, ◌==◌, false, IsTrue, Option, Some, None, refl, sym, ◌∙◌, ap, subst, inl, inr}
-use Rattle.std.proofs.lemmas.Bool.{eq-eqb, ne_eqb, or_cases, or_from, or_left, or_right, eqb-true, false_from_ne_true}
+use Rattle.rmm_sound.proofs.Common.{◌==◌, ◌∙◌, ◌≡◌, Data, IsSound, IsTrue, None, Option, Rd, RealmRecord, Rec, RecAux, RecRecord, Rtt, Some, State, Tag, Undelegated, ap, both_ways, eq-eqb, eqb-true, false, false_from_ne_true, granule_from_tag, has_tag, inl, inr, realm_at, rec_at, refl, subst, sym, tag-has_tag, with_tag, ℕ}
+use Rattle.std.proofs.lemmas.Bool.{ne_eqb, or_cases, or_from, or_left, or_right}
 use Rattle.rmm_spec.specs.declared.change.Change.TheVariants.{RecMade, RecDestroyed}
 use Rattle.rmm_spec.specs.declared.change.RealmUpdate.TheVariants as realm_update
 use Rattle.rmm_spec.specs.declared.change.TagChange.{TagChange}
-use Rattle.rmm_spec.specs.declared.tag.Tag.{Tag}
-use Rattle.rmm_spec.specs.declared.tag.Tag.TheVariants.{Undelegated, Delegated, Rd, Rec, RecAux, Data, Rtt}
-use Rattle.rmm_spec.specs.State.{State, RealmRecord, RecRecord}
-use Rattle.rmm_spec.specs.Update.{with_tag, with_realm, without_realm, with_root, with_rec, without_rec}
-use Rattle.rmm_spec.specs.Lookup.{has_tag, realm_at, rec_at}
+use Rattle.rmm_spec.specs.declared.tag.Tag.TheVariants.{Delegated}
+use Rattle.rmm_spec.specs.Update.{with_realm, without_realm, with_root, with_rec, without_rec}
 use Rattle.rmm_spec.specs.Change.{changed, new_realm, new_rec, realm_updated}
-use Rattle.rmm_spec.specs.Sound.{IsSound, has_aux}
+use Rattle.rmm_spec.specs.Sound.{has_aux}
 use Rattle.rmm_spec.specs.Applicable.{CanRetag, CanMakeRealm, CanDestroyRealm, CanMakeRec, CanDestroyRec}
-use Rattle.spec_lemmas.proofs.TagLaws.{tag-has_tag, granule_from_tag}
 use Rattle.rmm_sound.proofs.Cases.{by_address, left_of}
 use Rattle.rmm_sound.proofs.Retagged.{IsUnnamed, IsPlain, unnamed_by_tag, retagged_sound, free_retagged_sound}
 use Rattle.rmm_sound.proofs.RealmMade.{put_realm_sound, taken_realm_sound}
@@ -20,7 +16,6 @@ use Rattle.rmm_sound.proofs.RecMade.{put_rec_sound, taken_rec_sound, tags_swappe
 use Rattle.rmm_sound.proofs.Records.{realm_updated_sound}
 use Rattle.rmm_sound.proofs.Searches.{none_owned, none_has_vmid, realm_there, rec_there}
 use Rattle.rmm_sound.proofs.Tags.{has_tag-here, has_tag-elsewhere, has_tag-beside, tags_apart}
-use Rattle.lemmas.proofs.Tests.{both_ways}
 
 -- ---- granules
 
@@ -79,7 +74,8 @@ destroy_realm_sound s rd root sound can =
     let tag_kept : has_tag t root Rtt ≡ has_tag s root Rtt =
     has_tag-beside s rd root Delegated Rtt (rw (tag-has_tag s rd Rd can.rd_tag) refl) refl in
     let still : IsTrue (has_tag t root Rtt) = tag_kept ∙ root_tag in
-    retagged_sound t root Delegated gone (granule_from_tag t root Rtt still) (rw (tag-has_tag t root Rtt still) (record { no_rd = refl; no_rec = refl }))
+    retagged_sound t root Delegated gone (granule_from_tag t root Rtt still)
+    (rw (tag-has_tag t root Rtt still) (record { no_rd = refl; no_rec = refl }))
     (record { no_rd = refl; no_rec = refl })
     record {
       aux0 = λ g c at. tags_apart t c.aux0 root RecAux Rtt (gone.recs.aux0 g c at) still refl;
@@ -115,8 +111,10 @@ make_rec_sound s rd rec mpidr flags aux0 aux1 sound can =
     let both : State = with_tag first aux1 RecAux in
     let aux1_first : IsTrue (has_tag first aux1 Delegated) = first_has aux1 apart_back can.aux1_tag in
     let both_sound : IsSound both = lent_retagged first aux1 RecAux first_sound aux1_first plain in
-    let rd_first : has_tag first rd Rd ≡ has_tag s rd Rd = has_tag-beside s aux0 rd RecAux Rd (rw (tag-has_tag s aux0 Delegated can.aux0_tag) refl) refl in
-    let rd_both : has_tag both rd Rd ≡ has_tag first rd Rd = has_tag-beside first aux1 rd RecAux Rd (rw (tag-has_tag first aux1 Delegated aux1_first) refl) refl in
+    let rd_first : has_tag first rd Rd ≡ has_tag s rd Rd =
+    has_tag-beside s aux0 rd RecAux Rd (rw (tag-has_tag s aux0 Delegated can.aux0_tag) refl) refl in
+    let rd_both : has_tag both rd Rd ≡ has_tag first rd Rd =
+    has_tag-beside first aux1 rd RecAux Rd (rw (tag-has_tag first aux1 Delegated aux1_first) refl) refl in
     let rd_tag : IsTrue (has_tag both rd Rd) = rd_both ∙ rd_first ∙ can.rd_tag in
     let counted : State = with_realm both rd (realm_updated (realm_update.RecCounted mpidr flags) (realm_at both rd)) in
     let counted_sound : IsSound counted = realm_updated_sound both rd (realm_update.RecCounted mpidr flags) both_sound rd_tag in
@@ -138,7 +136,8 @@ make_rec_sound s rd rec mpidr flags aux0 aux1 sound can =
       request = refl;
       pending = refl;
     } in
-    subst (λ (tag : ℕ → Tag). IsSound (record (with_rec (with_realm s rd (realm_updated (realm_update.RecCounted mpidr flags) (realm_at s rd))) rec new) { tag = tag }))
+    subst (λ (tag : ℕ → Tag).
+    IsSound (record (with_rec (with_realm s rd (realm_updated (realm_update.RecCounted mpidr flags) (realm_at s rd))) rec new) { tag = tag }))
     (λ i g. tags_swapped s rec aux0 aux1 can.apart0 can.apart1 g i) made
 
 -- an auxiliary granule of a REC that is gone is named by nothing
@@ -177,7 +176,9 @@ destroy_rec_sound s rec aux0 aux1 sound can =
     let unnamed0 : IsUnnamed t aux0 = aux_freed s rec aux0 sound gone own0 tag0 in
     let unnamed1 : IsUnnamed t aux1 = aux_freed s rec aux1 sound gone own1 tag1 in
     let freed_sound : IsSound freed =
-    retagged_sound t aux0 Delegated gone (granule_from_tag t aux0 RecAux tag0) (rw (tag-has_tag t aux0 RecAux tag0) (record { no_rd = refl; no_rec = refl })) plain unnamed0 in
+    retagged_sound t aux0 Delegated gone (granule_from_tag t aux0 RecAux tag0)
+    (rw (tag-has_tag t aux0 RecAux tag0) (record { no_rd = refl; no_rec = refl })) plain unnamed0 in
     let still : IsTrue (has_tag freed aux1 RecAux) = has_tag-elsewhere t aux0 aux1 Delegated RecAux differ ∙ tag1 in
-    retagged_sound freed aux1 Delegated freed_sound (granule_from_tag freed aux1 RecAux still) (rw (tag-has_tag freed aux1 RecAux still) (record { no_rd = refl; no_rec = refl })) plain
+    retagged_sound freed aux1 Delegated freed_sound (granule_from_tag freed aux1 RecAux still)
+    (rw (tag-has_tag freed aux1 RecAux still) (record { no_rd = refl; no_rec = refl })) plain
     (record { aux0 = unnamed1.aux0; aux1 = unnamed1.aux1; table = unnamed1.table; page = unnamed1.page })

@@ -1,21 +1,15 @@
 -- What a command that walks finds at the end of its walk.
-use Rattle.std.proofs.Common.{◌≡◌, ℕ, zero, suc, ◌+◌, ◌-◌, ◌*◌, ◌/◌, ◌%◌, ◌^◌, ◌<◌, ◌≤◌, not, false, IsTrue, nat_lt, nat_le, refl, sym, ◌∙◌, ap, subst, arith}
-use Rattle.std.proofs.lemmas.Bool.{and_parts, not-true, eqb-true, eq-eqb, ltb-true, ltb-false, leb-true}
+use Rattle.rmm_sound.proofs.Common.{◌*◌, ◌+◌, ◌-◌, ◌/◌, ◌<◌, ◌∙◌, ◌≡◌, ◌≤◌, Entry, IsLeafOf, IsSound, IsTrue, Rd, RealmRecord, Ripas, State, Unassigned, UnassignedNs, and_parts, ap, arith, entry_at, eq-eqb, eqb-true, false, has_tag, is_table, nat_lt, realm_at, refl, subst, suc, sym, zero, ℕ}
+use Rattle.std.proofs.Common.{◌%◌, ◌^◌, not, nat_le}
+use Rattle.std.proofs.lemmas.Bool.{not-true, ltb-true, ltb-false, leb-true}
 use Rattle.std.proofs.lemmas.Nat.{div-mul-add}
 use Rattle.rmm_spec.specs.declared.accepted.Stretch.{Stretch}
 use Rattle.rmm_spec.specs.declared.accepted.StretchUse.{StretchUse}
 use Rattle.rmm_spec.specs.declared.accepted.StretchUse.TheVariants.{Init, Requested}
-use Rattle.rmm_spec.specs.declared.entry.Entry.{Entry}
-use Rattle.rmm_spec.specs.declared.entry.Entry.TheVariants.{Unassigned, UnassignedNs}
-use Rattle.rmm_spec.specs.declared.tag.Ripas.{Ripas}
-use Rattle.rmm_spec.specs.declared.tag.Tag.TheVariants.{Rd}
-use Rattle.rmm_spec.specs.State.{State, RealmRecord}
-use Rattle.rmm_spec.specs.Lookup.{has_tag, realm_at}
-use Rattle.rmm_spec.specs.Walk.{entry_size, table_size, entry_number, table_number, full, half, is_multiple, is_table, is_assigned, entry_at, reach, walk}
+use Rattle.rmm_spec.specs.Walk.{entry_size, table_size, entry_number, table_number, full, half, is_multiple, is_assigned, reach, walk}
 use Rattle.rmm_spec.specs.Step.Terms.{is_page}
 use Rattle.rmm_spec.specs.Step.Table.{entry_after_table}
 use Rattle.rmm_spec.specs.Step.Ripas.{can_be_set, IsReached}
-use Rattle.rmm_spec.specs.Sound.{IsSound, IsLeafOf}
 use Rattle.rmm_spec.specs.Applicable.{IsVacant, CanReplace, CanSetRipas}
 use Rattle.spec_lemmas.proofs.WalkLaws.{table_size-entries, table_number-suc}
 use Rattle.rmm_sound.proofs.Cases.{choice}
@@ -25,12 +19,14 @@ use Rattle.rmm_sound.proofs.Walked.{IsWalked, walked, space_there, start_above, 
 -- ---- pages
 
 -- what is known of a walk's end is known of the entry of the last level, where the walk ends there
-pub at_end : (Has : Entry → Type 0) (s : State) (rd ipa : ℕ) → reach s rd ipa 3 ≡ 3 → Has (walk s rd ipa 3).entry → Has (entry_at s rd 3 (entry_number 3 ipa))
+pub at_end : (Has : Entry → Type 0) (s : State) (rd ipa : ℕ)
+    → reach s rd ipa 3 ≡ 3 → Has (walk s rd ipa 3).entry → Has (entry_at s rd 3 (entry_number 3 ipa))
 at_end Has s rd ipa at has = subst (λ l. Has (entry_at s rd l (entry_number l ipa))) at has
 
 -- a page's entry that is no link may be replaced by one that fits
 pub page_replaced : (s : State) (rd ipa : ℕ) (entry : Entry) → IsWalked s rd ipa (reach s rd ipa 3) → reach s rd ipa 3 ≡ 3
-    → is_table (entry_at s rd 3 (entry_number 3 ipa)) ≡ false → IsLeafOf entry (realm_at s rd) 3 (entry_number 3 ipa) → CanReplace s rd 3 (entry_number 3 ipa) entry
+    → is_table (entry_at s rd 3 (entry_number 3 ipa)) ≡ false
+    → IsLeafOf entry (realm_at s rd) 3 (entry_number 3 ipa) → CanReplace s rd 3 (entry_number 3 ipa) entry
 page_replaced s rd ipa entry end at leaf kind = record {
   table = (subst (IsWalked s rd ipa) at end).table;
   leaf = leaf;
@@ -82,7 +78,8 @@ settable_leaf Init e can = not-true _ (and_parts (not (is_table e)) (not (is_ass
 settable_leaf (Requested rec ripas) e can = not-true _ can
 
 -- the number of the entry that begins so many entries on
-number_after : (level base count : ℕ) → IsTrue (is_multiple base (entry_size level)) → entry_number level (base + count * entry_size level) ≡ entry_number level base + count
+number_after : (level base count : ℕ)
+    → IsTrue (is_multiple base (entry_size level)) → entry_number level (base + count * entry_size level) ≡ entry_number level base + count
 unfolding entry_number
 number_after level base count multiple =
     let size : ℕ = entry_size level in
@@ -109,7 +106,8 @@ pages_on : (base count : ℕ) → base % 4096 ≡ 0 → (base + count * 4096) % 
 pages_on base count aligned = omega arith
 
 -- an end that is reached from a page is a page
-pub reached_page : (s : State) (stretch : Stretch) (end : ℕ) → stretch.level ≤ 3 → IsTrue (is_page stretch.base) → IsReached s stretch end → IsTrue (is_page end)
+pub reached_page : (s : State) (stretch : Stretch) (end : ℕ)
+    → stretch.level ≤ 3 → IsTrue (is_page stretch.base) → IsReached s stretch end → IsTrue (is_page end)
 reached_page s stretch end last aligned reached =
     let pages = entry_pages stretch.level last in
     let whole : reached.count * (pages.0 * 4096) ≡ (reached.count * pages.0) * 4096 = omega arith in
@@ -125,7 +123,8 @@ stretch_can_be_set s stretch end walk_end multiple bound reached =
     let level : ℕ = stretch.level in
     let size : ℕ = entry_size level in
     let first : ℕ = entry_number level stretch.base in
-    let last_is : entry_number level end ≡ first + reached.count = ap (entry_number level) reached.is_end ∙ number_after level stretch.base reached.count multiple in
+    let last_is : entry_number level end ≡ first + reached.count =
+    ap (entry_number level) reached.is_end ∙ number_after level stretch.base reached.count multiple in
     let begins : first * size ≡ stretch.base = entry_begins level stretch.base multiple in
     let ends : (first + reached.count) * size ≡ end = omega (arith, reached.is_end) in
     let table : table_number level stretch.base ≡ first / 512 = table_number-entry level stretch.base walk_end.last in
@@ -139,5 +138,6 @@ stretch_can_be_set s stretch end walk_end multiple bound reached =
       leaves = λ number from below.
           let within : number - first < reached.count = (let up_to : number < first + reached.count = rw last_is at below in omega arith) in
           let is : first + (number - first) ≡ number = omega arith in
-          settable_leaf stretch.purpose _ (subst (λ n. IsTrue (can_be_set stretch.purpose (entry_at s stretch.rd level n))) is (reached.each (number - first) within));
+          settable_leaf stretch.purpose _
+          (subst (λ n. IsTrue (can_be_set stretch.purpose (entry_at s stretch.rd level n))) is (reached.each (number - first) within));
     }

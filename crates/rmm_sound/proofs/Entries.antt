@@ -1,14 +1,11 @@
 -- What a walk reads of an entry is its leaf or its link.
-use Rattle.std.proofs.Common.{◌≡◌, ℕ, suc, ◌+◌, ◌*◌, ◌/◌, ◌%◌, ◌<◌, Bool, true, false, if◌then◌else◌, IsTrue, Option, Some, None, is_some, nat_lt, refl, sym, ◌∙◌, ap, subst, arith, inl, inr, add-one}
+use Rattle.rmm_sound.proofs.Common.{◌*◌, ◌+◌, ◌/◌, ◌<◌, ◌∙◌, ◌≡◌, Assigned, Bool, Entry, IsLeafOf, IsSound, IsTrue, None, Option, RealmRecord, Some, State, ap, arith, both_ways, entry_at, false, if◌then◌else◌, inl, inr, is_some, is_table, nat_lt, refl, subst, suc, sym, true, ℕ}
+use Rattle.std.proofs.Common.{◌%◌, add-one}
 use Rattle.std.proofs.lemmas.Bool.{or_cases, lt-ltb}
-use Rattle.rmm_spec.specs.declared.entry.Entry.{Entry}
-use Rattle.rmm_spec.specs.declared.entry.Entry.TheVariants.{Assigned, Table, AssignedNs}
-use Rattle.rmm_spec.specs.State.{State, RealmRecord}
-use Rattle.rmm_spec.specs.Walk.{entry_at, linked_entry, is_table, is_live, is_in_use, has_entry}
-use Rattle.rmm_spec.specs.Sound.{IsSound, IsLeafOf}
+use Rattle.rmm_spec.specs.declared.entry.Entry.TheVariants.{Table, AssignedNs}
+use Rattle.rmm_spec.specs.Walk.{linked_entry, is_live, is_in_use, has_entry}
 use Rattle.rmm_spec.specs.Applicable.{IsVacant}
 use Rattle.rmm_sound.proofs.Searches.{any_below-false}
-use Rattle.lemmas.proofs.Tests.{both_ways}
 
 -- ---- what stands above a leaf or a link
 
@@ -50,11 +47,13 @@ pub entry-leaf : (s : State) → IsSound s → (rd level number : ℕ) (e : Entr
 unfolding entry_at
 entry-leaf s sound rd level number e at =
     let fits = leaf_fits s sound rd level number e at in
-    let none : s.table rd (level + 1) number ≡ None = subst (λ l. s.table rd l number ≡ None) (sym (add-one level)) (sound.leaves.unlinked rd level number e at) in
+    let none : s.table rd (level + 1) number ≡ None =
+    subst (λ l. s.table rd l number ≡ None) (sym (add-one level)) (sound.leaves.unlinked rd level number e at) in
     unlinked_leaf (nat_lt level 3) (s.table rd (level + 1) number) (s.leaf rd level number) e none at (fitting_leaf e fits.0 level number fits.2)
 
 -- an entry that is a link
-pub entry-link : (s : State) → IsSound s → (rd level number granule : ℕ) → s.table rd (suc level) number ≡ Some granule → entry_at s rd level number ≡ Table granule
+pub entry-link : (s : State) → IsSound s → (rd level number granule : ℕ)
+    → s.table rd (suc level) number ≡ Some granule → entry_at s rd level number ≡ Table granule
 unfolding entry_at
 entry-link s sound rd level number granule at =
     let owner = sound.tables.owned rd (suc level) number granule at in
@@ -74,7 +73,8 @@ leaf_there s sound rd level number table no_link =
 
 -- an entry of a table that is a link leads to a table that stands
 pub link_there : (s : State) → IsSound s → (rd level number : ℕ) → IsTrue (is_some (s.table rd level (number / 512)))
-    → IsTrue (is_table (entry_at s rd level number)) → (granule : ℕ) × (s.table rd (suc level) number ≡ Some granule) × (entry_at s rd level number ≡ Table granule)
+    → IsTrue (is_table (entry_at s rd level number))
+    → (granule : ℕ) × (s.table rd (suc level) number ≡ Some granule) × (entry_at s rd level number ≡ Table granule)
 link_there s sound rd level number table link =
     elim (or_cases (is_some (s.leaf rd level number)) (is_some (s.table rd (suc level) number)) (sound.leaves.complete rd level number table)) [
       | inl leaf ↦ (let e = value_there (s.leaf rd level number) leaf in

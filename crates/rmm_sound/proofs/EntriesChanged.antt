@@ -1,23 +1,17 @@
 -- Tables made and destroyed, and entries changed, keep states sound.
-use Rattle.std.proofs.Common.{◌≡◌, ℕ, zero, suc, ◌-◌, ◌/◌, ◌==◌, false, IsTrue, Option, Some, None, is_some, refl, sym, ◌∙◌, ap, subst, arith, inl, inr, unwrap_or}
-use Rattle.std.proofs.lemmas.Bool.{eq-eqb, eqb-true, false_from_ne_true}
+use Rattle.rmm_sound.proofs.Common.{◌-◌, ◌/◌, ◌==◌, ◌∙◌, ◌≡◌, Assigned, Data, Entry, IsLeafOf, IsSound, IsTrue, None, Option, RealmRecord, RecAux, Ripas, Rtt, Some, State, ap, arith, both_ways, entry_at, eq-eqb, eqb-true, false, false_from_ne_true, granule_from_tag, has_tag, inl, inr, is_some, is_table, realm_at, rec_at, refl, subst, suc, sym, tag-has_tag, with_tag, zero, ℕ}
+use Rattle.std.proofs.Common.{unwrap_or}
 use Rattle.rmm_spec.specs.declared.change.EntryChange.{EntryChange}
 use Rattle.rmm_spec.specs.declared.change.EntryChange.TheVariants.{Replaced, RipasSet}
 use Rattle.rmm_spec.specs.declared.change.RealmChange.{RealmChange}
 use Rattle.rmm_spec.specs.declared.change.RecChange.{RecChange}
 use Rattle.rmm_spec.specs.declared.change.TagChange.{TagChange}
-use Rattle.rmm_spec.specs.declared.entry.Entry.{Entry}
-use Rattle.rmm_spec.specs.declared.entry.Entry.TheVariants.{Assigned}
-use Rattle.rmm_spec.specs.declared.tag.Ripas.{Ripas}
-use Rattle.rmm_spec.specs.declared.tag.Tag.TheVariants.{Delegated, RecAux, Data, Rtt}
-use Rattle.rmm_spec.specs.State.{State, RealmRecord}
-use Rattle.rmm_spec.specs.Update.{with_tag, with_table, without_table, with_leaf}
-use Rattle.rmm_spec.specs.Lookup.{has_tag, realm_at, rec_at, no_realm}
-use Rattle.rmm_spec.specs.Walk.{entry_at, is_table, is_assigned}
+use Rattle.rmm_spec.specs.declared.tag.Tag.TheVariants.{Delegated}
+use Rattle.rmm_spec.specs.Update.{with_table, without_table, with_leaf}
+use Rattle.rmm_spec.specs.Lookup.{no_realm}
+use Rattle.rmm_spec.specs.Walk.{is_assigned}
 use Rattle.rmm_spec.specs.Change.{realm_updated, with_realm_change, with_rec_change, with_tag_change, with_entry_change}
-use Rattle.rmm_spec.specs.Sound.{IsSound, IsLeafOf}
 use Rattle.rmm_spec.specs.Applicable.{CanMakeTable, CanDestroyTable, CanReplace, CanChangeEntries, CanChangeRealm, CanChangeRec}
-use Rattle.spec_lemmas.proofs.TagLaws.{tag-has_tag, granule_from_tag}
 use Rattle.rmm_sound.proofs.Cases.{by_address, by_spot, nothing_there, spot_itself}
 use Rattle.rmm_sound.proofs.Entries.{leaf_there, leaf_fits, childless_unused, vacant_above}
 use Rattle.rmm_sound.proofs.Kept.{leaf_of_width}
@@ -28,7 +22,6 @@ use Rattle.rmm_sound.proofs.Retagged.{IsUnnamed, unnamed_by_tag, retagged_sound}
 use Rattle.rmm_sound.proofs.Searches.{realm_there, realm_at-is}
 use Rattle.rmm_sound.proofs.TableMade.{put_table_sound, taken_table_sound}
 use Rattle.rmm_sound.proofs.Tags.{has_tag-here, tags_apart}
-use Rattle.lemmas.proofs.Tests.{both_ways}
 
 -- ---- tables
 
@@ -118,28 +111,33 @@ give_page_sound s rd level number entry page ripas sound can tag is =
       there = ap is_some (leaf_there s sound rd level number can.table can.leaf);
       kind = λ r at. subst (λ x. IsLeafOf entry x level number) (realm_at-is s rd r at) can.kind;
       page = λ granule other same. rw (← (page_is granule other same)) (has_tag-here s page Data (granule_from_tag s page Delegated tag));
-      alone = λ granule other same a l n old at miss. both_ways (eq-eqb granule page (sym (page_is granule other same))) (unnamed.page a l n granule old at);
+      alone = λ granule other same a l n old at miss.
+          both_ways (eq-eqb granule page (sym (page_is granule other same))) (unnamed.page a l n granule old at);
     }
 
 -- an entry's page is taken from it
 take_page_sound : (s : State) (rd level number : ℕ) (entry : Entry) (page : ℕ) (ripas : Ripas) → IsSound s → CanReplace s rd level number entry
-    → is_assigned entry ≡ false → entry_at s rd level number ≡ Assigned ripas page → IsSound (with_leaf (with_tag s page Delegated) rd level number entry)
+    → is_assigned entry ≡ false → entry_at s rd level number ≡ Assigned ripas page
+    → IsSound (with_leaf (with_tag s page Delegated) rd level number entry)
 unfolding has_tag
 take_page_sound s rd level number entry page ripas sound can unassigned was =
     let t : State = with_leaf s rd level number entry in
     let leaf : s.leaf rd level number ≡ Some (Assigned ripas page) = leaf_there s sound rd level number can.table can.leaf ∙ ap Some was in
     let tag : IsTrue (has_tag s page Data) = sound.leaves.pages rd level number page ripas leaf in
     let taken : IsSound t = replace_sound s rd level number entry sound can unassigned in
-    retagged_sound t page Delegated taken (granule_from_tag s page Data tag) (rw (tag-has_tag s page Data tag) (record { no_rd = refl; no_rec = refl }))
+    retagged_sound t page Delegated taken (granule_from_tag s page Data tag)
+    (rw (tag-has_tag s page Data tag) (record { no_rd = refl; no_rec = refl }))
     (record { no_rd = refl; no_rec = refl })
     record {
       aux0 = λ g c at. tags_apart t c.aux0 page RecAux Data (taken.recs.aux0 g c at) tag refl;
       aux1 = λ g c at. tags_apart t c.aux1 page RecAux Data (taken.recs.aux1 g c at) tag refl;
       table = λ other l n held at. tags_apart t held page Rtt Data (taken.tables.tagged other l n held at) tag refl;
-      page = λ other l n held old. by_spot (λ found. found ≡ Some (Assigned old held) → (held == page) ≡ false) rd level number other l n (Some entry) (s.leaf other l n)
+      page = λ other l n held old. by_spot (λ found. found ≡ Some (Assigned old held) → (held == page) ≡ false)
+          rd level number other l n (Some entry) (s.leaf other l n)
           (λ _ _ _ same. let is : entry ≡ Assigned old held = cc in unassigned_apart entry old held unassigned is)
           (λ miss at. false_from_ne_true _ (λ same.
-          let place = sound.leaves.apart other l n rd level number page old ripas (at ∙ ap (λ g. Some (Assigned old g)) (eqb-true held page same)) leaf in
+          let place =
+          sound.leaves.apart other l n rd level number page old ripas (at ∙ ap (λ g. Some (Assigned old g)) (eqb-true held page same)) leaf in
           both_ways (rw (place.0, place.1, place.2) (spot_itself rd level number)) miss));
     }
 
@@ -160,7 +158,8 @@ entries_sound s rd level (RipasSet first last ripas) (Some page) sound can = abs
 width_kept : (s : State) (change : RealmChange) (rd : ℕ) → (realm_at (with_realm_change s (Some change)) rd).width ≡ (realm_at s rd).width
 unfolding realm_at
 width_kept s change rd =
-    by_address (λ found. (unwrap_or found no_realm).width ≡ (realm_at s rd).width) rd change.rd (Some (realm_updated change.update (realm_at s change.rd))) (s.realm rd)
+    by_address (λ found. (unwrap_or found no_realm).width ≡ (realm_at s rd).width) rd change.rd
+    (Some (realm_updated change.update (realm_at s change.rd))) (s.realm rd)
     (λ here. rw here ((updated_like change.update (realm_at s change.rd)).width)) (λ _. refl)
 
 -- what the entries of a table must be is not a matter of the realm's other fields
@@ -232,7 +231,8 @@ tag_after_rec s None (Some tag) = refl
 tag_after_rec s (Some change) (Some tag) = refl
 
 -- entries are changed, with records and the tag of a page
-pub entries_and_records_sound : (s : State) (rd level : ℕ) (entries : EntryChange) (page : Option TagChange) (realm : Option RealmChange) (rec : Option RecChange)
+pub entries_and_records_sound : (s : State) (rd level : ℕ) (entries : EntryChange)
+    (page : Option TagChange) (realm : Option RealmChange) (rec : Option RecChange)
     → IsSound s → CanChangeEntries s rd level entries page → CanChangeRealm s realm → CanChangeRec s rec
     → IsSound (with_entry_change (with_rec_change (with_realm_change (with_tag_change s page) realm) rec) rd level entries)
 entries_and_records_sound s rd level entries page realm rec sound can can_realm can_rec =

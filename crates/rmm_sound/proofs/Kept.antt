@@ -1,13 +1,9 @@
 -- Groups of what a sound state keeps, where a change leaves alone what they speak of.
-use Rattle.std.proofs.Common.{◌≡◌, ℕ, suc, ◌/◌, IsTrue, Option, Some, is_some, length, refl, sym, ◌∙◌, ap}
-use Rattle.rmm_spec.specs.declared.entry.Entry.{Entry}
-use Rattle.rmm_spec.specs.declared.entry.Entry.TheVariants.{Assigned, Table}
-use Rattle.rmm_spec.specs.declared.tag.Ripas.{Ripas}
-use Rattle.rmm_spec.specs.declared.tag.Tag.TheVariants.{Rd, Rec, RecAux, Data, Rtt}
-use Rattle.rmm_spec.specs.State.{State, RealmRecord, RecRecord, Request}
-use Rattle.rmm_spec.specs.Lookup.{has_tag, runs_on}
+use Rattle.rmm_sound.proofs.Common.{◌/◌, ◌∙◌, ◌≡◌, Assigned, Data, Entry, IsLeafOf, IsRequest, IsTrue, Option, Rd, RealmRecord, Rec, RecAux, RecRecord, Request, Ripas, Rtt, Some, State, ap, has_tag, is_some, refl, runs_on, suc, sym, ℕ}
+use Rattle.std.proofs.Common.{length}
+use Rattle.rmm_spec.specs.declared.entry.Entry.TheVariants.{Table}
 use Rattle.rmm_spec.specs.Step.Terms.{is_space}
-use Rattle.rmm_spec.specs.Sound.{AreRealms, AreRecs, AreTables, AreLeaves, IsRequest, IsLeafOf, has_aux}
+use Rattle.rmm_spec.specs.Sound.{AreRealms, AreRecs, AreTables, AreLeaves, has_aux}
 
 -- ---- realms that agree in what does not change
 
@@ -49,7 +45,8 @@ leaf_of_width (Table granule) q r level number same is = is
 leaf_of_width _ q r level number same is = rw same is
 
 -- a root is that of a realm like the one that had it
-pub root_of_like : (table : ℕ → ℕ → Option ℕ) (q r : RealmRecord) → IsLike q r → table q.start_level 0 ≡ Some q.root → table r.start_level 0 ≡ Some r.root
+pub root_of_like : (table : ℕ → ℕ → Option ℕ) (q r : RealmRecord)
+    → IsLike q r → table q.start_level 0 ≡ Some q.root → table r.start_level 0 ≡ Some r.root
 root_of_like table q r like root = ap (λ level. table level 0) like.start_level ∙ root ∙ ap Some (sym like.root)
 
 -- an address space is one that a realm can have, where it is that of one
@@ -104,7 +101,8 @@ tables_kept s t same like rtts old =
     record {
       roots = λ rd r e. let q = like.before rd r e in
           is rd r.start_level 0 ∙ root_of_like (s.table rd) q.0 r q.2 (old.roots rd q.0 q.1);
-      tagged = λ rd level number granule e. rtts rd level number granule (sym (is rd level number) ∙ e) (old.tagged rd level number granule (sym (is rd level number) ∙ e));
+      tagged = λ rd level number granule e. rtts rd level number granule (sym (is rd level number) ∙ e)
+          (old.tagged rd level number granule (sym (is rd level number) ∙ e));
       owned = λ rd level number granule e.
           let q = old.owned rd level number granule (sym (is rd level number) ∙ e) in
           let r = like.after rd q.0 q.1 in
@@ -119,21 +117,27 @@ tables_kept s t same like rtts old =
 
 -- leaves, where they and the tables stay and realms are alike
 pub leaves_kept : (s t : State) → t.table ≡ s.table → t.leaf ≡ s.leaf → AreLikeRealms s t
-    → ((rd level number granule : ℕ) (ripas : Ripas) → s.leaf rd level number ≡ Some (Assigned ripas granule) → IsTrue (has_tag s granule Data) → IsTrue (has_tag t granule Data))
+    → ((rd level number granule : ℕ) (ripas : Ripas)
+    → s.leaf rd level number ≡ Some (Assigned ripas granule) → IsTrue (has_tag s granule Data) → IsTrue (has_tag t granule Data))
     → AreLeaves s → AreLeaves t
 leaves_kept s t same_table same_leaf like pages old =
-    let table_is : (rd level number : ℕ) → t.table rd level number ≡ s.table rd level number = λ rd level number. ap (λ m. m rd level number) same_table in
-    let leaf_is : (rd level number : ℕ) → t.leaf rd level number ≡ s.leaf rd level number = λ rd level number. ap (λ m. m rd level number) same_leaf in
+    let table_is : (rd level number : ℕ) → t.table rd level number ≡ s.table rd level number =
+    λ rd level number. ap (λ m. m rd level number) same_table in
+    let leaf_is : (rd level number : ℕ) → t.leaf rd level number ≡ s.leaf rd level number =
+    λ rd level number. ap (λ m. m rd level number) same_leaf in
     record {
-      placed = λ rd level number e at. ap is_some (table_is rd level (number / 512)) ∙ old.placed rd level number e (sym (leaf_is rd level number) ∙ at);
+      placed = λ rd level number e at. ap is_some (table_is rd level (number / 512))
+          ∙ old.placed rd level number e (sym (leaf_is rd level number) ∙ at);
       unlinked = λ rd level number e at. table_is rd (suc level) number ∙ old.unlinked rd level number e (sym (leaf_is rd level number) ∙ at);
       complete = λ rd level number there.
-          rw (leaf_is rd level number, table_is rd (suc level) number) (old.complete rd level number (sym (ap is_some (table_is rd level (number / 512))) ∙ there));
+          rw (leaf_is rd level number, table_is rd (suc level) number)
+          (old.complete rd level number (sym (ap is_some (table_is rd level (number / 512))) ∙ there));
       kinds = λ rd level number e r at realm.
           let q = like.before rd r realm in
           leaf_of_width e q.0 r level number q.2.width (old.kinds rd level number e q.0 (sym (leaf_is rd level number) ∙ at) q.1);
       pages = λ rd level number granule ripas at.
-          pages rd level number granule ripas (sym (leaf_is rd level number) ∙ at) (old.pages rd level number granule ripas (sym (leaf_is rd level number) ∙ at));
+          pages rd level number granule ripas (sym (leaf_is rd level number) ∙ at)
+          (old.pages rd level number granule ripas (sym (leaf_is rd level number) ∙ at));
       apart = λ rd level number other l n granule ripas other_ripas at at_other.
           old.apart rd level number other l n granule ripas other_ripas (sym (leaf_is rd level number) ∙ at) (sym (leaf_is other l n) ∙ at_other);
     }

@@ -1,3 +1,4 @@
+pub mod Common
 pub mod ByRows
 pub mod Cases
 pub mod Tags

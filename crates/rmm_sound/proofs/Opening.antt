@@ -1,15 +1,11 @@
 -- The state in which every granule is the host's is sound: nothing stands in it.
-use Rattle.std.proofs.Common.{◌≡◌, ℕ, false, refl, sym}
+use Rattle.rmm_sound.proofs.Common.{◌≡◌, IsSound, Rd, Rec, Tag, Undelegated, both_ways, false, has_tag, refl, sym, ℕ}
 use Rattle.std.proofs.lemmas.Bool.{and_right}
-use Rattle.rmm_spec.specs.declared.tag.Tag.{Tag}
-use Rattle.rmm_spec.specs.declared.tag.Tag.TheVariants.{Undelegated, Rd, Rec}
 use Rattle.rmm_spec.specs.HistoryText.{Config}
 use Rattle.rmm_spec.specs.State.{opening}
-use Rattle.rmm_spec.specs.Lookup.{is_granule, has_tag}
-use Rattle.rmm_spec.specs.Sound.{IsSound}
+use Rattle.rmm_spec.specs.Lookup.{is_granule}
 use Rattle.rmm_sound.proofs.Cases.{nothing_there}
 use Rattle.rmm_sound.proofs.Tags.{AreOther}
-use Rattle.lemmas.proofs.Tests.{both_ways}
 
 -- no granule has another tag than the host's
 opening-tags : (config : Config) (g : ℕ) (tag : Tag) → AreOther Undelegated tag → has_tag (opening config) g tag ≡ false

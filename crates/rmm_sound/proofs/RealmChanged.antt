@@ -1,10 +1,6 @@
 -- A realm's record is replaced by one like it.
-use Rattle.std.proofs.Common.{◌≡◌, ℕ, Some, is_some, refl, sym, ◌∙◌, ap, subst}
-use Rattle.rmm_spec.specs.declared.tag.Tag.TheVariants.{Rd}
-use Rattle.rmm_spec.specs.State.{State, RealmRecord}
+use Rattle.rmm_sound.proofs.Common.{◌∙◌, ◌≡◌, IsSound, Rd, RealmRecord, Some, State, ap, has_tag, is_some, refl, subst, sym, ℕ}
 use Rattle.rmm_spec.specs.Update.{with_realm}
-use Rattle.rmm_spec.specs.Lookup.{has_tag}
-use Rattle.rmm_spec.specs.Sound.{IsSound}
 use Rattle.rmm_sound.proofs.Cases.{by_address}
 use Rattle.rmm_sound.proofs.Kept.{IsLike, like_itself, space_of_like, AreLikeRealms, recs_kept, tables_kept, leaves_kept}
 
@@ -21,7 +17,8 @@ like_realms s rd old new there like = record {
 }
 
 -- a realm's record is replaced by one like it
-pub with_realm_sound : (s : State) (rd : ℕ) (old new : RealmRecord) → IsSound s → s.realm rd ≡ Some old → IsLike old new → IsSound (with_realm s rd new)
+pub with_realm_sound : (s : State) (rd : ℕ) (old new : RealmRecord)
+    → IsSound s → s.realm rd ≡ Some old → IsLike old new → IsSound (with_realm s rd new)
 unfolding has_tag
 with_realm_sound s rd old new sound there like =
     let t : State = with_realm s rd new in

@@ -1,24 +1,18 @@
 -- A realm is put in with its root, or taken out with its tables and leaves.
-use Rattle.std.proofs.Common.{◌≡◌, ℕ, suc, ◌/◌, ◌≤◌, ◌==◌, ◌||◌, Bool, true, false, if◌then◌else◌, IsTrue, nat_lt, length, Option, Some, None, is_some, refl, sym, ◌∙◌, ap, arith}
-use Rattle.std.proofs.lemmas.Bool.{eq-eqb, ne_eqb, or_right, false_from_ne_true}
-use Rattle.rmm_spec.specs.declared.entry.Entry.{Entry}
-use Rattle.rmm_spec.specs.declared.entry.Entry.TheVariants.{Unassigned, Assigned, UnassignedNs}
-use Rattle.rmm_spec.specs.declared.tag.Ripas.{Ripas}
+use Rattle.rmm_sound.proofs.Common.{◌/◌, ◌==◌, ◌∙◌, ◌≡◌, ◌≤◌, Assigned, Bool, Data, Entry, IsLeafOf, IsSound, IsTrue, None, Option, Rd, RealmRecord, Rec, RecAux, RecRecord, Ripas, Rtt, Some, State, Tag, Unassigned, UnassignedNs, Undelegated, ap, arith, both_ways, eq-eqb, false, false_from_ne_true, granule_from_tag, has_tag, if◌then◌else◌, is_some, nat_lt, refl, suc, sym, tag-has_tag, true, with_tag, ℕ}
+use Rattle.std.proofs.Common.{◌||◌, length}
+use Rattle.std.proofs.lemmas.Bool.{ne_eqb, or_right}
 use Rattle.rmm_spec.specs.declared.tag.Ripas.TheVariants.{Empty}
-use Rattle.rmm_spec.specs.declared.tag.Tag.{Tag}
-use Rattle.rmm_spec.specs.declared.tag.Tag.TheVariants.{Undelegated, Delegated, Rd, Rec, RecAux, Data, Rtt}
-use Rattle.rmm_spec.specs.State.{State, RealmRecord, RecRecord}
-use Rattle.rmm_spec.specs.Update.{with_tag, with_realm, without_realm, with_root, is_same_entry}
-use Rattle.rmm_spec.specs.Lookup.{has_tag, has_vmid, is_owned_by}
+use Rattle.rmm_spec.specs.declared.tag.Tag.TheVariants.{Delegated}
+use Rattle.rmm_spec.specs.Update.{with_realm, without_realm, with_root, is_same_entry}
+use Rattle.rmm_spec.specs.Lookup.{has_vmid, is_owned_by}
 use Rattle.rmm_spec.specs.Change.{new_realm}
 use Rattle.rmm_spec.specs.Step.Terms.{is_space}
-use Rattle.rmm_spec.specs.Sound.{IsSound, IsTableOf, IsLeafOf}
-use Rattle.spec_lemmas.proofs.TagLaws.{tag-has_tag, granule_from_tag}
+use Rattle.rmm_spec.specs.Sound.{IsTableOf}
 use Rattle.rmm_sound.proofs.Cases.{by_address, by_spot, nothing_there, spot_itself, spot_other, spot_level, at_itself, some_either, none_of, left_of, left_at}
 use Rattle.rmm_sound.proofs.Kept.{recs_kept}
 use Rattle.rmm_sound.proofs.Spaces.{root_is_table, root_leaf}
 use Rattle.rmm_sound.proofs.Tags.{AreOther, has_tag-here, has_tag-elsewhere, has_tag-beside, has_tag-gone, has_tag-other, tags_apart}
-use Rattle.lemmas.proofs.Tests.{both_ways}
 
 -- What has no realm has no tables and leaves, so who has one is another.
 pub record IsElsewhere (s : State) (rd : ℕ) : Type 0 where
@@ -58,7 +52,8 @@ abbrev root_entry : ℕ → Entry
 root_entry n = if nat_lt n 256 then Unassigned Empty else UnassignedNs
 
 -- it names no page
-root_unassigned : (lower : Bool) (ripas : Ripas) (granule : ℕ) → Some (if lower then Unassigned Empty else UnassignedNs) ≡ Some (Assigned ripas granule) → ⊥
+root_unassigned : (lower : Bool) (ripas : Ripas) (granule : ℕ)
+    → Some (if lower then Unassigned Empty else UnassignedNs) ≡ Some (Assigned ripas granule) → ⊥
 root_unassigned true ripas granule same = let bad : Some (Unassigned Empty) ≡ Some (Assigned ripas granule) = same in cc
 root_unassigned false ripas granule same = let bad : Some UnassignedNs ≡ Some (Assigned ripas granule) = same in cc
 
@@ -109,7 +104,8 @@ put_realm_sound s rd root width level vmid algo sound can =
       recs = recs_kept s t refl (λ g. kept g Rec refl refl)
           (λ g c at has. has_tag-elsewhere s rd c.owner Rd Rd (tags_apart s c.owner rd Rd Delegated has can.rd_tag refl) ∙ has)
           (λ g has. kept g RecAux refl refl ∙ has)
-          (λ g c r at. by_address (λ found. found ≡ Some r → (q : RealmRecord) × (s.realm c.owner ≡ Some q) × (r.width ≡ q.width)) c.owner rd (Some new) (s.realm c.owner)
+          (λ g c r at. by_address (λ found. found ≡ Some r → (q : RealmRecord) × (s.realm c.owner ≡ Some q) × (r.width ≡ q.width))
+          c.owner rd (Some new) (s.realm c.owner)
           (λ here. both_ways (eq-eqb c.owner rd here) (tags_apart s c.owner rd Rd Delegated (sound.recs.owned g c at) can.rd_tag refl))
           (λ _ e. (r, e, refl)))
           sound.recs;
@@ -117,13 +113,17 @@ put_realm_sound s rd root width level vmid algo sound can =
         roots = λ other r. by_address (λ found. found ≡ Some r → t.table other r.start_level 0 ≡ Some r.root) other rd (Some new) (s.realm other)
             (λ here e. let is : new ≡ r = cc in rw (← is) (rw here (rw (spot_itself rd level 0) refl)))
             (λ apart e. rw (spot_other rd level 0 other r.start_level 0 apart) (sound.tables.roots other r e));
-        tagged = λ other l n granule. by_spot (λ found. found ≡ Some granule → IsTrue (has_tag t granule Rtt)) rd level 0 other l n (Some root) (s.table other l n)
+        tagged = λ other l n granule. by_spot (λ found. found ≡ Some granule → IsTrue (has_tag t granule Rtt))
+            rd level 0 other l n (Some root) (s.table other l n)
             (λ _ _ _ e. let is : root ≡ granule = cc in rw (← is) (kept root Rtt refl refl ∙ can.root_tag))
             (λ _ e. kept granule Rtt refl refl ∙ sound.tables.tagged other l n granule e);
-        owned = λ other l n granule. by_spot (λ found. found ≡ Some granule → (r : RealmRecord) × (t.realm other ≡ Some r) × IsTableOf r l n) rd level 0 other l n (Some root) (s.table other l n)
+        owned = λ other l n granule. by_spot (λ found. found ≡ Some granule → (r : RealmRecord) × (t.realm other ≡ Some r) × IsTableOf r l n)
+            rd level 0 other l n (Some root) (s.table other l n)
             (λ here at first _. (new, rw here own, root_is_table new can.space l n at first))
             (λ _ e. let owner = sound.tables.owned other l n granule e in (owner.0, rw (others.realm other owner.0 owner.1) owner.1, owner.2));
-        below = λ other l n granule r. by_spot (λ found. found ≡ Some granule → t.realm other ≡ Some r → r.start_level ≤ l → IsTrue (is_some (t.table other l (n / 512)))) rd level 0 other (suc l) n (Some root) (s.table other (suc l) n)
+        below = λ other l n granule r.
+            by_spot (λ found. found ≡ Some granule → t.realm other ≡ Some r → r.start_level ≤ l → IsTrue (is_some (t.table other l (n / 512))))
+            rd level 0 other (suc l) n (Some root) (s.table other (suc l) n)
             (λ here at first _ realm under. absurd (
             let is : new ≡ r = let e : t.realm rd ≡ Some r = rw here at realm in let f : Some new ≡ Some r = sym own ∙ e in cc in
             let start : level ≡ r.start_level = ap (λ (x : RealmRecord). x.start_level) is in omega arith))
@@ -132,7 +132,8 @@ put_realm_sound s rd root width level vmid algo sound can =
             let there : s.realm other ≡ Some r = rw apart at realm in
             rw (spot_other rd level 0 other l (n / 512) apart) (sound.tables.below other l n granule r e there under));
         apart = λ a l n b m k granule.
-            by_spot (λ found. found ≡ Some granule → t.table b m k ≡ Some granule → (a ≡ b) × (l ≡ m) × (n ≡ k)) rd level 0 a l n (Some root) (s.table a l n)
+            by_spot (λ found. found ≡ Some granule → t.table b m k ≡ Some granule → (a ≡ b) × (l ≡ m) × (n ≡ k))
+            rd level 0 a l n (Some root) (s.table a l n)
             (λ here at first e. by_spot (λ found. found ≡ Some granule → (a ≡ b) × (l ≡ m) × (n ≡ k)) rd level 0 b m k (Some root) (s.table b m k)
             (λ too at_too first_too _. (here ∙ sym too, at ∙ sym at_too, first ∙ sym first_too))
             (λ _ f. let is : root ≡ granule = cc in both_ways (eq-eqb granule root (sym is)) (can.fresh b m k granule f)))
@@ -141,29 +142,37 @@ put_realm_sound s rd root width level vmid algo sound can =
             (λ _ f. sound.tables.apart a l n b m k granule e f));
       };
       leaves = record {
-        placed = λ other l n e. by_spot (λ found. found ≡ Some e → IsTrue (is_some (t.table other l (n / 512)))) rd level 0 other l (n / 512) (Some (root_entry n)) (s.leaf other l n)
+        placed = λ other l n e. by_spot (λ found. found ≡ Some e → IsTrue (is_some (t.table other l (n / 512)))) rd level 0 other l
+            (n / 512) (Some (root_entry n)) (s.leaf other l n)
             (λ here at first _. rw (here, at, first) (rw (spot_itself rd level 0) refl))
             (λ _ at. some_either _ root (s.table other l (n / 512)) (sound.leaves.placed other l n e at));
-        unlinked = λ other l n e. by_spot (λ found. found ≡ Some e → t.table other (suc l) n ≡ None) rd level 0 other l (n / 512) (Some (root_entry n)) (s.leaf other l n)
+        unlinked = λ other l n e. by_spot (λ found. found ≡ Some e → t.table other (suc l) n ≡ None) rd level 0 other l
+            (n / 512) (Some (root_entry n)) (s.leaf other l n)
             (λ here at first _. rw (spot_level rd level 0 other (suc l) n (λ same. omega arith))
-            (none_of (s.table other (suc l) n) (false_from_ne_true _ (λ there. both_ways (eq-eqb other rd here) (others.table other (suc l) n there)))))
+            (none_of (s.table other (suc l) n)
+            (false_from_ne_true _ (λ there. both_ways (eq-eqb other rd here) (others.table other (suc l) n there)))))
             (λ _ at. rw (spot_other rd level 0 other (suc l) n (others.leaf other l n e at)) (sound.leaves.unlinked other l n e at));
-        complete = λ other l n. complete_by (is_same_entry rd level 0 other l (n / 512)) (is_same_entry rd level 0 other (suc l) n) root (s.table other l (n / 512)) (s.table other (suc l) n)
+        complete = λ other l n. complete_by (is_same_entry rd level 0 other l (n / 512))
+            (is_same_entry rd level 0 other (suc l) n) root (s.table other l (n / 512)) (s.table other (suc l) n)
             (root_entry n) (s.leaf other l n) (sound.leaves.complete other l n);
-        kinds = λ other l n e r. by_spot (λ found. found ≡ Some e → t.realm other ≡ Some r → IsLeafOf e r l n) rd level 0 other l (n / 512) (Some (root_entry n)) (s.leaf other l n)
+        kinds = λ other l n e r. by_spot (λ found. found ≡ Some e → t.realm other ≡ Some r → IsLeafOf e r l n) rd level 0 other l
+            (n / 512) (Some (root_entry n)) (s.leaf other l n)
             (λ here at first same realm.
             let is : new ≡ r = let f : t.realm rd ≡ Some r = rw here at realm in let g : Some new ≡ Some r = sym own ∙ f in cc in
             let entry : root_entry n ≡ e = cc in
             rw (← is) (rw (← entry) (root_leaf new can.space l n at)))
             (λ _ at realm.
             let there : s.realm other ≡ Some r = rw (others.leaf other l n e at) at realm in sound.leaves.kinds other l n e r at there);
-        pages = λ other l n granule ripas. by_spot (λ found. found ≡ Some (Assigned ripas granule) → IsTrue (has_tag t granule Data)) rd level 0 other l (n / 512) (Some (root_entry n)) (s.leaf other l n)
+        pages = λ other l n granule ripas. by_spot (λ found. found ≡ Some (Assigned ripas granule) → IsTrue (has_tag t granule Data))
+            rd level 0 other l (n / 512) (Some (root_entry n)) (s.leaf other l n)
             (λ _ _ _ e. absurd (root_unassigned (nat_lt n 256) ripas granule e))
             (λ _ at. kept granule Data refl refl ∙ sound.leaves.pages other l n granule ripas at);
         apart = λ a l n b m k granule ripas ripas_too.
-            by_spot (λ found. found ≡ Some (Assigned ripas granule) → t.leaf b m k ≡ Some (Assigned ripas_too granule) → (a ≡ b) × (l ≡ m) × (n ≡ k)) rd level 0 a l (n / 512) (Some (root_entry n)) (s.leaf a l n)
+            by_spot (λ found. found ≡ Some (Assigned ripas granule) → t.leaf b m k ≡ Some (Assigned ripas_too granule) → (a ≡ b) × (l ≡ m) × (n ≡ k))
+            rd level 0 a l (n / 512) (Some (root_entry n)) (s.leaf a l n)
             (λ _ _ _ e. absurd (root_unassigned (nat_lt n 256) ripas granule e))
-            (λ _ at. by_spot (λ found. found ≡ Some (Assigned ripas_too granule) → (a ≡ b) × (l ≡ m) × (n ≡ k)) rd level 0 b m (k / 512) (Some (root_entry k)) (s.leaf b m k)
+            (λ _ at. by_spot (λ found. found ≡ Some (Assigned ripas_too granule) → (a ≡ b) × (l ≡ m) × (n ≡ k)) rd level 0 b m
+            (k / 512) (Some (root_entry k)) (s.leaf b m k)
             (λ _ _ _ e. absurd (root_unassigned (nat_lt k 256) ripas_too granule e))
             (λ _ too. sound.leaves.apart a l n b m k granule ripas ripas_too at too));
       };
@@ -212,15 +221,18 @@ taken_realm_sound s rd sound tag childless =
         tagged = λ g l n granule e. kept granule Rtt refl refl ∙ sound.tables.tagged g l n granule (table g l n granule e).1;
         owned = λ g l n granule e. let owner = sound.tables.owned g l n granule (table g l n granule e).1 in
             (owner.0, left_at (g == rd) (s.realm g) owner.0 (table g l n granule e).0 owner.1, owner.2);
-        below = λ g l n granule r e f under. rw (realm g r f).0 (sound.tables.below g l n granule r (table g (suc l) n granule e).1 (realm g r f).1 under);
+        below = λ g l n granule r e f under. rw (realm g r f).0
+            (sound.tables.below g l n granule r (table g (suc l) n granule e).1 (realm g r f).1 under);
         apart = λ a l n b m k granule e f. sound.tables.apart a l n b m k granule (table a l n granule e).1 (table b m k granule f).1;
       };
       leaves = record {
         placed = λ g l n e at. rw (leaf g l n e at).0 (sound.leaves.placed g l n e (leaf g l n e at).1);
         unlinked = λ g l n e at. rw (leaf g l n e at).0 (sound.leaves.unlinked g l n e (leaf g l n e at).1);
-        complete = λ g l n there. complete_left (g == rd) (s.table g l (n / 512)) (s.table g (suc l) n) (s.leaf g l n) (sound.leaves.complete g l n) there;
+        complete = λ g l n there. complete_left (g == rd) (s.table g l (n / 512))
+            (s.table g (suc l) n) (s.leaf g l n) (sound.leaves.complete g l n) there;
         kinds = λ g l n e r at f. sound.leaves.kinds g l n e r (leaf g l n e at).1 (realm g r f).1;
         pages = λ g l n granule ripas at. kept granule Data refl refl ∙ sound.leaves.pages g l n granule ripas (leaf g l n _ at).1;
-        apart = λ a l n b m k granule ripas ripas_too at too. sound.leaves.apart a l n b m k granule ripas ripas_too (leaf a l n _ at).1 (leaf b m k _ too).1;
+        apart = λ a l n b m k granule ripas ripas_too at too.
+            sound.leaves.apart a l n b m k granule ripas ripas_too (leaf a l n _ at).1 (leaf b m k _ too).1;
       };
     }

@@ -1,13 +1,10 @@
 -- A REC's record is replaced, put in or taken out.
-use Rattle.std.proofs.Common.{◌≡◌, ℕ, ◌==◌, false, IsTrue, Some, is_some, refl, sym, ◌∙◌, ap}
-use Rattle.rmm_spec.specs.declared.tag.Tag.TheVariants.{Rd, Rec, RecAux}
-use Rattle.rmm_spec.specs.State.{State, RealmRecord, RecRecord, Request, Pending, RipasChange}
+use Rattle.rmm_sound.proofs.Common.{◌==◌, ◌∙◌, ◌≡◌, IsRequest, IsSound, IsTrue, Rd, RealmRecord, Rec, RecAux, RecRecord, Request, Some, State, ap, both_ways, false, has_tag, is_some, refl, runs_on, sym, ℕ}
+use Rattle.rmm_spec.specs.State.{Pending, RipasChange}
 use Rattle.rmm_spec.specs.Update.{with_rec}
-use Rattle.rmm_spec.specs.Lookup.{has_tag, runs_on}
-use Rattle.rmm_spec.specs.Sound.{IsRequest, IsSound, has_aux}
+use Rattle.rmm_spec.specs.Sound.{has_aux}
 use Rattle.rmm_sound.proofs.Cases.{by_address}
 use Rattle.rmm_sound.proofs.Kept.{same_realms, realms_kept, tables_kept, leaves_kept}
-use Rattle.lemmas.proofs.Tests.{both_ways}
 
 -- What a REC's record must say where it is put in the place of another: it is of the same realm, with the same auxiliary
 -- granules, and alone on its CPU.
@@ -54,7 +51,8 @@ with_rec_sound s a old new sound can =
             (λ here e. let is : new ≡ c = cc in rw (← is) (can.running p)) (λ _. sound.recs.running g c p);
         asked = λ g c. by_address (λ found. found ≡ Some c → c.pending ≡ Some RipasChange → IsTrue (is_some c.request)) g a (Some new) (s.rec g)
             (λ here e. let is : new ≡ c = cc in rw (← is) can.asked) (λ _. sound.recs.asked g c);
-        requests = λ g c r q. by_address (λ found. found ≡ Some c → s.realm c.owner ≡ Some r → c.request ≡ Some q → IsRequest r q) g a (Some new) (s.rec g)
+        requests = λ g c r q. by_address
+            (λ found. found ≡ Some c → s.realm c.owner ≡ Some r → c.request ≡ Some q → IsRequest r q) g a (Some new) (s.rec g)
             (λ here e. let is : new ≡ c = cc in rw (← is) (rw can.owner (can.requests r q))) (λ _. sound.recs.requests g c r q);
       };
       tables = tables_kept s t refl (same_realms s t refl) (λ _ _ _ _ _ has. has) sound.tables;

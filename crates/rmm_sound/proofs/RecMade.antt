@@ -1,17 +1,12 @@
 -- A REC is put in at a granule, or taken out.
-use Rattle.std.proofs.Common.{◌≡◌, ℕ, ◌==◌, false, IsTrue, Some, None, is_some, refl, sym, ◌∙◌}
-use Rattle.std.proofs.lemmas.Bool.{eq-eqb}
-use Rattle.rmm_spec.specs.declared.tag.Tag.{Tag}
-use Rattle.rmm_spec.specs.declared.tag.Tag.TheVariants.{Undelegated, Delegated, Rd, Rec, RecAux, Data, Rtt}
-use Rattle.rmm_spec.specs.State.{State, RecRecord, RipasChange}
-use Rattle.rmm_spec.specs.Update.{with_tag, with_rec, without_rec}
-use Rattle.rmm_spec.specs.Lookup.{has_tag, runs_on}
-use Rattle.rmm_spec.specs.Sound.{IsRequest, IsSound, has_aux}
-use Rattle.spec_lemmas.proofs.TagLaws.{tag-has_tag, granule_from_tag}
+use Rattle.rmm_sound.proofs.Common.{◌==◌, ◌∙◌, ◌≡◌, Data, IsRequest, IsSound, IsTrue, None, Rd, Rec, RecAux, RecRecord, Rtt, Some, State, Tag, Undelegated, both_ways, eq-eqb, false, granule_from_tag, has_tag, is_some, refl, runs_on, sym, tag-has_tag, with_tag, ℕ}
+use Rattle.rmm_spec.specs.declared.tag.Tag.TheVariants.{Delegated}
+use Rattle.rmm_spec.specs.State.{RipasChange}
+use Rattle.rmm_spec.specs.Update.{with_rec, without_rec}
+use Rattle.rmm_spec.specs.Sound.{has_aux}
 use Rattle.rmm_sound.proofs.Cases.{by_address, nothing_there}
 use Rattle.rmm_sound.proofs.Kept.{same_realms, realms_kept, tables_kept, leaves_kept}
 use Rattle.rmm_sound.proofs.Tags.{AreOther, has_tag-here, has_tag-elsewhere, has_tag-beside, has_tag-gone}
-use Rattle.lemmas.proofs.Tests.{both_ways}
 
 -- What a REC must be where it is put in: one of a realm, idle, and with two auxiliary granules that no other has.
 pub record CanBePut (s : State) (a : ℕ) (c : RecRecord) : Type 0 where
@@ -67,7 +62,8 @@ put_rec_sound s a c sound can =
             (λ here e. let is : c ≡ d = cc in rw (← is) (nothing_there can.pending)) (λ _. sound.recs.running g d p);
         asked = λ g d. by_address (λ found. found ≡ Some d → d.pending ≡ Some RipasChange → IsTrue (is_some d.request)) g a (Some c) (s.rec g)
             (λ here e. let is : c ≡ d = cc in rw (← is) (nothing_there can.pending)) (λ _. sound.recs.asked g d);
-        requests = λ g d r q. by_address (λ found. found ≡ Some d → s.realm d.owner ≡ Some r → d.request ≡ Some q → IsRequest r q) g a (Some c) (s.rec g)
+        requests = λ g d r q. by_address
+            (λ found. found ≡ Some d → s.realm d.owner ≡ Some r → d.request ≡ Some q → IsRequest r q) g a (Some c) (s.rec g)
             (λ here e. let is : c ≡ d = cc in rw (← is) (λ _. nothing_there can.request)) (λ _. sound.recs.requests g d r q);
       };
       tables = tables_kept s t refl (same_realms s t refl) (λ _ _ _ granule _ has. kept granule Rtt refl refl ∙ has) sound.tables;
@@ -114,7 +110,9 @@ taken_rec_sound s a sound tag =
 
 -- a REC's tag is given before those of its auxiliary granules, or after them
 pub tags_swapped : (s : State) (rec aux0 aux1 : ℕ) → (rec == aux0) ≡ false → (rec == aux1) ≡ false → (g : ℕ)
-    → (with_tag (with_tag (with_tag s aux0 RecAux) aux1 RecAux) rec Rec).tag g ≡ (with_tag (with_tag (with_tag s rec Rec) aux0 RecAux) aux1 RecAux).tag g
+    → (with_tag (with_tag (with_tag s aux0 RecAux) aux1 RecAux) rec Rec).tag g
+    ≡ (with_tag (with_tag (with_tag s rec Rec) aux0 RecAux) aux1 RecAux).tag g
 tags_swapped s rec aux0 aux1 apart0 apart1 g =
-    by_address (λ tag. tag ≡ (with_tag (with_tag (with_tag s rec Rec) aux0 RecAux) aux1 RecAux).tag g) g rec Rec ((with_tag (with_tag s aux0 RecAux) aux1 RecAux).tag g)
+    by_address (λ tag. tag ≡ (with_tag (with_tag (with_tag s rec Rec) aux0 RecAux) aux1 RecAux).tag g) g rec Rec
+    ((with_tag (with_tag s aux0 RecAux) aux1 RecAux).tag g)
     (λ here. rw here (rw (apart0, apart1, eq-eqb rec rec refl) refl)) (λ apart. rw apart refl)

@@ -1,6 +1,6 @@
 -- A record of a realm or of a REC is replaced by what a command makes of it.
-use Rattle.std.proofs.Common.{◌≡◌, ℕ, ◌==◌, ◌-◌, Bool, false, IsTrue, Option, Some, None, is_none, is_some, refl, ◌∙◌, ap, subst}
-use Rattle.std.proofs.lemmas.Bool.{false_from_ne_true, eq-eqb, eqb-true}
+use Rattle.rmm_sound.proofs.Common.{◌-◌, ◌==◌, ◌∙◌, ◌≡◌, Bool, IsRequest, IsSound, IsTrue, None, Option, Rd, RealmRecord, RecRecord, Request, Some, State, ap, both_ways, eq-eqb, eqb-true, false, false_from_ne_true, has_tag, is_some, realm_at, rec_at, refl, runs_on, subst, ℕ}
+use Rattle.std.proofs.Common.{is_none}
 use Rattle.std.proofs.lemmas.List.{length-set}
 use Rattle.rmm_spec.specs.declared.change.RealmChange.{RealmChange}
 use Rattle.rmm_spec.specs.declared.change.RealmUpdate.{RealmUpdate}
@@ -8,21 +8,17 @@ use Rattle.rmm_spec.specs.declared.change.RealmUpdate.TheVariants as realm_updat
 use Rattle.rmm_spec.specs.declared.change.RecChange.{RecChange}
 use Rattle.rmm_spec.specs.declared.change.RecUpdate.{RecUpdate}
 use Rattle.rmm_spec.specs.declared.change.RecUpdate.TheVariants as rec_update
-use Rattle.rmm_spec.specs.declared.tag.Tag.TheVariants.{Rd}
 use Rattle.rmm_spec.specs.declared.function_id.FunctionId.TheVariants as function
 use Rattle.rmm_spec.specs.Function.{number_of}
-use Rattle.rmm_spec.specs.State.{State, RealmRecord, RecRecord, Request, Pending, Psci, RipasChange, HostCall}
+use Rattle.rmm_spec.specs.State.{Pending, Psci, RipasChange, HostCall}
 use Rattle.rmm_spec.specs.Update.{with_realm}
-use Rattle.rmm_spec.specs.Lookup.{has_tag, runs_on, realm_at, rec_at}
 use Rattle.rmm_spec.specs.Change.{realm_updated, rec_updated, with_realm_change, with_rec_change}
-use Rattle.rmm_spec.specs.Sound.{IsRequest, IsSound}
 use Rattle.rmm_spec.specs.Applicable.{CanUpdateRec, CanChangeRealm, CanChangeRec}
 use Rattle.rmm_sound.proofs.Cases.{nothing_there}
 use Rattle.rmm_sound.proofs.Kept.{IsLike}
 use Rattle.rmm_sound.proofs.RealmChanged.{with_realm_sound}
 use Rattle.rmm_sound.proofs.RecChanged.{CanStandFor, with_rec_sound}
 use Rattle.rmm_sound.proofs.Searches.{none_runs, realm_there, rec_there, realm_at-is}
-use Rattle.lemmas.proofs.Tests.{both_ways}
 
 -- ---- realms
 
@@ -107,8 +103,10 @@ updated_stands (rec_update.RipasRequested base top ripas) s a old sound there ca
   requests = asks s old _ can.1;
 }
 updated_stands (rec_update.HostCalled imm) s a old sound there can = waits_stands s a old (HostCall imm) old.runnable sound there can (λ same. cc)
-updated_stands rec_update.TurnedOff s a old sound there can = waits_stands s a old (Psci (number_of function.CpuOff)) false sound there can (λ same. cc)
-updated_stands rec_update.SystemTurnedOff s a old sound there can = waits_stands s a old (Psci (number_of function.SystemOff)) old.runnable sound there can (λ same. cc)
+updated_stands rec_update.TurnedOff s a old sound there can =
+    waits_stands s a old (Psci (number_of function.CpuOff)) false sound there can (λ same. cc)
+updated_stands rec_update.SystemTurnedOff s a old sound there can =
+    waits_stands s a old (Psci (number_of function.SystemOff)) old.runnable sound there can (λ same. cc)
 updated_stands (rec_update.RequestMoved base) s a old sound there can = record {
   there = there;
   owner = refl;
@@ -130,7 +128,8 @@ rec_change_sound s (Some change) sound can =
 -- ---- both
 
 -- what a realm's record must be for a change is not a matter of RECs
-realm_change_later : (s : State) (realm : Option RealmChange) (rec : Option RecChange) → CanChangeRealm s realm → CanChangeRealm (with_rec_change s rec) realm
+realm_change_later : (s : State) (realm : Option RealmChange) (rec : Option RecChange)
+    → CanChangeRealm s realm → CanChangeRealm (with_rec_change s rec) realm
 unfolding has_tag
 realm_change_later s None rec can = can
 realm_change_later s (Some change) None can = can

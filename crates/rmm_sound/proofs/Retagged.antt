@@ -1,17 +1,8 @@
 -- A granule that nothing names gets another tag.
-use Rattle.std.proofs.Common.{◌≡◌, ℕ, ◌==◌, false, IsTrue, Some, sym, ◌∙◌}
-use Rattle.rmm_spec.specs.declared.entry.Entry.TheVariants.{Assigned}
-use Rattle.rmm_spec.specs.declared.tag.Ripas.{Ripas}
-use Rattle.rmm_spec.specs.declared.tag.Tag.{Tag}
-use Rattle.rmm_spec.specs.declared.tag.Tag.TheVariants.{Undelegated, Rd, Rec, RecAux, Data, Rtt}
-use Rattle.rmm_spec.specs.State.{State, RecRecord}
-use Rattle.rmm_spec.specs.Update.{with_tag}
-use Rattle.rmm_spec.specs.Lookup.{is_granule, has_tag}
-use Rattle.rmm_spec.specs.Sound.{IsSound}
-use Rattle.spec_lemmas.proofs.TagLaws.{tag-has_tag, granule_from_tag}
+use Rattle.rmm_sound.proofs.Common.{◌==◌, ◌∙◌, ◌≡◌, Assigned, Data, IsSound, IsTrue, Rd, Rec, RecAux, RecRecord, Ripas, Rtt, Some, State, Tag, Undelegated, both_ways, false, granule_from_tag, has_tag, sym, tag-has_tag, with_tag, ℕ}
+use Rattle.rmm_spec.specs.Lookup.{is_granule}
 use Rattle.rmm_sound.proofs.Cases.{by_address}
 use Rattle.rmm_sound.proofs.Tags.{AreOther, has_tag-elsewhere, has_tag-beside, tags_apart}
-use Rattle.lemmas.proofs.Tests.{both_ways}
 
 -- no REC, table or leaf names the granule
 pub record IsUnnamed (s : State) (a : ℕ) : Type 0 where
@@ -36,7 +27,8 @@ pub record IsPlain (tag : Tag) : Type 0 where
   pub no_rec : AreOther tag Rec
 
 -- a granule that nothing names gets a tag for which no record has to stand
-pub retagged_sound : (s : State) (a : ℕ) (tag : Tag) → IsSound s → IsTrue (is_granule s.config.granules a) → IsPlain (s.tag a) → IsPlain tag → IsUnnamed s a
+pub retagged_sound : (s : State) (a : ℕ) (tag : Tag)
+    → IsSound s → IsTrue (is_granule s.config.granules a) → IsPlain (s.tag a) → IsPlain tag → IsUnnamed s a
     → IsSound (with_tag s a tag)
 retagged_sound s a tag sound granule had gets unnamed =
     let rds : (g : ℕ) → has_tag (with_tag s a tag) g Rd ≡ has_tag s g Rd = λ g. has_tag-beside s a g tag Rd had.no_rd gets.no_rd in
@@ -76,7 +68,8 @@ retagged_sound s a tag sound granule had gets unnamed =
         unlinked = sound.leaves.unlinked;
         complete = sound.leaves.complete;
         kinds = sound.leaves.kinds;
-        pages = λ rd level number page ripas e. kept page Data (unnamed.page rd level number page ripas e) (sound.leaves.pages rd level number page ripas e);
+        pages = λ rd level number page ripas e. kept page Data
+            (unnamed.page rd level number page ripas e) (sound.leaves.pages rd level number page ripas e);
         apart = sound.leaves.apart;
       };
     }

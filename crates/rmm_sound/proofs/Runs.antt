@@ -40,12 +40,15 @@ carried_sound : (old : State) (cpu : ℕ) (command : Command) (given : Reply) (n
     → outcome old cpu (call_of command) ≡ result → CarriesOut result old given new → IsSound new
 carried_sound old cpu command given new (Err refusal) sound is step = subst IsSound (sym step.1) sound
 carried_sound old cpu command given new (Ok (Done words change)) sound is step =
-    subst IsSound (sym step.1) (changed_sound old change sound (accepted_applies old cpu (call_of command) (Done words change) sound (whole_command command) is))
+    subst IsSound (sym step.1)
+    (changed_sound old change sound (accepted_applies old cpu (call_of command) (Done words change) sound (whole_command command) is))
 carried_sound old cpu command given new (Ok (Reaches stretch)) sound is step =
-    subst IsSound (sym step.1.2) (changed_sound old (reached_change stretch step.0) sound (reached_applies old cpu command stretch step.0 sound is step.1.0))
+    subst IsSound (sym step.1.2)
+    (changed_sound old (reached_change stretch step.0) sound (reached_applies old cpu command stretch step.0 sound is step.1.0))
 
 -- a step keeps states sound
-pub step_sound : (old : State) (cpu : ℕ) (command : Command) (given : Reply) (new : State) → IsSound old → Step old cpu command given new → IsSound new
+pub step_sound : (old : State) (cpu : ℕ) (command : Command) (given : Reply) (new : State)
+    → IsSound old → Step old cpu command given new → IsSound new
 step_sound old cpu command given new sound step = carried_sound old cpu command given new (outcome old cpu (call_of command)) sound refl step
 
 -- a run keeps states sound

@@ -1,13 +1,9 @@
 -- What a search over all granules says of each address, and what stands at a tag.
-use Rattle.std.proofs.Common.{◌≡◌, ℕ, zero, suc, ◌*◌, ◌/◌, ◌%◌, ◌<◌, ◌==◌, Bool, true, false, IsTrue, Option, Some, None, is_some, refl, sym, ◌∙◌, ap, arith, nat_lt, ◌⊎◌, inl, inr, unwrap_or}
-use Rattle.std.proofs.lemmas.Bool.{and_parts, or_parts, eqb-true}
+use Rattle.rmm_sound.proofs.Common.{◌*◌, ◌/◌, ◌<◌, ◌==◌, ◌∙◌, ◌≡◌, Bool, IsSound, IsTrue, None, Option, Rd, RealmRecord, Rec, RecRecord, Some, State, and_parts, ap, arith, both_ways, eqb-true, false, granule_from_tag, has_tag, inl, inr, is_some, nat_lt, realm_at, rec_at, refl, runs_on, suc, sym, true, zero, ℕ}
+use Rattle.std.proofs.Common.{◌%◌, ◌⊎◌, unwrap_or}
+use Rattle.std.proofs.lemmas.Bool.{or_parts}
 use Rattle.std.proofs.lemmas.Bool.Decides.{nat_tests}
-use Rattle.rmm_spec.specs.declared.tag.Tag.TheVariants.{Rd, Rec}
-use Rattle.rmm_spec.specs.State.{State, RealmRecord, RecRecord}
-use Rattle.rmm_spec.specs.Lookup.{is_granule, has_tag, any_below, greatest_below, is_inside, rec_inside, runs_on, is_vmid_used, has_vmid, has_rec, is_owned_by, realm_at, rec_at}
-use Rattle.rmm_spec.specs.Sound.{IsSound}
-use Rattle.spec_lemmas.proofs.TagLaws.{granule_from_tag}
-use Rattle.lemmas.proofs.Tests.{both_ways}
+use Rattle.rmm_spec.specs.Lookup.{is_granule, any_below, greatest_below, is_inside, rec_inside, is_vmid_used, has_vmid, has_rec, is_owned_by}
 
 -- ---- searches
 

@@ -1,15 +1,13 @@
 -- Address spaces that a realm can have: their halves in entries of a level, and their roots.
-use Rattle.std.proofs.Common.{◌≡◌, ℕ, zero, suc, ◌+◌, ◌-◌, ◌*◌, ◌/◌, ◌^◌, ◌<◌, ◌≤◌, ◌==◌, ◌&&◌, ◌⊎◌, if◌then◌else◌, IsTrue, nat_lt, refl, inl, inr, arith}
-use Rattle.std.proofs.lemmas.Bool.{and_parts, or_cases, eqb-true, ltb-true, ltb-false}
+use Rattle.rmm_sound.proofs.Common.{◌&&◌, ◌*◌, ◌+◌, ◌-◌, ◌/◌, ◌<◌, ◌==◌, ◌≡◌, ◌≤◌, Assigned, Entry, IsLeafOf, IsTrue, RealmRecord, Unassigned, UnassignedNs, and_parts, arith, eqb-true, if◌then◌else◌, inl, inr, nat_lt, refl, suc, zero, ℕ}
+use Rattle.std.proofs.Common.{◌^◌, ◌⊎◌}
+use Rattle.std.proofs.lemmas.Bool.{or_cases, ltb-true, ltb-false}
 use Rattle.std.proofs.Math.Nat.{mul-le-mul_left}
 use Rattle.std.proofs.lemmas.Nat.{pow_pos}
-use Rattle.rmm_spec.specs.declared.entry.Entry.TheVariants.{Unassigned, Assigned, UnassignedNs}
-use Rattle.rmm_spec.specs.declared.entry.Entry.{Entry}
 use Rattle.rmm_spec.specs.declared.tag.Ripas.TheVariants.{Empty}
-use Rattle.rmm_spec.specs.State.{RealmRecord}
 use Rattle.rmm_spec.specs.Walk.{entry_size, half}
 use Rattle.rmm_spec.specs.Step.Terms.{is_space}
-use Rattle.rmm_spec.specs.Sound.{IsTableOf, IsLeafOf}
+use Rattle.rmm_spec.specs.Sound.{IsTableOf}
 use Rattle.rmm_spec.specs.Applicable.{IsVacant}
 use Rattle.rmm_sound.proofs.Cases.{choice}
 
@@ -21,7 +19,8 @@ space_cases width level space = elim (or_cases (width == 39 && level == 1) (widt
 ]
 
 -- a root lies at a level of its own
-pub root_is_table : (r : RealmRecord) → IsTrue (is_space r.width r.start_level) → (level number : ℕ) → level ≡ r.start_level → number ≡ 0 → IsTableOf r level number
+pub root_is_table : (r : RealmRecord) → IsTrue (is_space r.width r.start_level) → (level number : ℕ)
+    → level ≡ r.start_level → number ≡ 0 → IsTableOf r level number
 root_is_table r space level number at first = elim (space_cases r.width r.start_level space) [
   | inl small ↦ record {
     below_root = omega arith;
@@ -125,7 +124,8 @@ copies_fit (Unassigned ripas) r space up number n vacant above last in_table fit
     let size : entry_size up ≡ 512 * entry_size (suc up) = entry_size-suc up last in
     let below : number < count.0 = unscaled_lt number count.0 (entry_size up) (rw count.1 at fits) in
     let first : n < count.0 * 512 = omega arith in
-    let scaled : n * entry_size (suc up) < count.0 * 512 * entry_size (suc up) = scaled_lt n (count.0 * 512) (entry_size (suc up)) first (entry_size-pos (suc up)) in
+    let scaled : n * entry_size (suc up) < count.0 * 512 * entry_size (suc up) =
+    scaled_lt n (count.0 * 512) (entry_size (suc up)) first (entry_size-pos (suc up)) in
     rw (count.1, size) (omega arith)
 copies_fit UnassignedNs r space up number n vacant above last in_table fits =
     let count = half_in_entries r space up above (omega arith) in

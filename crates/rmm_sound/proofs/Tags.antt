@@ -1,13 +1,8 @@
 -- A granule's tag, before and after one is changed.
-use Rattle.std.proofs.Common.{◌≡◌, ℕ, ◌==◌, ◌&&◌, false, IsTrue, refl, sym, ◌∙◌, ap}
-use Rattle.std.proofs.lemmas.Bool.{and_from, and_right, eq-eqb, ne_eqb}
-use Rattle.rmm_spec.specs.declared.tag.Tag.{Tag}
-use Rattle.rmm_spec.specs.State.{State}
-use Rattle.rmm_spec.specs.Update.{with_tag}
-use Rattle.rmm_spec.specs.Lookup.{tag_number, is_granule, has_tag}
-use Rattle.spec_lemmas.proofs.TagLaws.{tag-has_tag}
+use Rattle.rmm_sound.proofs.Common.{◌&&◌, ◌==◌, ◌∙◌, ◌≡◌, IsTrue, State, Tag, ap, both_ways, eq-eqb, false, has_tag, refl, sym, tag-has_tag, with_tag, ℕ}
+use Rattle.std.proofs.lemmas.Bool.{and_from, and_right, ne_eqb}
+use Rattle.rmm_spec.specs.Lookup.{tag_number, is_granule}
 use Rattle.rmm_sound.proofs.Cases.{by_address}
-use Rattle.lemmas.proofs.Tests.{both_ways}
 
 -- the two tags differ
 abbrev pub AreOther : Tag → Tag → Type 0
@@ -30,7 +25,8 @@ pub has_tag-beside : (s : State) (a g : ℕ) (tag asked : Tag) → AreOther (s.t
     → has_tag (with_tag s a tag) g asked ≡ has_tag s g asked
 unfolding has_tag
 has_tag-beside s a g tag asked had gets =
-    by_address (λ t. (is_granule s.config.granules g && tag_number t == tag_number asked) ≡ (is_granule s.config.granules g && tag_number (s.tag g) == tag_number asked)) g a tag (s.tag g)
+    by_address (λ t. (is_granule s.config.granules g && tag_number t == tag_number asked)
+    ≡ (is_granule s.config.granules g && tag_number (s.tag g) == tag_number asked)) g a tag (s.tag g)
     (λ same. rw same (rw (had, gets) refl)) (λ _. refl)
 
 -- the granule has the tag no longer
@@ -41,7 +37,8 @@ has_tag-gone s a tag asked gets =
     (λ _. rw gets (and_right (is_granule s.config.granules a) false refl)) (λ apart. both_ways (eq-eqb a a refl) apart)
 
 -- granules of two tags differ
-pub tags_apart : (s : State) (g a : ℕ) (tag other : Tag) → IsTrue (has_tag s g tag) → IsTrue (has_tag s a other) → AreOther tag other → (g == a) ≡ false
+pub tags_apart : (s : State) (g a : ℕ) (tag other : Tag)
+    → IsTrue (has_tag s g tag) → IsTrue (has_tag s a other) → AreOther tag other → (g == a) ≡ false
 tags_apart s g a tag other has has_other differ =
     ne_eqb g a (λ same.
     let here : s.tag g ≡ other = rw same (tag-has_tag s a other has_other) in

@@ -1,17 +1,12 @@
 -- A table that may be taken out keeps nothing in use.
-use Rattle.std.proofs.Common.{◌≡◌, ℕ, zero, suc, ◌+◌, ◌-◌, ◌*◌, Bool, true, false, if◌then◌else◌, IsTrue, Some, None, is_some, refl}
+use Rattle.rmm_sound.proofs.Common.{◌*◌, ◌+◌, ◌≡◌, Bool, Entry, IsTrue, None, Ripas, Some, State, Unassigned, UnassignedNs, both_ways, entry_at, false, if◌then◌else◌, is_some, refl, suc, true, zero, ℕ}
 use Rattle.std.proofs.lemmas.Bool.{or_parts}
 use Rattle.rmm_spec.specs.declared.call.Removal.{Removal}
 use Rattle.rmm_spec.specs.declared.call.Removal.TheVariants.{Destroy, Fold}
-use Rattle.rmm_spec.specs.declared.entry.Entry.{Entry}
-use Rattle.rmm_spec.specs.declared.entry.Entry.TheVariants.{Unassigned, UnassignedNs}
 use Rattle.rmm_spec.specs.declared.entry.EntryTest.TheVariants.{Unlike}
-use Rattle.rmm_spec.specs.declared.tag.Ripas.{Ripas}
-use Rattle.rmm_spec.specs.State.{State}
 use Rattle.rmm_spec.specs.Lookup.{any_below}
-use Rattle.rmm_spec.specs.Walk.{entry_at, is_live, is_unlike, has_entry, is_in_use, entry_ripas}
+use Rattle.rmm_spec.specs.Walk.{is_live, is_unlike, has_entry, is_in_use, entry_ripas}
 use Rattle.rmm_spec.specs.Step.Table.{ripas_left}
-use Rattle.lemmas.proofs.Tests.{both_ways}
 
 -- what is there only where a test fails
 fails_there : (test : Bool) (ripas : Ripas) → IsTrue (is_some (if test then None else Some ripas)) → test ≡ false
@@ -31,7 +26,8 @@ alike_idle UnassignedNs UnassignedNs alike = refl
 alike_idle _ _ alike = both_ways refl alike
 
 -- a table that may be taken out isn't in use
-pub left_unused : (s : State) (removal : Removal) (rd level number : ℕ) → IsTrue (is_some (ripas_left removal s rd level number)) → is_in_use s rd level number ≡ false
+pub left_unused : (s : State) (removal : Removal) (rd level number : ℕ)
+    → IsTrue (is_some (ripas_left removal s rd level number)) → is_in_use s rd level number ≡ false
 unfolding ripas_left has_entry
 left_unused s Destroy rd level number there = fails_there (is_in_use s rd level number) _ there
 left_unused s Fold rd level number there =

@@ -1,27 +1,21 @@
 -- Where a walk for an address of a realm ends: at a table that stands, at a level from the root's on.
-use Rattle.std.proofs.Common.{◌≡◌, ℕ, ◌+◌, ◌*◌, ◌/◌, ◌%◌, ◌^◌, ◌<◌, ◌≤◌, true, false, IsTrue, Some, is_some, refl, sym, ◌∙◌, ap, subst, arith, inl, inr}
-use Rattle.std.proofs.lemmas.Bool.{eqb-true}
+use Rattle.rmm_sound.proofs.Common.{◌*◌, ◌+◌, ◌/◌, ◌<◌, ◌∙◌, ◌≡◌, ◌≤◌, Assigned, Entry, IsSound, IsTrue, Rd, RealmRecord, Ripas, Some, State, Unassigned, UnassignedNs, ap, arith, both_ways, eqb-true, false, has_tag, inl, inr, is_some, is_table, realm_at, refl, subst, sym, true, ℕ}
+use Rattle.std.proofs.Common.{◌%◌, ◌^◌}
 use Rattle.std.proofs.Math.Nat.{div-add-mod, div-div-eq-div-mul}
-use Rattle.rmm_spec.specs.declared.entry.Entry.{Entry}
-use Rattle.rmm_spec.specs.declared.entry.Entry.TheVariants.{Unassigned, Assigned, UnassignedNs, AssignedNs}
-use Rattle.rmm_spec.specs.declared.tag.Ripas.{Ripas}
-use Rattle.rmm_spec.specs.declared.tag.Tag.TheVariants.{Rd}
-use Rattle.rmm_spec.specs.State.{State, RealmRecord}
-use Rattle.rmm_spec.specs.Lookup.{has_tag, realm_at}
-use Rattle.rmm_spec.specs.Walk.{entry_size, table_size, entry_number, table_number, full, half, is_multiple, is_table, is_assigned, is_unassigned, is_unassigned_ns, is_assigned_ns, entry_address, reach}
+use Rattle.rmm_spec.specs.declared.entry.Entry.TheVariants.{AssignedNs}
+use Rattle.rmm_spec.specs.Walk.{entry_size, table_size, entry_number, table_number, full, half, is_multiple, is_assigned, is_unassigned, is_unassigned_ns, is_assigned_ns, entry_address, reach}
 use Rattle.rmm_spec.specs.Step.Terms.{is_space}
-use Rattle.rmm_spec.specs.Sound.{IsSound}
 use Rattle.spec_lemmas.proofs.WalkLaws.{reach-le, reach-covers, table_size-entries}
 use Rattle.rmm_sound.proofs.Searches.{realm_there}
 use Rattle.rmm_sound.proofs.Spaces.{space_cases}
-use Rattle.lemmas.proofs.Tests.{both_ways}
 
 -- ---- addresses and numbers
 
 -- an entry begins at its address or before
 pub entry_starts : (level ipa : ℕ) → entry_number level ipa * entry_size level ≤ ipa
 unfolding entry_number
-entry_starts level ipa = let whole : entry_size level * (ipa / entry_size level) + ipa % entry_size level ≡ ipa = div-add-mod ipa (entry_size level) in omega arith
+entry_starts level ipa =
+    let whole : entry_size level * (ipa / entry_size level) + ipa % entry_size level ≡ ipa = div-add-mod ipa (entry_size level) in omega arith
 
 -- and at its address, if that is a multiple of its size
 pub entry_begins : (level ipa : ℕ) → IsTrue (is_multiple ipa (entry_size level)) → entry_number level ipa * entry_size level ≡ ipa
@@ -33,7 +27,8 @@ entry_begins level ipa multiple =
 -- a table begins at its address or before
 pub table_starts : (level ipa : ℕ) → table_number level ipa * table_size level ≤ ipa
 unfolding table_number
-table_starts level ipa = let whole : table_size level * (ipa / table_size level) + ipa % table_size level ≡ ipa = div-add-mod ipa (table_size level) in omega arith
+table_starts level ipa =
+    let whole : table_size level * (ipa / table_size level) + ipa % table_size level ≡ ipa = div-add-mod ipa (table_size level) in omega arith
 
 -- an entry's table, by their numbers
 pub table_number-entry : (level ipa : ℕ) → level ≤ 3 → table_number level ipa ≡ entry_number level ipa / 512
@@ -94,7 +89,8 @@ walked s rd ipa max sound tag below above last =
     }
 
 -- a walk to the last level for an address of the protected half
-pub walked_protected : (s : State) (rd ipa : ℕ) → IsSound s → IsTrue (has_tag s rd Rd) → ipa < half (realm_at s rd) → IsWalked s rd ipa (reach s rd ipa 3)
+pub walked_protected : (s : State) (rd ipa : ℕ)
+    → IsSound s → IsTrue (has_tag s rd Rd) → ipa < half (realm_at s rd) → IsWalked s rd ipa (reach s rd ipa 3)
 walked_protected s rd ipa sound tag below =
     let space = space_there s rd sound tag in
     walked s rd ipa 3 sound tag (omega (arith, half_below (realm_at s rd) space)) (omega (arith, start_above (realm_at s rd) space)) (omega arith)

@@ -19,7 +19,8 @@ words_at words place (suc count) = slice_index words place ∷ words_at words (p
 unfoldable pub call_from : FunctionId → List ℕ → Call
 call_from function.GranuleDelegate w = call.GranuleDelegate (slice_index w 0)
 call_from function.GranuleUndelegate w = call.GranuleUndelegate (slice_index w 0)
-call_from function.DataCreate w = call.DataCreate (slice_index w 0) (slice_index w 1) (slice_index w 2) (slice_index w 3) (slice_index w 4) (words_at w 5 4)
+call_from function.DataCreate w =
+    call.DataCreate (slice_index w 0) (slice_index w 1) (slice_index w 2) (slice_index w 3) (slice_index w 4) (words_at w 5 4)
 call_from function.DataCreateUnknown w = call.DataCreateUnknown (slice_index w 0) (slice_index w 1) (slice_index w 2)
 call_from function.DataDestroy w = call.DataDestroy (slice_index w 0) (slice_index w 1)
 call_from function.RealmActivate w = call.RealmActivate (slice_index w 0)

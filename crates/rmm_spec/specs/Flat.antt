@@ -28,7 +28,8 @@ table_granule granules tables rd level number =
 -- the leaf of that number, in the table of which it is an entry
 unfoldable pub leaf_in_tables : ℕ → (ℕ → Option TableRecord) → ℕ → ℕ → ℕ → Option Entry
 leaf_in_tables granules tables rd level number =
-    option_and_then (λ granule. option_and_then (λ (table : TableRecord). option_and_then leaf_of (slice_get table.entries (number % 512))) (tables granule))
+    option_and_then
+    (λ granule. option_and_then (λ (table : TableRecord). option_and_then leaf_of (slice_get table.entries (number % 512))) (tables granule))
     (table_granule granules tables rd level (number / 512))
 
 unfoldable pub flat_state : Config → (ℕ → Cell) → State

@@ -53,7 +53,9 @@ row_of Exit = function 1 0 (Recs ∷ [])
 -- all of them
 abbrev pub functions : List FunctionId
 functions =
-    GranuleDelegate ∷ GranuleUndelegate ∷ DataCreate ∷ DataCreateUnknown ∷ DataDestroy ∷ RealmActivate ∷ RealmCreate ∷ RealmDestroy ∷ RecCreate ∷ RecDestroy ∷ RecEnter ∷ RttCreate ∷ RttDestroy ∷ RttMapUnprotected ∷ RttReadEntry ∷ RttUnmapUnprotected ∷ RttFold ∷ RttInitRipas ∷ RttSetRipas ∷ MeasurementRead ∷ MeasurementExtend ∷ RealmConfig ∷ IpaStateSet ∷ IpaStateGet ∷ HostCall ∷ CpuOff ∷ SystemOff ∷ Exit ∷ []
+    GranuleDelegate ∷ GranuleUndelegate ∷ DataCreate ∷ DataCreateUnknown ∷ DataDestroy ∷ RealmActivate ∷ RealmCreate ∷ RealmDestroy ∷ RecCreate
+    ∷ RecDestroy ∷ RecEnter ∷ RttCreate ∷ RttDestroy ∷ RttMapUnprotected ∷ RttReadEntry ∷ RttUnmapUnprotected ∷ RttFold ∷ RttInitRipas
+    ∷ RttSetRipas ∷ MeasurementRead ∷ MeasurementExtend ∷ RealmConfig ∷ IpaStateSet ∷ IpaStateGet ∷ HostCall ∷ CpuOff ∷ SystemOff ∷ Exit ∷ []
 
 -- the number of a function
 unfoldable pub number_of : FunctionId → ℕ

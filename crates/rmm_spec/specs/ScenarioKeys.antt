@@ -18,7 +18,8 @@ pub record Document (Value : Type 0) : Type 0 where
   pub value_at : List ℕ → Option Value
 
 abbrev pub is_key : List ℕ → Bool
-is_key key = list_any (λ known. bytes_eq known key) (codes "granules" ∷ codes "cpus" ∷ codes "programs" ∷ codes "queue" ∷ codes "turns" ∷ codes "limit" ∷ codes "version" ∷ [])
+is_key key = list_any (λ known. bytes_eq known key)
+    (codes "granules" ∷ codes "cpus" ∷ codes "programs" ∷ codes "queue" ∷ codes "turns" ∷ codes "limit" ∷ codes "version" ∷ [])
 
 -- what the values are, where all are of one kind
 abbrev pub each_value : {Value A : Type 0} → (Value → Option A) → List Value → Option (List A)

@@ -83,7 +83,8 @@ answer_of s cpu given = answer_by (class_of given) s cpu given
 
 -- what a proof unfolds to open each command's rows
 unfoldable pub commands : ⊤
-unfolding granule_delegate granule_undelegate realm_create realm_activate realm_destroy rec_create rec_destroy rec_enter rtt_create rtt_remove rtt_read_entry data_create data_create_unknown data_destroy rtt_map_unprotected rtt_unmap_unprotected rtt_init_ripas rtt_set_ripas realm_calls
+unfolding granule_delegate granule_undelegate realm_create realm_activate realm_destroy rec_create rec_destroy rec_enter rtt_create rtt_remove
+    rtt_read_entry data_create data_create_unknown data_destroy rtt_map_unprotected rtt_unmap_unprotected rtt_init_ripas rtt_set_ripas realm_calls
 commands = tt
 
 -- what the specification answers to a command of the CPU: a refusal, or what is done

@@ -15,13 +15,15 @@ module _ (same : Kind) where
   tail : (k : Kind) (kinds : List Kind) → AreCopies (k ∷ kinds) → AreCopies kinds
   tail k kinds all = λ n d below. all (suc n) d (omega (arith, below))
 
-  more : (kinds : List Kind) (i : ℕ) (x : Kind) → i < length kinds → AreCopies (take i kinds) → get_or kinds i x ≡ same → AreCopies (take (suc i) kinds)
+  more : (kinds : List Kind) (i : ℕ) (x : Kind)
+      → i < length kinds → AreCopies (take i kinds) → get_or kinds i x ≡ same → AreCopies (take (suc i) kinds)
   more [] i x within all here = absurd (omega (arith, within))
   more (k ∷ kinds) zero x within all here = cons k [] here (λ n d below. absurd (omega (arith, below)))
   more (k ∷ kinds) (suc i) x within all here =
       cons k (take (suc i) kinds) (all 0 x (omega arith)) (more kinds i x (omega (arith, within)) (tail k (take i kinds) all) here)
 
-  less : (kinds : List Kind) (i : ℕ) (x : Kind) → i < length kinds → AreCopies (take (suc i) kinds) → AreCopies (take i kinds) × (get_or kinds i x ≡ same)
+  less : (kinds : List Kind) (i : ℕ) (x : Kind)
+      → i < length kinds → AreCopies (take (suc i) kinds) → AreCopies (take i kinds) × (get_or kinds i x ≡ same)
   less [] i x within all = absurd (omega (arith, within))
   less (k ∷ kinds) zero x within all = (λ n d below. absurd (omega (arith, below)), all 0 x (omega arith))
   less (k ∷ kinds) (suc i) x within all =

@@ -25,10 +25,12 @@ count-within test [] = omega arith
 count-within test (e ∷ entries) = omega (arith, one_if-le (test e), count-within test entries)
 
 -- an entry that passes is counted
-pub count-at : (test : Entry → Bool) (entries : List Entry) (i : ℕ) (e : Entry) → slice_get entries i ≡ Some e → one_if (test e) ≤ count_of test entries
+pub count-at : (test : Entry → Bool) (entries : List Entry) (i : ℕ) (e : Entry)
+    → slice_get entries i ≡ Some e → one_if (test e) ≤ count_of test entries
 unfolding count_of
 count-at test [] i e at = absurd (none-some e at)
-count-at test (x ∷ entries) zero e at = let same : one_if (test x) ≡ one_if (test e) = ap (λ y. one_if (test y)) (same_Some x e at) in omega (arith, same)
+count-at test (x ∷ entries) zero e at =
+    let same : one_if (test x) ≡ one_if (test e) = ap (λ y. one_if (test y)) (same_Some x e at) in omega (arith, same)
 count-at test (x ∷ entries) (suc i) e at = omega (arith, count-at test entries i e at)
 
 -- some entry passes where the count isn't 0
@@ -37,7 +39,8 @@ unfolding count_of
 count-any test [] = refl
 count-any test (e ∷ entries) = by (test e) (count-any test entries)
   where
-    by : (b : Bool) → nat_lt 0 (count_of test entries) ≡ list_any test entries → nat_lt 0 (one_if b + count_of test entries) ≡ (b || list_any test entries)
+    by : (b : Bool) → nat_lt 0 (count_of test entries) ≡ list_any test entries
+        → nat_lt 0 (one_if b + count_of test entries) ≡ (b || list_any test entries)
     by true rest = lt-ltb 0 (1 + count_of test entries) (omega arith)
     by false rest = let same : 0 + count_of test entries ≡ count_of test entries = omega arith in ap (λ n. nat_lt 0 n) same ∙ rest
 
@@ -84,7 +87,8 @@ count-parts test (suc n) [] = refl
 count-parts test (suc n) (x ∷ xs) = omega (arith, count-parts test n xs)
 
 -- a change of a stretch's RIPAS leaves the count of what doesn't look at RIPAS
-pub count-ripas : (test : Entry → Bool) (first last : ℕ) (ripas : Ripas) (xs : List Entry) → ((e : Entry) → test (entry_with_ripas ripas e) ≡ test e) → first ≤ last
+pub count-ripas : (test : Entry → Bool) (first last : ℕ) (ripas : Ripas) (xs : List Entry)
+    → ((e : Entry) → test (entry_with_ripas ripas e) ≡ test e) → first ≤ last
     → count_of test (entries_with_ripas first last ripas xs) ≡ count_of test xs
 unfolding entries_with_ripas
 count-ripas test first last ripas xs same order =
@@ -125,7 +129,8 @@ counts-halves n m lower upper live links first second = record {
     both test = omega (arith, count-append test (replicate n lower) (replicate m upper), count-copies test n lower, count-copies test m upper)
 
 -- those of entries of which one is replaced
-pub counts-set : (entries : List Entry) (live links live' links' at : ℕ) (old new : Entry) → AreCounts entries live links → slice_get entries at ≡ Some old
+pub counts-set : (entries : List Entry) (live links live' links' at : ℕ) (old new : Entry)
+    → AreCounts entries live links → slice_get entries at ≡ Some old
     → live' + one_if (is_live old) ≡ live + one_if (is_live new) → links' + one_if (is_table old) ≡ links + one_if (is_table new)
     → AreCounts (slice_set entries at new) live' links'
 counts-set entries live links live' links' at old new counts there first second = record {

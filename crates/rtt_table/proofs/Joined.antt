@@ -27,7 +27,8 @@ joined_back [] = refl
 joined_back (e ∷ entries) = λ i. entry_back e i ∷ joined_back entries i
 
 -- the columns of entries stand for them
-pub joined_is : (entries : List Entry) (kinds : List Kind) (addresses : List ℕ) → AreColumns entries kinds addresses → joined kinds addresses ≡ entries
+pub joined_is : (entries : List Entry) (kinds : List Kind) (addresses : List ℕ)
+    → AreColumns entries kinds addresses → joined kinds addresses ≡ entries
 joined_is entries kinds addresses columns = (λ i. joined (columns.of_kinds i) (columns.of_addresses i)) ∙ joined_back entries
 
 -- so they are the columns of what they stand for
@@ -72,14 +73,16 @@ columns-size entries kinds addresses columns = (
 )
 
 -- the entry at a place is that of the kind and the address there
-pub columns-at : (entries : List Entry) (kinds : List Kind) (addresses : List ℕ) (i : ℕ) (kind : Kind) (address : ℕ) → AreColumns entries kinds addresses
+pub columns-at : (entries : List Entry) (kinds : List Kind) (addresses : List ℕ) (i : ℕ) (kind : Kind) (address : ℕ)
+    → AreColumns entries kinds addresses
     → i < length entries → kind ≡ get_or kinds i kind → address ≡ get_or addresses i address → slice_get entries i ≡ Some (entry_from kind address)
 columns-at entries kinds addresses i kind address columns within is_kind is_address =
     let e = get_or entries i UnassignedNs in
     let same_kind : kind_of e ≡ kind =
     sym (get_or-map kind_of entries i UnassignedNs kind within) ∙ (ap (λ ks. get_or ks i kind) (sym columns.of_kinds) ∙ sym is_kind) in
     let same_address : entry_address e ≡ address =
-    sym (get_or-map entry_address entries i UnassignedNs address within) ∙ (ap (λ cells. get_or cells i address) (sym columns.of_addresses) ∙ sym is_address) in
+    sym (get_or-map entry_address entries i UnassignedNs address within)
+    ∙ (ap (λ cells. get_or cells i address) (sym columns.of_addresses) ∙ sym is_address) in
     slice_get-get_or entries i UnassignedNs within ∙ ap Some (sym (entry_back e) ∙ (λ t. entry_from (same_kind t) (same_address t)))
 
 -- those of entries of which one is replaced
@@ -131,19 +134,23 @@ stretch-ends : (first last : ℕ) (ripas : Ripas) (entries : List Entry) → fir
 unfolding entries_with_ripas
 stretch-ends first last ripas entries order =
     let reach : first + (last - first) ≡ last = omega arith in
-    let ends : drop (last - first) (drop first entries) ≡ drop last entries = drop-drop (last - first) first entries ∙ ap (λ (n : ℕ). drop n entries) reach in
+    let ends : drop (last - first) (drop first entries) ≡ drop last entries =
+    drop-drop (last - first) first entries ∙ ap (λ (n : ℕ). drop n entries) reach in
     ap (λ (rest : List Entry). take first entries ++ (map (entry_with_ripas ripas) (take (last - first) (drop first entries)) ++ rest)) ends
 
 -- those of entries of which a stretch has another RIPAS: the kinds of the stretch change, and no address does
-columns-ripas : (entries : List Entry) (kinds changed : List Kind) (addresses : List ℕ) (first last : ℕ) (ripas : Ripas) → AreColumns entries kinds addresses
+columns-ripas : (entries : List Entry) (kinds changed : List Kind) (addresses : List ℕ) (first last : ℕ) (ripas : Ripas)
+    → AreColumns entries kinds addresses
     → first ≤ last → changed ≡ map (kind_with_ripas ripas) (slice_range kinds first last)
     → AreColumns (entries_with_ripas first last ripas entries) (put_mid first (last - first) kinds changed) addresses
 columns-ripas entries kinds changed addresses first last ripas columns order is_changed =
     let m : ℕ = last - first in
     let ends = stretch-ends first last ripas entries order in
-    let written : put_mid first m kinds changed ≡ take first kinds ++ (map (kind_with_ripas ripas) (take m (drop first kinds)) ++ drop m (drop first kinds)) =
+    let written : put_mid first m kinds changed
+    ≡ take first kinds ++ (map (kind_with_ripas ripas) (take m (drop first kinds)) ++ drop m (drop first kinds)) =
     ap (λ (middle : List Kind). take first kinds ++ (middle ++ drop m (drop first kinds))) is_changed in
-    let told = ap (λ (ks : List Kind). take first ks ++ (map (kind_with_ripas ripas) (take m (drop first ks)) ++ drop m (drop first ks))) columns.of_kinds in
+    let told =
+    ap (λ (ks : List Kind). take first ks ++ (map (kind_with_ripas ripas) (take m (drop first ks)) ++ drop m (drop first ks))) columns.of_kinds in
     record {
       of_kinds = (written ∙ told) ∙ (sym (map-stretch kind_of (entry_with_ripas ripas) (kind_with_ripas ripas) (kind-ripas ripas) m first entries)
           ∙ ap (λ (es : List Entry). map kind_of es) ends);
@@ -152,7 +159,8 @@ columns-ripas entries kinds changed addresses first last ripas columns order is_
     }
 
 -- entries with the same addresses are as many
-pub as_many : (entries others : List Entry) (kinds changed : List Kind) (addresses : List ℕ) → AreColumns entries kinds addresses → AreColumns others changed addresses
+pub as_many : (entries others : List Entry) (kinds changed : List Kind) (addresses : List ℕ)
+    → AreColumns entries kinds addresses → AreColumns others changed addresses
     → length others ≡ length entries
 as_many entries others kinds changed addresses columns changes =
     sym (length-map others entry_address)
@@ -175,5 +183,7 @@ columns-ripas-written entries kinds changed addresses first last ripas n before 
     let columns = columns-ripas entries kinds changed addresses first last ripas before order is_changed in
     let size : length written ≡ n =
     (columns-size (entries_with_ripas first last ripas entries) written addresses columns).0
-    ∙ (as_many entries (entries_with_ripas first last ripas entries) kinds written addresses before columns ∙ (sym (columns-size entries kinds addresses before).0 ∙ sym at)) in
-    subst (λ (ks : List Kind). AreColumns (entries_with_ripas first last ripas entries) ks addresses) (sym (whole-written n written (drop (length written) kinds) size)) columns
+    ∙ (as_many entries (entries_with_ripas first last ripas entries) kinds written addresses before columns
+    ∙ (sym (columns-size entries kinds addresses before).0 ∙ sym at)) in
+    subst (λ (ks : List Kind). AreColumns (entries_with_ripas first last ripas entries) ks addresses)
+    (sym (whole-written n written (drop (length written) kinds) size)) columns

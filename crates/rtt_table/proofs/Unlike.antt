@@ -41,7 +41,8 @@ live-unlike UnassignedNs _ = refl
 live-unlike _ e = or_right (is_live e) true refl
 
 -- so where a live one is found, one that is looked for is
-pub live-any : (first : Entry) (entries : List Entry) → (list_any is_live entries || list_any (is_unlike first) entries) ≡ list_any (is_unlike first) entries
+pub live-any : (first : Entry) (entries : List Entry)
+    → (list_any is_live entries || list_any (is_unlike first) entries) ≡ list_any (is_unlike first) entries
 live-any first [] = refl
 live-any first (e ∷ entries) =
     by (is_live e) (list_any is_live entries) (is_unlike first e) (list_any (is_unlike first) entries) (live-unlike first e) (live-any first entries)

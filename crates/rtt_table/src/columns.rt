@@ -35,7 +35,8 @@ impl Model for Columns {
 
     ghost view = { λ c. joined c.kinds.items c.addresses.items };
 
-    ghost invariant = { λ c. (length (joined c.kinds.items c.addresses.items) ≡ 512) × AreColumns (joined c.kinds.items c.addresses.items) c.kinds.items c.addresses.items };
+    ghost invariant = { λ c. (length (joined c.kinds.items c.addresses.items) ≡ 512)
+        × AreColumns (joined c.kinds.items c.addresses.items) c.kinds.items c.addresses.items };
 }
 
 impl Columns {

@@ -52,7 +52,8 @@ unfolding flat_table
 flat_table-none-by cells root ipa max w placed level below nothing None is_found = rw is_found refl
 flat_table-none-by cells root ipa max w placed level below nothing (Some c) is_found =
     let spot = found_at_spot cells w.table.place.rd level (table_number level ipa) c placed is_found in
-    absurd (nothing c.granule c.table (on_path_from_spot cells w.table.place.rd w.table.place.level ipa level c.granule c.table spot below) spot.is_level)
+    absurd (nothing c.granule c.table
+    (on_path_from_spot cells w.table.place.rd w.table.place.level ipa level c.granule c.table spot below) spot.is_level)
 
 -- the same, whatever the cells have at the level
 flat_table-none : (cells : List TableCell) (root ipa max : ℕ) (w : IsWalkable cells root ipa max) → ArePlaced cells
@@ -137,7 +138,8 @@ entry_for-leaf cells root ipa max w placed s pa level entry end no_link =
     let there : slice_get at.cell.table.entries (number % 512) ≡ Some entry = rw at.is_table end.is_entry in
     let leaf = flat_leaf-found cells rd level number at.cell entry found there no_link in
     let none : flat_table cells rd (level + 1) number ≡ None =
-    rw (add-one level, ← (table_number-suc level ipa)) (no_table_below cells root ipa max w placed pa level entry end no_link (suc level) (omega arith)) in
+    rw (add-one level, ← (table_number-suc level ipa))
+    (no_table_below cells root ipa max w placed pa level entry end no_link (suc level) (omega arith)) in
     rw (below-none-by cells rd level number (nat_lt level 3) none, leaf, no_link) refl
 
 -- what was reached is the entry of the flat tables
@@ -145,10 +147,13 @@ entry_is : (cells : List TableCell) (root ipa max : ℕ) (w : IsWalkable cells r
     → (pa level : ℕ) (entry : Entry) → IsEnd cells root ipa max w pa level entry
     → entry ≡ entry_for (with_tables s cells) w.table.place.rd level ipa
 entry_is cells root ipa max w placed s pa level (Table next) end = entry_for-link cells root ipa max w placed s pa level (Table next) end next refl
-entry_is cells root ipa max w placed s pa level (Unassigned ripas) end = entry_for-leaf cells root ipa max w placed s pa level (Unassigned ripas) end refl
-entry_is cells root ipa max w placed s pa level (Assigned ripas granule) end = entry_for-leaf cells root ipa max w placed s pa level (Assigned ripas granule) end refl
+entry_is cells root ipa max w placed s pa level (Unassigned ripas) end =
+    entry_for-leaf cells root ipa max w placed s pa level (Unassigned ripas) end refl
+entry_is cells root ipa max w placed s pa level (Assigned ripas granule) end =
+    entry_for-leaf cells root ipa max w placed s pa level (Assigned ripas granule) end refl
 entry_is cells root ipa max w placed s pa level UnassignedNs end = entry_for-leaf cells root ipa max w placed s pa level UnassignedNs end refl
-entry_is cells root ipa max w placed s pa level (AssignedNs page) end = entry_for-leaf cells root ipa max w placed s pa level (AssignedNs page) end refl
+entry_is cells root ipa max w placed s pa level (AssignedNs page) end =
+    entry_for-leaf cells root ipa max w placed s pa level (AssignedNs page) end refl
 
 -- the end of the links is the walk
 pub walk_from_end : (cells : List TableCell) (root ipa max : ℕ) (w : IsWalkable cells root ipa max) → ArePlaced cells → (s : State)

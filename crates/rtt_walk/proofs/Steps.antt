@@ -36,7 +36,8 @@ root_is_reached cells root ipa max pa level entry w read =
     }
 
 -- the table that a link of what was reached leads to, with its level
-pub next_table : (cells : List TableCell) (root ipa max pa level next : ℕ) (entry : Entry) → (at : IsReached cells root ipa max pa level entry) → entry ≡ Table next
+pub next_table : (cells : List TableCell) (root ipa max pa level next : ℕ) (entry : Entry)
+    → (at : IsReached cells root ipa max pa level entry) → entry ≡ Table next
     → (t : TableRecord) × (OnPath cells root ipa max at.walkable next t) × (t.place.level ≡ suc level) × (t.place.level ≤ 3)
 next_table cells root ipa max pa level next entry at is_link =
     let link : LinksTo at.table ipa next = rw at.is_level (at.is_entry ∙ ap (λ (x : Entry). Some x) is_link) in
@@ -44,13 +45,15 @@ next_table cells root ipa max pa level next entry at is_link =
     (child.0, child.1, child.2 ∙ ap (λ (x : ℕ). suc x) at.is_level, at.walkable.levels next child.0 child.1)
 
 -- a link of what was reached leads to a table
-pub next_is_held : (cells : List TableCell) (root ipa max pa level next : ℕ) (entry : Entry) → IsReached cells root ipa max pa level entry → entry ≡ Table next
+pub next_is_held : (cells : List TableCell) (root ipa max pa level next : ℕ) (entry : Entry)
+    → IsReached cells root ipa max pa level entry → entry ≡ Table next
     → (t : TableRecord) × (table_in cells next ≡ Some t)
 next_is_held cells root ipa max pa level next entry at is_link =
     let child = next_table cells root ipa max pa level next entry at is_link in (child.0, child.1.is_held)
 
 -- the level of what is read there
-pub next_level : (cells : List TableCell) (root ipa max pa level next to below : ℕ) (entry read_entry : Entry) → IsReached cells root ipa max pa level entry
+pub next_level : (cells : List TableCell) (root ipa max pa level next to below : ℕ) (entry read_entry : Entry)
+    → IsReached cells root ipa max pa level entry
     → entry ≡ Table next → IsRead cells ipa next to below read_entry → (below ≡ suc level) × (below ≤ 3)
 next_level cells root ipa max pa level next to below entry read_entry at is_link read =
     let child = next_table cells root ipa max pa level next entry at is_link in
@@ -59,7 +62,8 @@ next_level cells root ipa max pa level next to below entry read_entry at is_link
     (is_level ∙ child.2, omega (arith, child.3))
 
 -- what is read there is reached
-pub next_is_reached : (cells : List TableCell) (root ipa max pa level next to below : ℕ) (entry read_entry : Entry) → IsReached cells root ipa max pa level entry
+pub next_is_reached : (cells : List TableCell) (root ipa max pa level next to below : ℕ) (entry read_entry : Entry)
+    → IsReached cells root ipa max pa level entry
     → level < max → entry ≡ Table next → IsRead cells ipa next to below read_entry → IsReached cells root ipa max to below read_entry
 next_is_reached cells root ipa max pa level next to below entry read_entry at room is_link read =
     let child = next_table cells root ipa max pa level next entry at is_link in

@@ -12,7 +12,8 @@ unfolding table_in
 table_in-head c cells address here = rw (eq-eqb c.granule address here) refl
 
 -- at another granule the first cell is passed over
-pub table_in-tail : (c : TableCell) (cells : List TableCell) (address : ℕ) → (c.granule ≡ address → ⊥) → table_in (c ∷ cells) address ≡ table_in cells address
+pub table_in-tail : (c : TableCell) (cells : List TableCell) (address : ℕ)
+    → (c.granule ≡ address → ⊥) → table_in (c ∷ cells) address ≡ table_in cells address
 unfolding table_in
 table_in-tail c cells address other = let fails : (c.granule == address) ≡ false = grind (arith, nat_tests) in rw fails refl
 

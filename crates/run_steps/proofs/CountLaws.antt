@@ -21,7 +21,8 @@ count_push told here place =
 
 -- where the line is told of the place, and where it is of another
 count_here : (told : List Told) (here : Told) (place : ℕ) (is : Bool) → place_told here == place ≡ is
-    → count_by (λ (line : Told). place_told line == place) (told ++ here ∷ []) ≡ count_by (λ (line : Told). place_told line == place) told + cond is 1 0
+    → count_by (λ (line : Told). place_told line == place) (told ++ here ∷ [])
+    ≡ count_by (λ (line : Told). place_told line == place) told + cond is 1 0
 count_here told here place is same = count_push told here place
     ∙ ap (λ (b : Bool). count_by (λ (line : Told). place_told line == place) told + cond b 1 0) same
 
@@ -35,13 +36,15 @@ AreCounted-next counts told here whole within counted place below = by (place_to
         ≡ count_by (λ (line : Told). place_told line == place) (told ++ here ∷ [])
     by true same =
         let one : place_told here ≡ place = eqb-true (place_told here) place same in
-        let set_here = get_or-set_at counts (place_told here) place (get_or counts (place_told here) 0 + 1) 0 (sym one) (omega (arith, whole, within)) in
+        let set_here =
+        get_or-set_at counts (place_told here) place (get_or counts (place_told here) 0 + 1) 0 (sym one) (omega (arith, whole, within)) in
         let before = counted (place_told here) within in
         set_here ∙ ap (λ (n : ℕ). n + 1) (ap (λ (p : ℕ). get_or counts p 0) one ∙ counted place below) ∙ sym (count_here told here place true same)
     by false same =
         let other : place ≢ place_told here = λ e. eqb-false (place_told here) place same (sym e) in
         get_or-set_other counts (place_told here) place (get_or counts (place_told here) 0 + 1) 0 other ∙ counted place below
-        ∙ (let none : count_by (λ (line : Told). place_told line == place) told ≡ count_by (λ (line : Told). place_told line == place) (told ++ here ∷ [])
+        ∙ (let none : count_by (λ (line : Told). place_told line == place) told
+        ≡ count_by (λ (line : Told). place_told line == place) (told ++ here ∷ [])
         = omega (arith, count_here told here place false same) in none)
 
 -- no count passes that of the lines

@@ -45,7 +45,8 @@ refused_within None = lit< tt
 refused_within (Some failing) = (condition_within failing).1
 
 pub same_function : (called other : FunctionId) → function_place called ≡ function_place other → called ≡ other
-same_function called other same = same_Some called other (sym (function_here called) ∙ ap (λ (n : ℕ). slice_get functions n) same ∙ function_here other)
+same_function called other same =
+    same_Some called other (sym (function_here called) ∙ ap (λ (n : ℕ). slice_get functions n) same ∙ function_here other)
 
 same_condition : (failing other : Condition) → condition_place failing ≡ condition_place other → failing ≡ other
 same_condition failing other same =
@@ -61,7 +62,8 @@ same_refused (Some failing) (Some other) same = ap (λ (c : Condition). Some c) 
 pub same_place : (called other : FunctionId) (refused failed : Option Condition) → place_of called refused ≡ place_of other failed
     → (function_place called ≡ function_place other) × (refused_place refused ≡ refused_place failed)
 same_place called other refused failed same =
-    by (function_place called) (function_place other) (refused_place refused) (refused_place failed) same (refused_within refused) (refused_within failed)
+    by (function_place called) (function_place other) (refused_place refused)
+    (refused_place failed) same (refused_within refused) (refused_within failed)
   where
     by : (f g r q : ℕ) → f * 44 + r ≡ g * 44 + q → r < 44 → q < 44 → (f ≡ g) × (r ≡ q)
     by f g r q same within below = let first : f ≡ g = omega arith in (first, omega arith)

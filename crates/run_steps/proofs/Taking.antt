@@ -40,7 +40,8 @@ pub AreFirst-next : (history : History) (lines : List Line) (count : ℕ) (told 
 AreFirst-next history lines count told middle line here new first is_line step =
     let within = slice_get_within lines count line is_line in
     record {
-      taken = subst (λ (xs : List Line). AreTaken history.events (opening history.config) xs (told ++ here ∷ []) new) (sym (take-next_at lines count line is_line))
+      taken = subst (λ (xs : List Line). AreTaken history.events (opening history.config) xs (told ++ here ∷ []) new)
+          (sym (take-next_at lines count line is_line))
           (AreTaken-push history.events (opening history.config) (take count lines) told middle line here new first.taken step);
       within = omega (arith, within);
       counted = omega (arith, first.counted, length-append told (here ∷ []));
@@ -52,7 +53,8 @@ AreFirst-none history lines state same = record { taken = same; within = omega a
 
 -- the next line stops the replay
 pub AreReplayed-stopped : (history : History) (lines : List Line) (count : ℕ) (told : List Told) (last : State) (line : Line)
-    → AreFirst history lines count told last → slice_get lines count ≡ Some line → StopsAt history.events last line → AreReplayed history lines count told
+    → AreFirst history lines count told last → slice_get lines count ≡ Some line
+    → StopsAt history.events last line → AreReplayed history lines count told
 AreReplayed-stopped history lines count told last line first is_line stops = record {
   last = last;
   taken = first.taken;
@@ -71,7 +73,8 @@ AreReplayed-all history lines count told last first all = record {
 }
 
 -- a line is taken, of whose call and reply this is known
-pub TakesLine-of : (events : List Event) (old : State) (line : Line) (cpu number : ℕ) (call : Call) (given : Reply) (answer : Result Accepted Refusal) (new : State)
+pub TakesLine-of : (events : List Event) (old : State) (line : Line) (cpu number : ℕ)
+    (call : Call) (given : Reply) (answer : Result Accepted Refusal) (new : State)
     → cpu ≡ cpu_named line → number ≡ number_named line → IsCallOf events cpu number call
     → ((all : List Event) → IsCallOf all (cpu_named line) (number_named line) call → IsReplyOf all line given)
     → answer ≡ outcome old cpu (call_of call.command) → Step old cpu call.command given new → TakesLine events old line call.command answer new
@@ -87,9 +90,11 @@ TakesLine-of events old line cpu number call given answer new same_cpu same_numb
     }
 
 -- the line claims no reply
-pub StopsAt-unclaimed : (events : List Event) (old : State) (line : Line) (cpu number : ℕ) (call : Call) → cpu ≡ cpu_named line → number ≡ number_named line
+pub StopsAt-unclaimed : (events : List Event) (old : State) (line : Line) (cpu number : ℕ) (call : Call)
+    → cpu ≡ cpu_named line → number ≡ number_named line
     → IsCallOf events cpu number call
-    → ((all : List Event) (given : Reply) → IsCallOf all (cpu_named line) (number_named line) call → ¬ IsReplyOf all line given) → StopsAt events old line
+    → ((all : List Event) (given : Reply) → IsCallOf all (cpu_named line) (number_named line) call → ¬ IsReplyOf all line given)
+    → StopsAt events old line
 StopsAt-unclaimed events old line cpu number call same_cpu same_number is_call none =
     let named : IsCallOf events (cpu_named line) (number_named line) call =
     subst (λ (c : ℕ). IsCallOf events c (number_named line) call) same_cpu (subst (λ (n : ℕ). IsCallOf events cpu n call) same_number is_call) in

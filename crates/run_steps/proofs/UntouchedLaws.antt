@@ -24,9 +24,11 @@ pub record Keeps (old new : State) (granule : ℕ) : Type 0 where
   pub rec : new.rec granule ≡ old.rec granule
 
 Keeps-both : (old middle new : State) (granule : ℕ) → Keeps old middle granule → Keeps middle new granule → Keeps old new granule
-Keeps-both old middle new granule first second = record { tag = second.tag ∙ first.tag; realm = second.realm ∙ first.realm; rec = second.rec ∙ first.rec }
+Keeps-both old middle new granule first second =
+    record { tag = second.tag ∙ first.tag; realm = second.realm ∙ first.realm; rec = second.rec ∙ first.rec }
 
-keeps_realm : (s : State) (realm : Option RealmChange) (granule : ℕ) → touches_realm realm granule ≡ false → Keeps s (with_realm_change s realm) granule
+keeps_realm : (s : State) (realm : Option RealmChange) (granule : ℕ)
+    → touches_realm realm granule ≡ false → Keeps s (with_realm_change s realm) granule
 keeps_realm s None granule none = record { tag = refl; realm = refl; rec = refl }
 keeps_realm s (Some change) granule none = record { tag = refl; realm = rw none refl; rec = refl }
 

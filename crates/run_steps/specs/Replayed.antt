@@ -13,7 +13,8 @@ use Rattle.rmm_spec.specs.State.{State, opening}
 use Rattle.rmm_spec.specs.Step.{Step, outcome}
 
 -- the line claims a reply to the command, which the specification answers so, and the machine gives it and goes on to new
-pub record TakesLine (events : List Event) (old : State) (line : Line) (command : Command) (answer : Result Accepted Refusal) (new : State) : Type 0 where
+pub record TakesLine (events : List Event) (old : State) (line : Line)
+    (command : Command) (answer : Result Accepted Refusal) (new : State) : Type 0 where
   pub entry : JournalEntry
   pub is_entry : IsEntryOf events line entry
   pub is_command : command ≡ entry.command

@@ -12,12 +12,15 @@ ghost use Rattle.run_steps.specs.Touched.{touches};
 /// Law: a granule that a change doesn't touch keeps its tag, and the realm or the REC that it is its record.
 pub fn untouched()
     ensures tag { (s : State) (change : Change) (granule : ℕ) → touches change granule ≡ false → (changed s change).tag granule ≡ s.tag granule }
-    ensures realm { (s : State) (change : Change) (granule : ℕ) → touches change granule ≡ false → (changed s change).realm granule ≡ s.realm granule }
+    ensures realm { (s : State) (change : Change) (granule : ℕ)
+        → touches change granule ≡ false → (changed s change).realm granule ≡ s.realm granule }
     ensures rec { (s : State) (change : Change) (granule : ℕ) → touches change granule ≡ false → (changed s change).rec granule ≡ s.rec granule }
 {}
 
 /// Law: each function has a place of its own for what is accepted, and for each condition.
 pub fn places_differ()
-    ensures function { (called other : FunctionId) (refused failed : Option Condition) → place_of called refused ≡ place_of other failed → called ≡ other }
-    ensures condition { (called other : FunctionId) (refused failed : Option Condition) → place_of called refused ≡ place_of other failed → refused ≡ failed }
+    ensures function { (called other : FunctionId) (refused failed : Option Condition)
+        → place_of called refused ≡ place_of other failed → called ≡ other }
+    ensures condition { (called other : FunctionId) (refused failed : Option Condition)
+        → place_of called refused ≡ place_of other failed → refused ≡ failed }
 {}

@@ -39,7 +39,8 @@ pub(crate) fn take_line(
     line: LineRef<'_>,
 ) -> Result<Option<Taken>, AllocError>
     ensures taken { IfOk result (λ told. IfSome told (λ taken.
-        TakesLine history.now.recorded.events (state_of machine.old) (line_seen line.entry) taken.call.call.command taken.outcome (state_of machine.new))) }
+        TakesLine history.now.recorded.events (state_of machine.old)
+        (line_seen line.entry) taken.call.call.command taken.outcome (state_of machine.new))) }
     ensures call { IfOk result (λ told. IfSome told (λ taken. IsTold history.now.recorded.events taken.call)) }
     ensures cpu { IfOk result (λ told. IfSome told (λ taken. taken.call.cpu ≡ cpu_named (line_seen line.entry))) }
     ensures number { IfOk result (λ told. IfSome told (λ taken. taken.call.number ≡ number_named (line_seen line.entry))) }
@@ -64,9 +65,11 @@ pub(crate) fn take_line(
 // The reply that a line claims of its call, if it claims one.
 fn claimed_by<'a>(line: LineRef<'a>, call: &'a Call) -> Option<&'a Reply>
     ensures some { IfSome result (λ reply. (events : List Event)
-        → IsCallOf events (cpu_named (line_seen line.entry)) (number_named (line_seen line.entry)) call.now → IsReplyOf events (line_seen line.entry) reply.now) }
+        → IsCallOf events (cpu_named (line_seen line.entry)) (number_named (line_seen line.entry)) call.now
+        → IsReplyOf events (line_seen line.entry) reply.now) }
     ensures none { IfNone result ((events : List Event) (given : Reply)
-        → IsCallOf events (cpu_named (line_seen line.entry)) (number_named (line_seen line.entry)) call.now → ¬ IsReplyOf events (line_seen line.entry) given) }
+        → IsCallOf events (cpu_named (line_seen line.entry)) (number_named (line_seen line.entry)) call.now
+        → ¬ IsReplyOf events (line_seen line.entry) given) }
 {
     match line {
         LineRef::Unfinished { reply, .. } => Some(reply),

@@ -23,7 +23,8 @@ pub fn print_run(
 ) -> Result<Verdict, AllocError>
     ensures text { IfOk result (λ judged. out.new.items ≡ out.old.items ++ run_text history.now.recorded certificate.now.lines judged) }
     ensures right { IfOk result (λ judged. Judges judged (history_text history.now.recorded) (certificate_text certificate.now.lines)) }
-    ensures valid { IfOk result (λ judged. (judged ≡ Yes (length certificate.now.lines)) ↔ IsLinearization history.now.recorded certificate.now.lines) }
+    ensures valid { IfOk result (λ judged. (judged ≡ Yes (length certificate.now.lines))
+        ↔ IsLinearization history.now.recorded certificate.now.lines) }
     ensures err { OnErr result (out.new.items ≡ out.old.items) }
 {
     let _fact = history.well_formed();

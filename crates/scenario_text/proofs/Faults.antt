@@ -32,11 +32,14 @@ not_blank : (bytes : List ℕ) (written : Members) → parse_document bytes ≡ 
 not_blank bytes written document some blank = some (same_Some _ _ (sym document ∙ parse_document-blank bytes blank))
 
 -- Bytes state what their document's table states.
-pub IsScenarioText-table : (bytes : List ℕ) (written : Members) (scenario : Scenario) → IsUtf8 bytes → parse_document bytes ≡ Some written → StatesScenario written scenario → IsScenarioText bytes scenario
-IsScenarioText-table bytes written scenario utf8 parsed states = record { members = written; document = document_in-utf8 bytes utf8 ∙ parsed; states = states }
+pub IsScenarioText-table : (bytes : List ℕ) (written : Members) (scenario : Scenario)
+    → IsUtf8 bytes → parse_document bytes ≡ Some written → StatesScenario written scenario → IsScenarioText bytes scenario
+IsScenarioText-table bytes written scenario utf8 parsed states =
+    record { members = written; document = document_in-utf8 bytes utf8 ∙ parsed; states = states }
 
 -- A fault of the table is one of the bytes that are its document.
-pub IsFirstFault-table : (fault : ScenarioFault) (bytes : List ℕ) (written : Members) → IsUtf8 bytes → parse_document bytes ≡ Some written → IsTableFault fault written → IsFirstFault fault bytes
+pub IsFirstFault-table : (fault : ScenarioFault) (bytes : List ℕ) (written : Members)
+    → IsUtf8 bytes → parse_document bytes ≡ Some written → IsTableFault fault written → IsFirstFault fault bytes
 IsFirstFault-table NoDocument bytes written utf8 parsed has = absurd has
 IsFirstFault-table WrongKey bytes written utf8 parsed has = record { members = written; document = document_in-utf8 bytes utf8 ∙ parsed; has = has }
 IsFirstFault-table OutOfRange bytes written utf8 parsed has = record { members = written; document = document_in-utf8 bytes utf8 ∙ parsed; has = has }

@@ -47,17 +47,20 @@ AreInRange-stated stated scenario by_it =
 pub HasCommands-stated : (stated : Stated) (scenario : Scenario) → IsStatedBy stated scenario → HasCommands stated
 HasCommands-stated stated scenario by_it = rw by_it.programs (IsCommandText-all scenario.programs by_it.is_scenario.commands)
 
-IsTurnText-each : (cpus : ℕ) (turns : List Due) → AllByRecursion (λ turn. turn.cpu < cpus) turns → AllByRecursion (IsTurnText cpus) (map turn_text turns)
+IsTurnText-each : (cpus : ℕ) (turns : List Due)
+    → AllByRecursion (λ turn. turn.cpu < cpus) turns → AllByRecursion (IsTurnText cpus) (map turn_text turns)
 IsTurnText-each cpus [] all = tt
 IsTurnText-each cpus (turn ∷ turns) all = ((turn, all.0, refl), IsTurnText-each cpus turns all.1)
 
 pub HasTurns-stated : (stated : Stated) (scenario : Scenario) → IsStatedBy stated scenario → HasTurns stated
 HasTurns-stated stated scenario by_it =
-    let count : length stated.programs ≡ scenario.config.cpus = ap length by_it.programs ∙ length-map scenario.programs _ ∙ by_it.is_scenario.programs in
+    let count : length stated.programs ≡ scenario.config.cpus =
+    ap length by_it.programs ∙ length-map scenario.programs _ ∙ by_it.is_scenario.programs in
     rw (count, by_it.turns) (IsTurnText-each scenario.config.cpus scenario.turns by_it.is_scenario.turns)
 
 -- What states a scenario has no fault of its values.
-no_value_fault : (fault : ScenarioFault) (stated : Stated) (scenario : Scenario) → IsStatedBy stated scenario → IsValueFault fault stated → fault ≡ NoMemory
+no_value_fault : (fault : ScenarioFault) (stated : Stated) (scenario : Scenario)
+    → IsStatedBy stated scenario → IsValueFault fault stated → fault ≡ NoMemory
 no_value_fault NoDocument stated scenario by_it has = absurd has
 no_value_fault WrongKey stated scenario by_it has = absurd has
 no_value_fault OutOfRange stated scenario by_it has = absurd (has (AreInRange-stated stated scenario by_it))
@@ -65,12 +68,14 @@ no_value_fault NoCommand stated scenario by_it has = absurd (has.1 (HasCommands-
 no_value_fault NoTurn stated scenario by_it has = absurd (has.2 (HasTurns-stated stated scenario by_it))
 no_value_fault NoMemory stated scenario by_it has = refl
 
-no_fault_of_values : (fault : ScenarioFault) (written : Members) (scenario : Scenario) → StatesScenario written scenario → HasValueFault fault written → fault ≡ NoMemory
+no_fault_of_values : (fault : ScenarioFault) (written : Members) (scenario : Scenario)
+    → StatesScenario written scenario → HasValueFault fault written → fault ≡ NoMemory
 no_fault_of_values fault written scenario states has =
     let at_one : IsValueFault fault states.stated = rw (same_stated written states.stated has.stated states.keys has.keys) has.has in
     no_value_fault fault states.stated scenario states.values at_one
 
-no_table_fault : (fault : ScenarioFault) (written : Members) (scenario : Scenario) → StatesScenario written scenario → IsTableFault fault written → fault ≡ NoMemory
+no_table_fault : (fault : ScenarioFault) (written : Members) (scenario : Scenario)
+    → StatesScenario written scenario → IsTableFault fault written → fault ≡ NoMemory
 no_table_fault NoDocument written scenario states has = absurd has
 no_table_fault WrongKey written scenario states has = absurd (has states.stated states.keys)
 no_table_fault OutOfRange written scenario states has = no_fault_of_values OutOfRange written scenario states has
@@ -78,13 +83,15 @@ no_table_fault NoCommand written scenario states has = no_fault_of_values NoComm
 no_table_fault NoTurn written scenario states has = no_fault_of_values NoTurn written scenario states has
 no_table_fault NoMemory written scenario states has = refl
 
-no_fault_of_table : (fault : ScenarioFault) (bytes : List ℕ) (scenario : Scenario) → IsScenarioText bytes scenario → HasTableFault fault bytes → fault ≡ NoMemory
+no_fault_of_table : (fault : ScenarioFault) (bytes : List ℕ) (scenario : Scenario)
+    → IsScenarioText bytes scenario → HasTableFault fault bytes → fault ≡ NoMemory
 no_fault_of_table fault bytes scenario text has =
     let at_one : IsTableFault fault text.members = rw (same_members bytes text.members has.members text.document has.document) has.has in
     no_table_fault fault text.members scenario text.states at_one
 
 -- Bytes that state a scenario have no fault.
-pub no_fault : (fault : ScenarioFault) (bytes : List ℕ) (scenario : Scenario) → IsScenarioText bytes scenario → IsFirstFault fault bytes → fault ≡ NoMemory
+pub no_fault : (fault : ScenarioFault) (bytes : List ℕ) (scenario : Scenario)
+    → IsScenarioText bytes scenario → IsFirstFault fault bytes → fault ≡ NoMemory
 no_fault NoDocument bytes scenario text has = absurd (let bad : None ≡ Some text.members = sym has ∙ text.document in cc)
 no_fault WrongKey bytes scenario text has = no_fault_of_table WrongKey bytes scenario text has
 no_fault OutOfRange bytes scenario text has = no_fault_of_table OutOfRange bytes scenario text has

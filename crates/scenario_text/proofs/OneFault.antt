@@ -68,4 +68,5 @@ one_of_first f g bytes some-f some-g (inr a) (inr b) =
 
 -- Two faults but that memory was refused are the same.
 pub one_fault : (f g : ScenarioFault) (bytes : List ℕ) → f ≢ NoMemory → g ≢ NoMemory → IsFirstFault f bytes → IsFirstFault g bytes → f ≡ g
-one_fault f g bytes some-f some-g has-f has-g = one_of_first f g bytes some-f some-g (first_cases f bytes some-f has-f) (first_cases g bytes some-g has-g)
+one_fault f g bytes some-f some-g has-f has-g =
+    one_of_first f g bytes some-f some-g (first_cases f bytes some-f has-f) (first_cases g bytes some-g has-g)

@@ -51,7 +51,8 @@ will_text-injective Stop GiveUp same = absurd (bytes_apart 115 103 refl (ap (λ 
 
 turn_text-injective : (cpus : ℕ) → cpus ≤ 8 → (s t : Due) → s.cpu < cpus → t.cpu < cpus → turn_text s ≡ turn_text t → s ≡ t
 turn_text-injective cpus few s t low-s low-t same =
-    let texts : (s.cpu + 48) ∷ will_text s.will ≡ (t.cpu + 48) ∷ will_text t.will = sym (turn_text-digit s (omega arith)) ∙ same ∙ turn_text-digit t (omega arith) in
+    let texts : (s.cpu + 48) ∷ will_text s.will ≡ (t.cpu + 48) ∷ will_text t.will =
+    sym (turn_text-digit s (omega arith)) ∙ same ∙ turn_text-digit t (omega arith) in
     let digits : s.cpu + 48 ≡ t.cpu + 48 = cc in
     let cpu : s.cpu ≡ t.cpu = omega arith in
     let will : s.will ≡ t.will = will_text-injective s.will t.will (cc) in
@@ -81,13 +82,18 @@ same_turns stated s t by-s by-t =
 
 same_programs : (stated : Stated) (s t : Scenario) → IsStatedBy stated s → IsStatedBy stated t → s.programs ≡ t.programs
 same_programs stated s t by-s by-t =
-    map-injective (map command_text) (AllByRecursion IsCommand) (λ xs ys all-x all-y same. map-injective command_text IsCommand command_text-injective xs ys all-x all-y same) s.programs t.programs
+    map-injective (map command_text) (AllByRecursion IsCommand)
+    (λ xs ys all-x all-y same. map-injective command_text IsCommand command_text-injective xs ys all-x all-y same) s.programs t.programs
     by-s.is_scenario.commands by-t.is_scenario.commands (sym by-s.programs ∙ by-t.programs)
 
 -- What is stated is one scenario.
 same_scenario : (stated : Stated) (s t : Scenario) → IsStatedBy stated s → IsStatedBy stated t → s ≡ t
 same_scenario stated s t by-s by-t = λ i. record {
-  config = record { granules = pos-injective _ _ (sym by-s.granules ∙ by-t.granules) i; cpus = same_cpus stated s t by-s by-t i; version = same_version stated s t by-s by-t i };
+  config = record {
+    granules = pos-injective _ _ (sym by-s.granules ∙ by-t.granules) i;
+    cpus = same_cpus stated s t by-s by-t i;
+    version = same_version stated s t by-s by-t i;
+  };
   programs = same_programs stated s t by-s by-t i;
   queue = pos-injective _ _ (sym by-s.queue ∙ by-t.queue) i;
   turns = same_turns stated s t by-s by-t i;
@@ -101,4 +107,5 @@ one_of_table written s t of-s of-t =
 -- Bytes state one scenario at most.
 pub one_scenario : (bytes : List ℕ) (s t : Scenario) → IsScenarioText bytes s → IsScenarioText bytes t → s ≡ t
 one_scenario bytes s t text-s text-t =
-    one_of_table text-s.members s t text-s.states (rw (same_members bytes text-s.members text-t.members text-s.document text-t.document) text-t.states)
+    one_of_table text-s.members s t text-s.states
+    (rw (same_members bytes text-s.members text-t.members text-s.document text-t.document) text-t.states)

@@ -27,13 +27,15 @@ pub decimal-digit : (n : ℕ) → n < 10 → decimal n ≡ (n + 48) ∷ []
 unfolding decimal
 decimal-digit zero low = numeral-zero 10
 decimal-digit (suc n) low =
-    numeral_some 10 (suc n) (omega arith) ∙ ap (map glyph) (digits_of-digit (suc n) (omega arith) low) ∙ ap (λ byte. byte ∷ []) (glyph-digit (suc n) low)
+    numeral_some 10 (suc n) (omega arith) ∙ ap (map glyph) (digits_of-digit (suc n) (omega arith) low)
+    ∙ ap (λ byte. byte ∷ []) (glyph-digit (suc n) low)
 
 pub turn_text-digit : (turn : Due) → turn.cpu < 10 → turn_text turn ≡ (turn.cpu + 48) ∷ will_text turn.will
 turn_text-digit turn low = ap (λ front. front ++ will_text turn.will) (decimal-digit turn.cpu low)
 
 -- A text of a digit and a will is that of the turn.
-pub turn_text-from : (text : List ℕ) (digit : ℕ) (turn : Due) → turn.cpu < 10 → 0 < length text → digit ≡ get_or text 0 0 → digit ≡ turn.cpu + 48 → drop 1 text ≡ will_text turn.will → text ≡ turn_text turn
+pub turn_text-from : (text : List ℕ) (digit : ℕ) (turn : Due)
+    → turn.cpu < 10 → 0 < length text → digit ≡ get_or text 0 0 → digit ≡ turn.cpu + 48 → drop 1 text ≡ will_text turn.will → text ≡ turn_text turn
 turn_text-from [] digit turn low some first same rest = absurd (omega arith)
 turn_text-from (byte ∷ bytes) digit turn low some first same rest = sym (turn_text-digit turn low ∙ rw (← same, first, ← rest) refl)
 

@@ -18,7 +18,8 @@ pub IsCommandText-each : (commands : List Command) → AllByRecursion IsCommand 
 IsCommandText-each [] all = tt
 IsCommandText-each (command ∷ commands) all = ((command, all.0, refl), IsCommandText-each commands all.1)
 
-pub IsCommandText-all : (programs : List (List Command)) → AllByRecursion (AllByRecursion IsCommand) programs → AllByRecursion (AllByRecursion IsCommandText) (map (map command_text) programs)
+pub IsCommandText-all : (programs : List (List Command))
+    → AllByRecursion (AllByRecursion IsCommand) programs → AllByRecursion (AllByRecursion IsCommandText) (map (map command_text) programs)
 IsCommandText-all [] all = tt
 IsCommandText-all (program ∷ programs) all = (IsCommandText-each program all.0, IsCommandText-all programs all.1)
 
@@ -40,7 +41,8 @@ numbered-limit Two is = refl
 numbered-limit Large is = absurd (both_ways is refl)
 
 -- A scenario's machine is within the limit of scenarios.
-pub granules-between : (config : Config) → IsConfig config → IsTrue (is_numbered config.version) → IsBetween 1 (granule_limit One) (pos config.granules)
+pub granules-between : (config : Config)
+    → IsConfig config → IsTrue (is_numbered config.version) → IsBetween 1 (granule_limit One) (pos config.granules)
 granules-between config is numbered = (is.some_granules, rw (← numbered-limit config.version numbered) is.most_granules)
 
 -- Numbers that are held as they are stated are in range.
@@ -58,7 +60,8 @@ AreInRange-sizes stated sizes are version = record {
 
 -- What is stated is the scenario of the numbers, commands and turns that are read from it.
 pub IsStatedBy-parts : (stated : Stated) (sizes : Sizes) (programs : List (List Command)) (turns : List Due) → AreSizes stated sizes
-    → stated.version ≡ pos (version_number sizes.config.version) → stated.programs ≡ map (map command_text) programs → AllByRecursion (AllByRecursion IsCommand) programs
+    → stated.version ≡ pos (version_number sizes.config.version)
+    → stated.programs ≡ map (map command_text) programs → AllByRecursion (AllByRecursion IsCommand) programs
     → stated.turns ≡ map turn_text turns → AllByRecursion (λ turn. turn.cpu < sizes.config.cpus) turns
     → IsStatedBy stated (record { config = sizes.config; programs = programs; queue = sizes.queue; turns = turns; limit = sizes.limit })
 IsStatedBy-parts stated sizes programs turns are version texts commands turn_texts cpus = record {

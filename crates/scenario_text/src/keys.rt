@@ -168,7 +168,8 @@ pub fn lists_of_texts<'t>(
 }
 
 fn each_list<'t>(alloc: Global, items: &'t Array) -> Result<Option<Vec<Vec<&'t str>>>, AllocError>
-    ensures { IfOk result (λ found. option_map (λ lists. seen_lists lists.items) found ≡ each_value (texts toml_kinds) (items_in (array_view items.now))) }
+    ensures { IfOk result (λ found. option_map (λ lists. seen_lists lists.items) found
+        ≡ each_value (texts toml_kinds) (items_in (array_view items.now))) }
 {
     let mut lists = Vec::new(alloc);
     for value in items {

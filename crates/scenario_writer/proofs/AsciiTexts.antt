@@ -1,5 +1,5 @@
 -- The texts of commands and turns are ASCII.
-use Rattle.std.proofs.Common.{◌≡◌, ℕ, zero, suc, ◌+◌, ◌/◌, ◌%◌, ◌<◌, ◌≤◌, true, false, ◌==◌, List, [], ◌∷◌, ◌++◌, map, length, get_or, arith, lit<, inl, inr}
+use Rattle.std.proofs.Common.{ℕ, zero, suc, ◌/◌, ◌%◌, ◌<◌, ◌≤◌, ◌==◌, List, [], ◌∷◌, map, arith, lit<, inl, inr}
 use Rattle.std.specs.Int.Digits.{digits_of, AllBelowBase}
 use Rattle.std.specs.List.{AllByRecursion}
 use Rattle.std.specs.Str.{IsAscii}
@@ -68,9 +68,11 @@ will_text-low Stop = (lit< tt, (lit< tt, (lit< tt, (lit< tt, (lit< tt, tt)))))
 pub command_text-ascii : (command : Command) → IsAscii (command_text command)
 unfolding command_parts
 command_text-ascii command =
-    IsAscii-low (command_text command) (line_text-low (command_parts command) (fixed_hex-low 8 (number_of command.function), words-low command.words.items))
+    IsAscii-low (command_text command)
+    (line_text-low (command_parts command) (fixed_hex-low 8 (number_of command.function), words-low command.words.items))
 
 pub turn_text-ascii : (turn : Due) → IsAscii (turn_text turn)
 unfolding decimal
 turn_text-ascii turn =
-    IsAscii-low (turn_text turn) (AllByRecursion-append IsLow (decimal turn.cpu) (will_text turn.will) (numeral-low 10 turn.cpu (omega arith) (omega arith)) (will_text-low turn.will))
+    IsAscii-low (turn_text turn) (AllByRecursion-append IsLow (decimal turn.cpu) (will_text turn.will)
+    (numeral-low 10 turn.cpu (omega arith) (omega arith)) (will_text-low turn.will))

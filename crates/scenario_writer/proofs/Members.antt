@@ -1,21 +1,20 @@
 -- The document of a scenario: what it states, that it is shallow and without dates, and how a map becomes it.
-use Rattle.std.proofs.Common.{◌≡◌, ℕ, ◌≤◌, pos, true, List, [], ◌∷◌, map, codes, Some, String, Global, Ordering, Less, Equal, Greater, string_bytes, IsUtf8, nat_cmp, max, option_map, option_and_then, refl, ap, ◌∙◌, rules, arith, lit≤}
+use Rattle.std.proofs.Common.{◌≡◌, ℕ, ◌≤◌, pos, true, List, [], ◌∷◌, map, Some, String, Global, Ordering, Less, Equal, Greater, string_bytes, IsUtf8, refl, ap, ◌∙◌, arith, lit≤}
 use Rattle.std.specs.BTreeMap.{insert_entry}
-use Rattle.std.specs.Cmp.Lexicographic.{slice_cmp}
 use Rattle.std.specs.Ordering.{match_ordering}
 use Rattle.std.specs.String.{string_cmp}
 use Rattle.std.proofs.lemmas.Str.{is_utf8-from_IsUtf8}
-use Rattle.toml.specs.Data.{Data, string, integer, array, depth, items_depth, members_depth, items_have_valid_dates, members_have_valid_dates, Members, no_members, member, as_str}
+use Rattle.toml.specs.Data.{string, items_depth, members_depth, items_have_valid_dates, members_have_valid_dates, Members, as_str}
 use Rattle.toml.specs.Parse.{parse_document}
 use Rattle.toml.specs.View.{view, items_of, members_view}
 use Rattle.toml.specs.declared.value.Value.{Value}
 use Rattle.rmm_spec.specs.declared.command.Command.{Command}
 use Rattle.rmm_spec.specs.CommandText.{command_text}
 use Rattle.rmm_spec.specs.Scenario.{Scenario, Stated, IsScenario, turn_text, version_number}
-use Rattle.rmm_spec.specs.ScenarioKeys.{each_value, texts, lists_of_texts}
+use Rattle.rmm_spec.specs.ScenarioKeys.{each_value, texts}
 use Rattle.scenario_text.specs.ScenarioText.{StatesScenario, IsScenarioText}
 use Rattle.scenario_text.specs.TomlDocument.{items_in, toml_kinds}
-use Rattle.scenario_writer.specs.Written.{programs_data, program_data, texts_data, with_member, scenario_members}
+use Rattle.scenario_writer.specs.Written.{program_data, with_member, scenario_members}
 
 -- ---- a map
 

@@ -1,17 +1,16 @@
 -- What an accepted command makes of a whole: its change, which leaves the whole well shaped, is a step of the machine.
-use Rattle.std.proofs.Common.{◌≡◌, ℕ, List, [], ◌∷◌, Ok, refl, sym, subst}
-use Rattle.rmm_spec.specs.HistoryText.{Config}
+use Rattle.shape_laws.proofs.Common.{◌≡◌, Config, IsShaped, List, Whole, cells_changed, flat_state, refl, subst, sym, ℕ}
+use Rattle.std.proofs.Common.{[], ◌∷◌, Ok}
 use Rattle.rmm_spec.specs.declared.accepted.Accepted.TheVariants.{Reaches}
 use Rattle.rmm_spec.specs.declared.accepted.Stretch.{Stretch}
 use Rattle.rmm_spec.specs.declared.change.Change.{Change}
 use Rattle.rmm_spec.specs.declared.command.Command.{Command}
 use Rattle.rmm_spec.specs.Call.{call_of}
 use Rattle.rmm_spec.specs.Rows.{ok, done}
-use Rattle.rmm_spec.specs.Flat.{flat_state}
 use Rattle.rmm_spec.specs.Step.{Step, CarriesOut, outcome}
 use Rattle.rmm_spec.specs.Step.Ripas.{IsReached, reached_change}
 use Rattle.rmm_sound.proofs.Runs.{done_applies, reached_applies}
-use Rattle.shape_laws.specs.Whole.{Whole, IsShaped, cells_changed, whole_changed}
+use Rattle.shape_laws.specs.Whole.{whole_changed}
 use Rattle.shape_laws.proofs.Changes.{changes-keep_shape}
 use Rattle.shape_laws.proofs.Ties.{well_shaped-is_sound}
 

@@ -1,19 +1,13 @@
 -- Cells by what lies in them, and the maps of a whole, before and after one cell is changed.
-use Rattle.std.proofs.Common.{◌≡◌, ℕ, Bool, true, false, ◌==◌, ◌&&◌, if◌then◌else◌, IsTrue, Option, Some, is_some, refl, sym, ap, ◌∙◌, eq-eqb}
+use Rattle.shape_laws.proofs.Common.{◌==◌, ◌∙◌, ◌≡◌, Bool, Cell, Config, Delegated, IsTrue, Option, Rd, RealmRecord, Rec, RecRecord, Rtt, Some, State, TableRecord, ap, both_ways, eq-eqb, false, flat_state, if◌then◌else◌, is_granule, leaf_in_tables, none-some, put, realm_in, realms_of, rec_in, recs_of, refl, same_Some, sym, table_granule, table_in, tables_of, tag_of, tags_of, true, ℕ}
+use Rattle.std.proofs.Common.{◌&&◌, is_some}
 use Rattle.std.proofs.lemmas.Bool.{false≢true, and_from, true_from_ne_false}
-use Rattle.std.proofs.lemmas.Option.{none-some, same_Some}
-use Rattle.rmm_spec.specs.HistoryText.{Config}
 use Rattle.rmm_spec.specs.declared.tag.Tag.{Tag}
 use Rattle.rmm_spec.specs.declared.tag.Tag.TheVariants as tag
-use Rattle.rmm_spec.specs.State.{State, RealmRecord, RecRecord}
-use Rattle.rmm_spec.specs.Lookup.{tag_number, is_granule, has_tag}
-use Rattle.rmm_spec.specs.Table.{TableRecord}
-use Rattle.rmm_spec.specs.Cell.{Cell, Undelegated, Delegated, Rd, Rec, RecAux, Data, Rtt, put, tag_of, realm_in, rec_in, table_in, is_aux, is_data, tags_of, realms_of, recs_of, tables_of}
-use Rattle.rmm_spec.specs.Flat.{flat_state, table_granule, leaf_in_tables}
+use Rattle.rmm_spec.specs.Lookup.{tag_number, has_tag}
+use Rattle.rmm_spec.specs.Cell.{Undelegated, RecAux, Data, is_aux, is_data}
 use Rattle.rmm_spec.specs.Shape.{AreOutside}
 use Rattle.spec_lemmas.proofs.TagLaws.{tag-has_tag}
-use Rattle.rmm_sound.proofs.Cases.{by_address}
-use Rattle.lemmas.proofs.Tests.{both_ways}
 
 -- ---- one cell
 
@@ -80,11 +74,13 @@ some_rec-tagged _ true outside = refl
 -- ---- tags of a whole
 
 -- a cell that isn't undelegated has its tag at a granule
-pub has_tag-cell : (config : Config) (cells : ℕ → Cell) (address : ℕ) (asked : Tag) → AreOutside config.granules cells → tag_of (cells address) ≡ asked
+pub has_tag-cell : (config : Config) (cells : ℕ → Cell) (address : ℕ) (asked : Tag)
+    → AreOutside config.granules cells → tag_of (cells address) ≡ asked
     → (tag_number tag.Undelegated == tag_number asked) ≡ false → IsTrue (has_tag (flat_state config cells) address asked)
 unfolding has_tag flat_state
 has_tag-cell config cells address asked outside is apart =
-    and_from _ _ (true_from_ne_false (is_granule config.granules address) (λ none. tags_differ (sym (ap tag_of (outside.undelegated address none)) ∙ is) apart))
+    and_from _ _ (true_from_ne_false (is_granule config.granules address)
+    (λ none. tags_differ (sym (ap tag_of (outside.undelegated address none)) ∙ is) apart))
     (eq-eqb (tag_number (tag_of (cells address))) (tag_number asked) (ap tag_number is))
 
 -- what a granule's tag is asked to be, it is

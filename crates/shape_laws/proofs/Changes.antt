@@ -1,10 +1,8 @@
 -- Every change that the flat state of a well-shaped whole can take keeps the whole well shaped: by kind of change.
-use Rattle.rmm_spec.specs.HistoryText.{Config}
+use Rattle.shape_laws.proofs.Common.{Config, IsShaped, Whole, flat_state}
 use Rattle.rmm_spec.specs.declared.change.Change.{Change}
 use Rattle.rmm_spec.specs.declared.change.Change.TheVariants.{Unchanged, Retagged, RealmMade, RealmDestroyed, RecMade, RecDestroyed, RecordsChanged, TableMade, TableDestroyed, EntriesChanged}
 use Rattle.rmm_spec.specs.Applicable.{CanApply}
-use Rattle.rmm_spec.specs.Flat.{flat_state}
-use Rattle.shape_laws.specs.Whole.{Whole, IsShaped}
 use Rattle.shape_laws.proofs.EntriesChanged.{Makes-entries}
 use Rattle.shape_laws.proofs.Kept.{IsChangedShape, Makes, kept}
 use Rattle.shape_laws.proofs.RealmsMade.{Makes-realm_made, Makes-realm_destroyed}
@@ -13,7 +11,8 @@ use Rattle.shape_laws.proofs.RecsMade.{Makes-rec_made, Makes-rec_destroyed}
 use Rattle.shape_laws.proofs.Retagged.{Makes-unchanged, Makes-retagged}
 use Rattle.shape_laws.proofs.TablesMade.{Makes-table_made, Makes-table_destroyed}
 
-Makes-change : (config : Config) (w : Whole) (change : Change) → IsShaped config w → CanApply (flat_state config w.cells) change → Makes config w change
+Makes-change : (config : Config) (w : Whole) (change : Change)
+    → IsShaped config w → CanApply (flat_state config w.cells) change → Makes config w change
 Makes-change config w Unchanged shaped can = Makes-unchanged config w shaped
 Makes-change config w (Retagged change) shaped can = Makes-retagged config w change shaped can
 Makes-change config w (RealmMade rd root width level vmid algo) shaped can = Makes-realm_made config w rd root width level vmid algo shaped can

@@ -26,7 +26,8 @@ count_below-one (suc n) old new k below was is others = by (λ less. count_below
     by : (k < n → count_below n new ≡ suc (count_below n old)) → (k < n) ⊎ (k ≡ n)
         → (if new n then suc (count_below n new) else count_below n new) ≡ suc (if old n then suc (count_below n old) else count_below n old)
     by rest (inl less) =
-        ap (λ b. if b then suc (count_below n new) else count_below n new) (others n (λ same. let bad : n < n = (let at : k ≡ n = sym same in omega arith) in omega arith))
+        ap (λ b. if b then suc (count_below n new) else count_below n new)
+        (others n (λ same. let bad : n < n = (let at : k ≡ n = sym same in omega arith) in omega arith))
         ∙ step (old n) (count_below n new) (count_below n old) (rest less)
     by rest (inr last) =
         ap (λ b. if b then suc (count_below n new) else count_below n new) (sym (ap new last) ∙ is)

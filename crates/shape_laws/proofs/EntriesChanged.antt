@@ -1,27 +1,18 @@
 -- Entries of one table are changed, with the tag of a page and with records.
-use Rattle.std.proofs.Common.{◌≡◌, ℕ, suc, ◌+◌, ◌*◌, ◌/◌, List, Option, Some, None, slice_get, refl, sym, ap, ◌∙◌, subst, inl, inr}
-use Rattle.std.proofs.lemmas.Option.{none-some, same_Some}
-use Rattle.rmm_spec.specs.HistoryText.{Config}
+use Rattle.shape_laws.proofs.Common.{◌*◌, ◌+◌, ◌/◌, ◌∙◌, ◌≡◌, Cell, Config, Delegated, Entry, IsShaped, IsSound, List, None, Option, Rd, RealmRecord, Rec, RecRecord, Rtt, Some, State, Table, TableRecord, Whole, ap, by_address, cells_changed, changed, flat_state, inl, inr, none-some, place_number, places_changed, put, realm_at, realm_in, realms_of, rec_in, recs_of, refl, same_Some, side_changed, slice_get, subst, suc, sym, table_granule, table_in, tables_of, value_there, ℕ}
 use Rattle.rmm_spec.specs.declared.change.Change.TheVariants.{EntriesChanged}
 use Rattle.rmm_spec.specs.declared.change.EntryChange.{EntryChange}
 use Rattle.rmm_spec.specs.declared.change.EntryChange.TheVariants.{Replaced, RipasSet}
 use Rattle.rmm_spec.specs.declared.change.RealmChange.{RealmChange}
 use Rattle.rmm_spec.specs.declared.change.RecChange.{RecChange}
 use Rattle.rmm_spec.specs.declared.change.TagChange.{TagChange}
-use Rattle.rmm_spec.specs.declared.entry.Entry.{Entry}
-use Rattle.rmm_spec.specs.declared.entry.Entry.TheVariants.{Table}
 use Rattle.rmm_spec.specs.declared.tag.Tag.TheVariants as tag
-use Rattle.rmm_spec.specs.State.{State, RealmRecord, RecRecord}
-use Rattle.rmm_spec.specs.Lookup.{realm_at, rec_at}
-use Rattle.rmm_spec.specs.Table.{TableRecord, place_number}
-use Rattle.rmm_spec.specs.Change.{changed, with_realm_change, with_rec_change, with_tag_change, with_entry_change}
-use Rattle.rmm_spec.specs.Sound.{IsSound}
+use Rattle.rmm_spec.specs.Lookup.{rec_at}
+use Rattle.rmm_spec.specs.Change.{with_realm_change, with_rec_change, with_tag_change, with_entry_change}
 use Rattle.rmm_spec.specs.Applicable.{CanChangeEntries, CanChangeRealm, CanChangeRec}
-use Rattle.rmm_spec.specs.Cell.{Cell, Delegated, Rd, Rec, Data, Rtt, put, realm_in, rec_in, table_in, realms_of, recs_of, tables_of}
-use Rattle.rmm_spec.specs.Flat.{flat_state, table_granule}
-use Rattle.rmm_sound.proofs.Cases.{by_address}
-use Rattle.rmm_sound.proofs.Entries.{leaf_there, value_there}
-use Rattle.shape_laws.specs.Whole.{Whole, IsShaped, cell_with_tag, cell_with_realm, cell_with_rec, cells_with_entries, cells_with_tag_change, cells_with_realm_change, cells_with_rec_change, changed_at, table_changed, entries_changed, cells_changed, side_changed, places_changed}
+use Rattle.rmm_spec.specs.Cell.{Data}
+use Rattle.rmm_sound.proofs.Entries.{leaf_there}
+use Rattle.shape_laws.specs.Whole.{cell_with_tag, cell_with_realm, cell_with_rec, cells_with_entries, cells_with_tag_change, cells_with_realm_change, cells_with_rec_change, changed_at, table_changed, entries_changed}
 use Rattle.shape_laws.proofs.Cells.{Views, views_of, tag-cell, cell-data, cell-table}
 use Rattle.shape_laws.proofs.EntriesSet.{with_entries, IsRewritten, leaf-no_link, replaced_entries, ripas_entries}
 use Rattle.shape_laws.proofs.Finds.{table_granule-holds, table_granule-kept}
@@ -64,7 +55,8 @@ page_cells config cells rd level (Replaced number entry) (Some page) sound can =
       record {
         old = Data;
         new = Delegated;
-        is_old = cell-data (cells page.granule) (tag-cell config cells page.granule tag.Data (sound.leaves.pages rd level number page.granule taken.2.0 leaf));
+        is_old = cell-data (cells page.granule)
+            (tag-cell config cells page.granule tag.Data (sound.leaves.pages rd level number page.granule taken.2.0 leaf));
         is_new = ap (λ t. cell_with_tag t (cells page.granule)) taken.0;
         is_tag = sym taken.0;
         old_plain = plain-data;
@@ -94,7 +86,8 @@ realm-stays : (config : Config) (cells now : ℕ → Cell) (change : Option Real
 realm-stays config cells now None sound can stay a c at apart = at
 realm-stays config cells now (Some change) sound can stay a c at apart =
     let old : RealmRecord = realm_at (flat_state config cells) change.rd in
-    changed-stays now change.rd (cell_with_realm change.update) (Rd old) a c (stay change.rd old (rd_there config cells change.rd sound can.0)) at (apart old)
+    changed-stays now change.rd (cell_with_realm change.update) (Rd old) a c
+    (stay change.rd old (rd_there config cells change.rd sound can.0)) at (apart old)
 
 rec-stays : (config : Config) (cells now : ℕ → Cell) (change : Option RecChange) → IsSound (flat_state config cells)
     → CanChangeRec (flat_state config cells) change → ((a : ℕ) (r : RecRecord) → cells a ≡ Rec r → now a ≡ Rec r)
@@ -102,7 +95,8 @@ rec-stays : (config : Config) (cells now : ℕ → Cell) (change : Option RecCha
 rec-stays config cells now None sound can stay a c at apart = at
 rec-stays config cells now (Some change) sound can stay a c at apart =
     let old : RecRecord = rec_at (flat_state config cells) change.rec in
-    changed-stays now change.rec (cell_with_rec change.update) (Rec old) a c (stay change.rec old (rec_cell_there config cells change.rec sound can.0)) at (apart old)
+    changed-stays now change.rec (cell_with_rec change.update) (Rec old) a c
+    (stay change.rec old (rec_cell_there config cells change.rec sound can.0)) at (apart old)
 
 -- ---- the entries
 
@@ -112,7 +106,8 @@ record IsEntryChange (config : Config) (cells : ℕ → Cell) (rd level : ℕ) (
   table : TableRecord
   is_found : table_granule config.granules (tables_of cells) rd level (table_changed entries) ≡ Some granule
   is_held : tables_of cells granule ≡ Some table
-  rewritten : IsRewritten config.granules (tables_of cells) granule table (entries_changed entries table.entries) (with_entry_change (flat_state config cells) rd level entries).leaf
+  rewritten : IsRewritten config.granules (tables_of cells) granule table
+      (entries_changed entries table.entries) (with_entry_change (flat_state config cells) rd level entries).leaf
 
 entry_change_is : (config : Config) (cells : ℕ → Cell) (rd level : ℕ) (entries : EntryChange) (page : Option TagChange)
     → ArePlaced config.granules (realms_of cells) (tables_of cells)
@@ -152,7 +147,8 @@ AreLinks-entries granules tables granule t entries held stay old g i child x =
     let kept : (other l n : ℕ) → table_granule granules now other l n ≡ table_granule granules tables other l n =
     λ other l n k. table_granule-kept granules tables granule t (with_entries t entries) held refl k other l n in
     by_address (λ o. o ≡ Some x → slice_get x.entries i ≡ Some (Table child)
-    → table_granule granules now x.place.rd (suc x.place.level) (512 * place_number x.place + i) ≡ Some child) g granule (Some (with_entries t entries)) (tables g)
+    → table_granule granules now x.place.rd (suc x.place.level) (512 * place_number x.place + i) ≡ Some child)
+    g granule (Some (with_entries t entries)) (tables g)
     (λ _ is link.
     let same : with_entries t entries ≡ x = same_Some (with_entries t entries) x is in
     subst (λ (v : TableRecord). table_granule granules now v.place.rd (suc v.place.level) (512 * place_number v.place + i) ≡ Some child) same
@@ -188,7 +184,8 @@ entries_parts s rd level (RipasSet first last ripas) (Some page) None (Some rec)
 entries_parts s rd level (RipasSet first last ripas) (Some page) (Some realm) None = refl
 entries_parts s rd level (RipasSet first last ripas) (Some page) (Some realm) (Some rec) = refl
 
-pub Makes-entries : (config : Config) (w : Whole) (rd level : ℕ) (entries : EntryChange) (page : Option TagChange) (realm : Option RealmChange) (rec : Option RecChange)
+pub Makes-entries : (config : Config) (w : Whole) (rd level : ℕ) (entries : EntryChange)
+    (page : Option TagChange) (realm : Option RealmChange) (rec : Option RecChange)
     → IsShaped config w → CanChangeEntries (flat_state config w.cells) rd level entries page → CanChangeRealm (flat_state config w.cells) realm
     → CanChangeRec (flat_state config w.cells) rec → Makes config w (EntriesChanged rd level entries page realm rec)
 unfolding changed cells_changed side_changed places_changed flat_state
@@ -209,12 +206,14 @@ Makes-entries config w rd level entries page realm rec shaped can can_realm can_
     λ a r is. page-stays cells page can_page a (Rd r) is (λ o none _ _ same. none-some r (sym none ∙ ap realm_in same)) in
     let recs : (a : ℕ) (c : RecRecord) → cells a ≡ Rec c → two a ≡ Rec c =
     λ a c is. realm-stays config cells one realm sound can_realm rds a (Rec c)
-    (page-stays cells page can_page a (Rec c) is (λ o _ none _ same. none-some c (sym none ∙ ap rec_in same))) (λ r same. none-some r (sym (ap realm_in same))) in
+    (page-stays cells page can_page a (Rec c) is (λ o _ none _ same. none-some c (sym none ∙ ap rec_in same)))
+    (λ r same. none-some r (sym (ap realm_in same))) in
     let table_is : cells g ≡ Rtt t = cell-table (cells g) t change.is_held in
     let table_still : three g ≡ Rtt t =
     rec-stays config cells two rec sound can_rec recs g (Rtt t)
     (realm-stays config cells one realm sound can_realm rds g (Rtt t)
-    (page-stays cells page can_page g (Rtt t) table_is (λ o _ _ none same. none-some t (sym none ∙ ap table_in same))) (λ r same. none-some r (sym (ap realm_in same))))
+    (page-stays cells page can_page g (Rtt t) table_is (λ o _ _ none same. none-some t (sym none ∙ ap table_in same)))
+    (λ r same. none-some r (sym (ap realm_in same))))
     (λ c same. none-some c (sym (ap rec_in same))) in
     let first = views_of-page config cells page can_page in
     let second = views_of-realm_change config cells one realm sound can_realm rds (ap (λ (v : Views). v.realms) first) in
@@ -248,10 +247,12 @@ Makes-entries config w rd level entries page realm rec shaped can can_realm can_
       })
           ∙ entries_parts s rd level entries page realm rec;
       tied = record {
-        sides = AreListed-like config.granules w.side (realms_of cells) (with_realm_change s realm).realm (recs_of cells) (with_rec_change s rec).rec like
+        sides = AreListed-like config.granules w.side (realms_of cells)
+            (with_realm_change s realm).realm (recs_of cells) (with_rec_change s rec).rec like
             (rec_change-alike config cells rec sound can_rec) old.sides;
         tables = ArePlaced-entries config.granules (with_realm_change s realm).realm (tables_of cells) g t (with_entries t ys)
-            (ArePlaced-like config.granules (realms_of cells) (with_realm_change s realm).realm (tables_of cells) like old.tables) change.is_held refl change.rewritten.whole;
+            (ArePlaced-like config.granules (realms_of cells) (with_realm_change s realm).realm (tables_of cells) like old.tables)
+            change.is_held refl change.rewritten.whole;
         links = AreLinks-entries config.granules (tables_of cells) g t ys change.is_held change.rewritten.links old.links;
         inside = rec_change-inside config cells w.places rec sound can_rec old.inside;
       };

@@ -1,17 +1,12 @@
 -- The table that a search finds is the one of that place, before and after a table is changed, put in or taken out.
-use Rattle.std.proofs.Common.{◌≡◌, ℕ, zero, suc, ◌*◌, ◌/◌, ◌%◌, ◌<◌, Bool, true, false, ◌==◌, ◌⊎◌, if◌then◌else◌, IsTrue, Option, Some, None, option_map, nat_lt, refl, sym, ap, ◌∙◌, subst, inl, inr, arith, eq-eqb, eqb-true}
-use Rattle.std.proofs.lemmas.Bool.{false≢true, and_parts, false_from_ne_true}
+use Rattle.shape_laws.proofs.Common.{◌%◌, ◌*◌, ◌/◌, ◌<◌, ◌==◌, ◌∙◌, ◌≡◌, Bool, IsTrue, None, Option, Some, TableRecord, ap, arith, both_ways, by_address, eq-eqb, eqb-true, false, false_from_ne_true, if◌then◌else◌, inl, inr, is_granule, is_same_table, none-some, place_number, put, put-elsewhere, put-here, refl, same_Some, spot_hit, subst, suc, sym, table_granule, true, zero, ℕ}
+use Rattle.std.proofs.Common.{◌⊎◌, option_map, nat_lt}
+use Rattle.std.proofs.lemmas.Bool.{false≢true, and_parts}
 use Rattle.std.proofs.lemmas.Bool.Decides.{nat_tests}
-use Rattle.std.proofs.lemmas.Option.{none-some, same_Some}
-use Rattle.rmm_spec.specs.Lookup.{is_granule}
-use Rattle.rmm_spec.specs.Update.{is_same_entry, is_same_table}
-use Rattle.rmm_spec.specs.Table.{TableRecord, place_number}
-use Rattle.rmm_spec.specs.Cell.{put}
-use Rattle.rmm_spec.specs.Flat.{found_below, is_table_of, table_granule}
+use Rattle.rmm_spec.specs.Update.{is_same_entry}
+use Rattle.rmm_spec.specs.Flat.{found_below, is_table_of}
 use Rattle.rmm_spec.specs.Shape.{HoldsTable}
-use Rattle.rmm_sound.proofs.Cases.{nothing_there, by_address, spot_hit, spot_itself}
-use Rattle.spec_lemmas.proofs.Maps.{put-elsewhere, put-here}
-use Rattle.lemmas.proofs.Tests.{both_ways}
+use Rattle.rmm_sound.proofs.Cases.{nothing_there, spot_itself}
 
 -- ---- searches
 
@@ -50,7 +45,8 @@ found_below-new n old new k below is others none =
     let passes = found_below-passes n new found.0 found.1 in
     by (found.0 == k) refl found.0 refl found.1 passes.0 passes.1
   where
-    by : (b : Bool) → (found_below-some n new k below is).0 == k ≡ b → (j : ℕ) → (found_below-some n new k below is).0 ≡ j → found_below n new ≡ Some j
+    by : (b : Bool) → (found_below-some n new k below is).0 == k ≡ b → (j : ℕ)
+        → (found_below-some n new k below is).0 ≡ j → found_below n new ≡ Some j
         → j < n → IsTrue (new j) → found_below n new ≡ Some k
     by true same j at found within passes = found ∙ ap Some (sym at ∙ eqb-true _ k same)
     by false apart j at found within passes =
@@ -89,9 +85,11 @@ is_table_of-holds tables granule rd level number (Some t) at is =
 pub table_granule-holds : (granules : ℕ) (tables : ℕ → Option TableRecord) (rd level number granule : ℕ)
     → table_granule granules tables rd level number ≡ Some granule → HoldsTable tables granule rd level number
 unfolding table_granule
-table_granule-holds granules tables rd level number granule is = by (found_below granules (λ k. is_table_of rd level number (tables (k * 4096)))) refl is
+table_granule-holds granules tables rd level number granule is =
+    by (found_below granules (λ k. is_table_of rd level number (tables (k * 4096)))) refl is
   where
-    by : (found : Option ℕ) → found_below granules (λ k. is_table_of rd level number (tables (k * 4096))) ≡ found → option_map (λ k. k * 4096) found ≡ Some granule
+    by : (found : Option ℕ) → found_below granules (λ k. is_table_of rd level number (tables (k * 4096))) ≡ found
+        → option_map (λ k. k * 4096) found ≡ Some granule
         → HoldsTable tables granule rd level number
     by None at none = absurd (none-some granule none)
     by (Some k) at some =
@@ -139,19 +137,24 @@ IsPlaced-test t rd level number other l n placed apart =
 pub table_granule-kept : (granules : ℕ) (tables : ℕ → Option TableRecord) (granule : ℕ) (t u : TableRecord) → tables granule ≡ Some t
     → u.place ≡ t.place → table_granule granules (put tables granule (Some u)) ≡ table_granule granules tables
 unfolding table_granule
-table_granule-kept granules tables granule t u at same = λ i rd level number. option_map (λ k. k * 4096) (found_below granules (λ k. each rd level number (k * 4096) i))
+table_granule-kept granules tables granule t u at same =
+    λ i rd level number. option_map (λ k. k * 4096) (found_below granules (λ k. each rd level number (k * 4096) i))
   where
-    each : (rd level number address : ℕ) → is_table_of rd level number (put tables granule (Some u) address) ≡ is_table_of rd level number (tables address)
+    each : (rd level number address : ℕ)
+        → is_table_of rd level number (put tables granule (Some u) address) ≡ is_table_of rd level number (tables address)
     each rd level number address =
-        by_address (λ found. is_table_of rd level number found ≡ is_table_of rd level number (tables address)) address granule (Some u) (tables address)
-        (λ here. ap (λ p. is_same_entry rd level number p.rd p.level (place_number p)) same ∙ sym (ap (is_table_of rd level number) (ap tables here ∙ at)))
+        by_address (λ found. is_table_of rd level number found ≡ is_table_of rd level number (tables address))
+        address granule (Some u) (tables address)
+        (λ here. ap (λ p. is_same_entry rd level number p.rd p.level (place_number p)) same
+        ∙ sym (ap (is_table_of rd level number) (ap tables here ∙ at)))
         (λ apart. refl)
 
 -- a table put in where none was
 pub table_granule-put : (granules : ℕ) (tables : ℕ → Option TableRecord) (granule : ℕ) (t : TableRecord) (rd level number : ℕ)
     → IsTrue (is_granule granules granule) → tables granule ≡ None → IsPlaced t rd level number
     → table_granule granules tables rd level number ≡ None → (other l n : ℕ)
-    → table_granule granules (put tables granule (Some t)) other l n ≡ (if is_same_table rd level number other l n then Some granule else table_granule granules tables other l n)
+    → table_granule granules (put tables granule (Some t)) other l n
+    ≡ (if is_same_table rd level number other l n then Some granule else table_granule granules tables other l n)
 unfolding table_granule
 table_granule-put granules tables granule t rd level number within at placed none other l n = by (is_same_table rd level number other l n) refl
   where
@@ -174,10 +177,13 @@ table_granule-put granules tables granule t rd level number within at placed non
         let passes : IsTrue (is_table_of other l n (put tables granule (Some t) ((granule / 4096) * 4096))) =
         subst (λ g. IsTrue (is_table_of other l n (put tables granule (Some t) g))) address.1
         (ap (is_table_of other l n) (put-here tables granule (Some t))
-        ∙ same_place other l n t.place.rd t.place.level (place_number t.place) (placed.is_realm ∙ sym here) (placed.is_level ∙ sym below) (placed.is_number ∙ sym first)) in
+        ∙ same_place other l n t.place.rd t.place.level (place_number t.place)
+        (placed.is_realm ∙ sym here) (placed.is_level ∙ sym below) (placed.is_number ∙ sym first)) in
         ap (option_map (λ k. k * 4096))
-        (found_below-new granules (λ k. is_table_of other l n (tables (k * 4096))) (λ k. is_table_of other l n (put tables granule (Some t) (k * 4096)))
-        (granule / 4096) address.0 passes (λ k apart. ap (is_table_of other l n) (put-elsewhere tables granule (Some t) (k * 4096) (apart_from k apart))) none_here)
+        (found_below-new granules (λ k. is_table_of other l n (tables (k * 4096)))
+        (λ k. is_table_of other l n (put tables granule (Some t) (k * 4096)))
+        (granule / 4096) address.0 passes
+        (λ k apart. ap (is_table_of other l n) (put-elsewhere tables granule (Some t) (k * 4096) (apart_from k apart))) none_here)
         ∙ ap Some (sym address.1))
     by false apart = λ i. option_map (λ k. k * 4096) (found_below granules (λ k. each (k * 4096) i))
       where
@@ -188,7 +194,8 @@ table_granule-put granules tables granule t rd level number within at placed non
 -- a table taken out
 pub table_granule-taken : (granules : ℕ) (tables : ℕ → Option TableRecord) (granule : ℕ) (t : TableRecord) (rd level number : ℕ)
     → AreFound granules tables → tables granule ≡ Some t → IsPlaced t rd level number → (other l n : ℕ)
-    → table_granule granules (put tables granule None) other l n ≡ (if is_same_table rd level number other l n then None else table_granule granules tables other l n)
+    → table_granule granules (put tables granule None) other l n
+    ≡ (if is_same_table rd level number other l n then None else table_granule granules tables other l n)
 unfolding table_granule
 table_granule-taken granules tables granule t rd level number found at placed other l n = by (is_same_table rd level number other l n) refl
   where
@@ -205,7 +212,13 @@ table_granule-taken granules tables granule t rd level number found at placed ot
             let one : table_granule granules tables other l n ≡ Some a = holds-found granules tables a other l n found held in
             let two : table_granule granules tables other l n ≡ Some granule =
             holds-found granules tables granule other l n found
-            (record { table = t; is_held = at; is_realm = placed.is_realm ∙ sym here; is_level = placed.is_level ∙ sym below; is_number = placed.is_number ∙ sym first }) in
+            (record {
+              table = t;
+              is_held = at;
+              is_realm = placed.is_realm ∙ sym here;
+              is_level = placed.is_level ∙ sym below;
+              is_number = placed.is_number ∙ sym first;
+            }) in
             both_ways (eq-eqb a granule (same_Some a granule (sym one ∙ two))) apart))
     by false apart = λ i. option_map (λ k. k * 4096) (found_below granules (λ k. each (k * 4096) i))
       where

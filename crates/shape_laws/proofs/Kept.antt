@@ -1,23 +1,15 @@
 -- What is owed for a kind of change: the maps of the whole that it makes, that they are the changed state's, and their ties.
-use Rattle.std.proofs.Common.{◌≡◌, ℕ, ◌==◌, ◌*◌, IsTrue, Option, Some, None, refl, sym, ap, ◌∙◌, subst}
-use Rattle.std.proofs.lemmas.Option.{same_Some}
-use Rattle.rmm_spec.specs.HistoryText.{Config}
+use Rattle.shape_laws.proofs.Common.{◌*◌, ◌==◌, ◌∙◌, ◌≡◌, Cell, Config, CpuPlace, Delegated, IsShaped, IsSound, IsTrue, None, Option, Rd, RealmRecord, Rec, RecRecord, Rtt, Some, TableRecord, Whole, ap, by_address, cells_changed, changed, flat_state, places_changed, put, realm_at, realm_in, realm_there, rec_in, refl, same_Some, side_changed, subst, sym, table_in, tag_of, ℕ}
 use Rattle.rmm_spec.specs.declared.change.Change.{Change}
 use Rattle.rmm_spec.specs.declared.tag.Tag.TheVariants as tag
-use Rattle.rmm_spec.specs.State.{RealmRecord, RecRecord}
-use Rattle.rmm_spec.specs.Lookup.{has_tag, realm_at, rec_at, is_owned_by}
-use Rattle.rmm_spec.specs.Table.{TableRecord}
-use Rattle.rmm_spec.specs.Change.{changed}
-use Rattle.rmm_spec.specs.Sound.{IsSound}
+use Rattle.rmm_spec.specs.Lookup.{has_tag, rec_at, is_owned_by}
 use Rattle.rmm_spec.specs.Applicable.{CanApply}
-use Rattle.rmm_spec.specs.Cell.{Cell, Undelegated, Delegated, Rd, Rec, RecAux, Data, Rtt, put, tag_of, realm_in, rec_in, table_in}
-use Rattle.rmm_spec.specs.Flat.{flat_state}
-use Rattle.rmm_spec.specs.Shape.{Side, CpuPlace, count_below}
-use Rattle.rmm_sound.proofs.Cases.{by_address}
+use Rattle.rmm_spec.specs.Cell.{Undelegated, RecAux, Data}
+use Rattle.rmm_spec.specs.Shape.{Side, count_below}
 use Rattle.rmm_sound.proofs.Changes.{changed_sound}
 use Rattle.rmm_sound.proofs.Kept.{IsLike, like_itself}
-use Rattle.rmm_sound.proofs.Searches.{realm_there, rec_there}
-use Rattle.shape_laws.specs.Whole.{Whole, IsShaped, cells_changed, side_changed, places_changed, whole_changed}
+use Rattle.rmm_sound.proofs.Searches.{rec_there}
+use Rattle.shape_laws.specs.Whole.{whole_changed}
 use Rattle.shape_laws.proofs.Cells.{Views, views_of, flat_views, flat_state-views, views_put, IsAt, tag-cell, cell-delegated, cell-undelegated, cell-realm, cell-rec}
 use Rattle.shape_laws.proofs.Ties.{IsTied, AreListed, ArePlaced, AreInside, well_shaped-is_sound}
 use Rattle.shape_laws.proofs.Shaped.{IsWellShaped-tied}
@@ -59,15 +51,19 @@ pub undelegated_there : (config : Config) (cells : ℕ → Cell) (address : ℕ)
     → cells address ≡ Undelegated
 undelegated_there config cells address has = cell-undelegated (cells address) (tag-cell config cells address tag.Undelegated has)
 
-pub rd_there : (config : Config) (cells : ℕ → Cell) (rd : ℕ) → IsSound (flat_state config cells) → IsTrue (has_tag (flat_state config cells) rd tag.Rd)
+pub rd_there : (config : Config) (cells : ℕ → Cell) (rd : ℕ)
+    → IsSound (flat_state config cells) → IsTrue (has_tag (flat_state config cells) rd tag.Rd)
     → cells rd ≡ Rd (realm_at (flat_state config cells) rd)
 unfolding flat_state
-rd_there config cells rd sound has = cell-realm (cells rd) (realm_at (flat_state config cells) rd) (realm_there (flat_state config cells) rd sound has)
+rd_there config cells rd sound has =
+    cell-realm (cells rd) (realm_at (flat_state config cells) rd) (realm_there (flat_state config cells) rd sound has)
 
-pub rec_cell_there : (config : Config) (cells : ℕ → Cell) (rec : ℕ) → IsSound (flat_state config cells) → IsTrue (has_tag (flat_state config cells) rec tag.Rec)
+pub rec_cell_there : (config : Config) (cells : ℕ → Cell) (rec : ℕ)
+    → IsSound (flat_state config cells) → IsTrue (has_tag (flat_state config cells) rec tag.Rec)
     → cells rec ≡ Rec (rec_at (flat_state config cells) rec)
 unfolding flat_state
-rec_cell_there config cells rec sound has = cell-rec (cells rec) (rec_at (flat_state config cells) rec) (rec_there (flat_state config cells) rec sound has)
+rec_cell_there config cells rec sound has =
+    cell-rec (cells rec) (rec_at (flat_state config cells) rec) (rec_there (flat_state config cells) rec sound has)
 
 -- ---- one cell changed, as maps
 
@@ -153,7 +149,8 @@ ArePlaced-like granules realms like tables same old = record {
   whole = old.whole;
 }
 
-pub IsTied-records : (granules : ℕ) (side : Side) (places moved : ℕ → CpuPlace) (v : Views) (like : ℕ → Option RealmRecord) (alike : ℕ → Option RecRecord)
+pub IsTied-records : (granules : ℕ) (side : Side) (places moved : ℕ → CpuPlace)
+    (v : Views) (like : ℕ → Option RealmRecord) (alike : ℕ → Option RecRecord)
     → AreLike v.realms like → AreOwnedAlike v.recs alike → AreInside moved alike → IsTied granules side places v
     → IsTied granules side moved (record v { realms = like; recs = alike })
 IsTied-records granules side places moved v like alike same owned inside old = record {
@@ -163,7 +160,8 @@ IsTied-records granules side places moved v like alike same owned inside old = r
   inside = inside;
 }
 
-pub like_put : (realms : ℕ → Option RealmRecord) (rd : ℕ) (old new : RealmRecord) → realms rd ≡ Some old → IsLike old new → AreLike realms (put realms rd (Some new))
+pub like_put : (realms : ℕ → Option RealmRecord) (rd : ℕ) (old new : RealmRecord)
+    → realms rd ≡ Some old → IsLike old new → AreLike realms (put realms rd (Some new))
 like_put realms rd old new there like = record {
   before = λ g r. by_address (λ found. found ≡ Some r → (q : RealmRecord) × (realms g ≡ Some q) × IsLike q r) g rd (Some new) (realms g)
       (λ here e. (old, ap realms here ∙ there, subst (IsLike old) (same_Some new r e) like)) (λ _ e. (r, e, like_itself r));
@@ -175,7 +173,8 @@ like_put realms rd old new there like = record {
 pub like_same : (realms : ℕ → Option RealmRecord) → AreLike realms realms
 like_same realms = record { before = λ g r e. (r, e, like_itself r); after = λ g q e. (q, e, like_itself q) }
 
-pub alike_put : (recs : ℕ → Option RecRecord) (rec : ℕ) (old new : RecRecord) → recs rec ≡ Some old → new.owner ≡ old.owner → AreOwnedAlike recs (put recs rec (Some new))
+pub alike_put : (recs : ℕ → Option RecRecord) (rec : ℕ) (old new : RecRecord)
+    → recs rec ≡ Some old → new.owner ≡ old.owner → AreOwnedAlike recs (put recs rec (Some new))
 alike_put recs rec old new there owner rd g =
     by_address (λ found. is_owned_by rd found ≡ is_owned_by rd (recs g)) g rec (Some new) (recs g)
     (λ here. ap (λ o. o == rd) owner ∙ sym (ap (is_owned_by rd) (ap recs here ∙ there))) (λ _. refl)

@@ -1,20 +1,10 @@
 -- Tables and their leaves, after one table has other entries, is put in, or is taken out.
-use Rattle.std.proofs.Common.{◌≡◌, ℕ, ◌*◌, ◌/◌, ◌%◌, Bool, true, false, ◌==◌, if◌then◌else◌, IsTrue, length, Option, Some, None, option_and_then, refl, sym, ap, ◌∙◌, subst, eq-eqb, eqb-true}
-use Rattle.std.proofs.lemmas.Bool.{false_from_ne_true}
-use Rattle.std.proofs.lemmas.Option.{none-some, same_Some}
-use Rattle.rmm_spec.specs.State.{RealmRecord}
-use Rattle.rmm_spec.specs.Lookup.{is_granule}
-use Rattle.rmm_spec.specs.Update.{is_same_entry, is_same_table}
+use Rattle.shape_laws.proofs.Common.{◌%◌, ◌*◌, ◌/◌, ◌==◌, ◌∙◌, ◌≡◌, Bool, IsTrue, None, Option, RealmRecord, Some, TableRecord, ap, both_ways, by_address, eq-eqb, eqb-true, false, false_from_ne_true, if◌then◌else◌, is_granule, is_same_table, leaf_in_tables, length, none-some, option_and_then, place_number, put, put-elsewhere, put-here, refl, same_Some, spot_hit, subst, sym, table_granule, true, ℕ}
+use Rattle.rmm_spec.specs.Update.{is_same_entry}
 use Rattle.rmm_spec.specs.Walk.{table_size}
-use Rattle.rmm_spec.specs.Table.{TableRecord, place_number}
-use Rattle.rmm_spec.specs.Cell.{put}
-use Rattle.rmm_spec.specs.Flat.{table_granule, leaf_in_tables}
 use Rattle.rmm_spec.specs.Shape.{HoldsTable}
-use Rattle.rmm_sound.proofs.Cases.{by_address, spot_hit}
 use Rattle.shape_laws.proofs.Finds.{AreFound, IsPlaced, holds-found, same_place, table_granule-holds, table_granule-kept, table_granule-put, table_granule-taken}
 use Rattle.shape_laws.proofs.Ties.{entry_leaf, leaf-found, same_table, ArePlaced}
-use Rattle.spec_lemmas.proofs.Maps.{put-elsewhere, put-here}
-use Rattle.lemmas.proofs.Tests.{both_ways}
 
 -- ---- leaves by the table that is found
 
@@ -29,14 +19,16 @@ leaf-same : (granules : ℕ) (tables now : ℕ → Option TableRecord) (rd level
     → table_granule granules tables rd level (number / 512) ≡ found → table_granule granules now rd level (number / 512) ≡ found
     → ((g : ℕ) → found ≡ Some g → now g ≡ tables g) → leaf_in_tables granules now rd level number ≡ leaf_in_tables granules tables rd level number
 unfolding leaf_in_tables
-leaf-same granules tables now rd level number None old new same = leaf-none granules now rd level number new ∙ sym (leaf-none granules tables rd level number old)
+leaf-same granules tables now rd level number None old new same =
+    leaf-none granules now rd level number new ∙ sym (leaf-none granules tables rd level number old)
 leaf-same granules tables now rd level number (Some g) old new same =
     ap (option_and_then (λ g. option_and_then (λ (u : TableRecord). entry_leaf u.entries (number % 512)) (now g))) new
     ∙ ap (option_and_then (λ (u : TableRecord). entry_leaf u.entries (number % 512))) (same g refl)
     ∙ sym (ap (option_and_then (λ g. option_and_then (λ (u : TableRecord). entry_leaf u.entries (number % 512)) (tables g))) old)
 
 -- a granule that holds the table is at its place
-placed_here : (tables : ℕ → Option TableRecord) (granule : ℕ) (t : TableRecord) (rd level number : ℕ) → tables granule ≡ Some t → IsPlaced t rd level number
+placed_here : (tables : ℕ → Option TableRecord) (granule : ℕ) (t : TableRecord) (rd level number : ℕ)
+    → tables granule ≡ Some t → IsPlaced t rd level number
     → (g other l n : ℕ) → g ≡ granule → HoldsTable tables g other l n → is_same_entry rd level number other l n ≡ true
 placed_here tables granule t rd level number at placed g other l n here held =
     let same : held.table ≡ t = same_table tables granule held.table t (ap tables (sym here) ∙ held.is_held) at in
@@ -44,7 +36,8 @@ placed_here tables granule t rd level number at placed g other l n here held =
     (sym held.is_level ∙ ap (λ (u : TableRecord). u.place.level) same ∙ placed.is_level)
     (sym held.is_number ∙ ap (λ (u : TableRecord). place_number u.place) same ∙ placed.is_number)
 
-pub placed_holds : (tables : ℕ → Option TableRecord) (granule : ℕ) (t : TableRecord) (rd level number : ℕ) → tables granule ≡ Some t → IsPlaced t rd level number
+pub placed_holds : (tables : ℕ → Option TableRecord) (granule : ℕ) (t : TableRecord) (rd level number : ℕ)
+    → tables granule ≡ Some t → IsPlaced t rd level number
     → HoldsTable tables granule rd level number
 placed_holds tables granule t rd level number at placed =
     record { table = t; is_held = at; is_realm = placed.is_realm; is_level = placed.is_level; is_number = placed.is_number }
@@ -81,8 +74,10 @@ pub AreFound-entries : (granules : ℕ) (tables : ℕ → Option TableRecord) (g
     → tables granule ≡ Some t → u.place ≡ t.place → AreFound granules (put tables granule (Some u))
 AreFound-entries granules tables granule t u found at same g x held =
     (λ i. table_granule-kept granules tables granule t u at same i x.place.rd x.place.level (place_number x.place))
-    ∙ by_address (λ o. o ≡ Some x → table_granule granules tables x.place.rd x.place.level (place_number x.place) ≡ Some g) g granule (Some u) (tables g)
-    (λ here is. ap (λ p. table_granule granules tables p.rd p.level (place_number p)) (sym (ap (λ (v : TableRecord). v.place) (same_Some u x is)) ∙ same)
+    ∙ by_address (λ o. o ≡ Some x → table_granule granules tables x.place.rd x.place.level (place_number x.place) ≡ Some g)
+    g granule (Some u) (tables g)
+    (λ here is. ap (λ p. table_granule granules tables p.rd p.level (place_number p))
+    (sym (ap (λ (v : TableRecord). v.place) (same_Some u x is)) ∙ same)
     ∙ found granule t at ∙ ap Some (sym here))
     (λ _ is. found g x is) held
 
@@ -97,7 +92,8 @@ ArePlaced-entries granules realms tables granule t u old at same whole = record 
       ap (λ p. p.width) (sym place) ∙ old.widths granule t realm at (ap (λ p. realms p.rd) place ∙ of_realm))
       (λ _ is of_realm. old.widths g x realm is of_realm);
   bases = λ g x. by_address (λ o. o ≡ Some x → x.place.base ≡ place_number x.place * table_size x.place.level) g granule (Some u) (tables g)
-      (λ _ is. subst (λ p. p.base ≡ place_number p * table_size p.level) (sym same ∙ ap (λ (v : TableRecord). v.place) (same_Some u x is)) (old.bases granule t at))
+      (λ _ is. subst (λ p. p.base ≡ place_number p * table_size p.level)
+      (sym same ∙ ap (λ (v : TableRecord). v.place) (same_Some u x is)) (old.bases granule t at))
       (λ _ is. old.bases g x is);
   whole = λ g x. by_address (λ o. o ≡ Some x → length x.entries ≡ 512) g granule (Some u) (tables g)
       (λ _ is. ap (λ (v : TableRecord). length v.entries) (sym (same_Some u x is)) ∙ whole) (λ _ is. old.whole g x is);
@@ -114,8 +110,10 @@ pub record CanPutIn (granules : ℕ) (tables : ℕ → Option TableRecord) (gran
 
 pub table-put : (granules : ℕ) (tables : ℕ → Option TableRecord) (granule : ℕ) (t : TableRecord) (rd level number : ℕ)
     → CanPutIn granules tables granule t rd level number → (other l n : ℕ)
-    → table_granule granules (put tables granule (Some t)) other l n ≡ (if is_same_table rd level number other l n then Some granule else table_granule granules tables other l n)
-table-put granules tables granule t rd level number can = table_granule-put granules tables granule t rd level number can.within can.free can.placed can.new
+    → table_granule granules (put tables granule (Some t)) other l n
+    ≡ (if is_same_table rd level number other l n then Some granule else table_granule granules tables other l n)
+table-put granules tables granule t rd level number can =
+    table_granule-put granules tables granule t rd level number can.within can.free can.placed can.new
 
 pub leaf-put : (granules : ℕ) (tables : ℕ → Option TableRecord) (granule : ℕ) (t : TableRecord) (rd level number : ℕ)
     → CanPutIn granules tables granule t rd level number → (other l n : ℕ)
@@ -124,7 +122,8 @@ pub leaf-put : (granules : ℕ) (tables : ℕ → Option TableRecord) (granule :
 leaf-put granules tables granule t rd level number can other l n = by (is_same_table rd level number other l (n / 512)) refl
   where
     by : (b : Bool) → is_same_table rd level number other l (n / 512) ≡ b
-        → leaf_in_tables granules (put tables granule (Some t)) other l n ≡ (if b then entry_leaf t.entries (n % 512) else leaf_in_tables granules tables other l n)
+        → leaf_in_tables granules (put tables granule (Some t)) other l n
+        ≡ (if b then entry_leaf t.entries (n % 512) else leaf_in_tables granules tables other l n)
     by true same =
         leaf-found granules (put tables granule (Some t)) other l n granule t
         (table-put granules tables granule t rd level number can other l (n / 512)
@@ -151,13 +150,14 @@ table-put_keeps granules tables granule t rd level number can other l n g is =
 pub AreFound-put : (granules : ℕ) (tables : ℕ → Option TableRecord) (granule : ℕ) (t : TableRecord) (rd level number : ℕ) → AreFound granules tables
     → CanPutIn granules tables granule t rd level number → AreFound granules (put tables granule (Some t))
 AreFound-put granules tables granule t rd level number found can g x =
-    by_address (λ o. o ≡ Some x → table_granule granules (put tables granule (Some t)) x.place.rd x.place.level (place_number x.place) ≡ Some g) g granule (Some t) (tables g)
-    (λ here is.
+    by_address (λ o. o ≡ Some x → table_granule granules (put tables granule (Some t)) x.place.rd x.place.level (place_number x.place) ≡ Some g)
+    g granule (Some t) (tables g) (λ here is.
     let place = ap (λ (v : TableRecord). v.place) (same_Some t x is) in
     table-put granules tables granule t rd level number can x.place.rd x.place.level (place_number x.place)
     ∙ ap (λ b. if b then Some granule else table_granule granules tables x.place.rd x.place.level (place_number x.place))
     (same_place rd level number x.place.rd x.place.level (place_number x.place)
-    (sym (ap (λ p. p.rd) place) ∙ can.placed.is_realm) (sym (ap (λ p. p.level) place) ∙ can.placed.is_level) (sym (ap (λ p. place_number p) place) ∙ can.placed.is_number))
+    (sym (ap (λ p. p.rd) place) ∙ can.placed.is_realm) (sym (ap (λ p. p.level) place) ∙ can.placed.is_level)
+    (sym (ap (λ p. place_number p) place) ∙ can.placed.is_number))
     ∙ ap Some (sym here))
     (λ _ is. table-put_keeps granules tables granule t rd level number can x.place.rd x.place.level (place_number x.place) g (found g x is))
 
@@ -167,7 +167,8 @@ pub record IsMadeFor (realms : ℕ → Option RealmRecord) (t : TableRecord) : T
   pub base : t.place.base ≡ place_number t.place * table_size t.place.level
   pub whole : length t.entries ≡ 512
 
-pub ArePlaced-put : (granules : ℕ) (realms : ℕ → Option RealmRecord) (tables : ℕ → Option TableRecord) (granule : ℕ) (t : TableRecord) (rd level number : ℕ)
+pub ArePlaced-put : (granules : ℕ) (realms : ℕ → Option RealmRecord)
+    (tables : ℕ → Option TableRecord) (granule : ℕ) (t : TableRecord) (rd level number : ℕ)
     → ArePlaced granules realms tables → CanPutIn granules tables granule t rd level number → IsMadeFor realms t
     → ArePlaced granules realms (put tables granule (Some t))
 ArePlaced-put granules realms tables granule t rd level number old can made = record {
@@ -217,7 +218,8 @@ leaf-taken granules tables granule t rd level number found at placed other l n =
 
 -- what was found and isn't taken out is found
 pub table-taken_keeps : (granules : ℕ) (tables : ℕ → Option TableRecord) (granule : ℕ) (t : TableRecord) (rd level number : ℕ)
-    → AreFound granules tables → tables granule ≡ Some t → IsPlaced t rd level number → (other l n g : ℕ) → table_granule granules tables other l n ≡ Some g
+    → AreFound granules tables → tables granule ≡ Some t → IsPlaced t rd level number → (other l n g : ℕ)
+    → table_granule granules tables other l n ≡ Some g
     → (g == granule) ≡ false → table_granule granules (put tables granule None) other l n ≡ Some g
 table-taken_keeps granules tables granule t rd level number found at placed other l n g is apart =
     table_granule-taken granules tables granule t rd level number found at placed other l n
@@ -227,7 +229,8 @@ table-taken_keeps granules tables granule t rd level number found at placed othe
     ∙ holds-found granules tables granule rd level number found (placed_holds tables granule t rd level number at placed)))) apart)))
     ∙ is
 
-pub ArePlaced-taken : (granules : ℕ) (realms : ℕ → Option RealmRecord) (tables : ℕ → Option TableRecord) (granule : ℕ) (t : TableRecord) (rd level number : ℕ)
+pub ArePlaced-taken : (granules : ℕ) (realms : ℕ → Option RealmRecord)
+    (tables : ℕ → Option TableRecord) (granule : ℕ) (t : TableRecord) (rd level number : ℕ)
     → ArePlaced granules realms tables → tables granule ≡ Some t → IsPlaced t rd level number → ArePlaced granules realms (put tables granule None)
 ArePlaced-taken granules realms tables granule t rd level number old at placed =
     let left : (g : ℕ) (x : TableRecord) → put tables granule None g ≡ Some x → ((g == granule) ≡ false) × (tables g ≡ Some x) =

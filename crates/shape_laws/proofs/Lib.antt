@@ -1,3 +1,4 @@
+pub mod Common
 pub mod Cells
 pub mod Finds
 pub mod Ties

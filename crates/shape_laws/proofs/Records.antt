@@ -1,30 +1,21 @@
 -- Records of a realm and of a REC are updated, with the place of a CPU that enters the REC or leaves it.
-use Rattle.std.proofs.Common.{◌≡◌, ℕ, false, IsTrue, Option, Some, None, is_some, is_none, refl, sym, ap, ◌∙◌, subst, eq-eqb, eqb-true}
-use Rattle.std.proofs.lemmas.Bool.{false_from_ne_true}
-use Rattle.std.proofs.lemmas.Option.{none-some, same_Some}
-use Rattle.rmm_spec.specs.HistoryText.{Config}
+use Rattle.shape_laws.proofs.Common.{◌∙◌, ◌≡◌, Cell, Config, CpuPlace, IsShaped, IsSound, IsTrue, None, Option, Rd, RealmRecord, Rec, RecRecord, Some, State, Whole, ap, both_ways, by_address, cells_changed, changed, eq-eqb, eqb-true, false, false_from_ne_true, flat_state, none-some, places_changed, put, put-elsewhere, put-here, realm_at, realm_there, realms_of, recs_of, refl, same_Some, side_changed, subst, sym, ℕ}
+use Rattle.std.proofs.Common.{is_some, is_none}
 use Rattle.rmm_spec.specs.declared.change.Change.TheVariants.{RecordsChanged}
 use Rattle.rmm_spec.specs.declared.change.RealmChange.{RealmChange}
 use Rattle.rmm_spec.specs.declared.change.RecChange.{RecChange}
 use Rattle.rmm_spec.specs.declared.change.RecUpdate.{RecUpdate}
 use Rattle.rmm_spec.specs.declared.change.RecUpdate.TheVariants as rec_update
-use Rattle.rmm_spec.specs.State.{State, RealmRecord, RecRecord}
-use Rattle.rmm_spec.specs.Lookup.{realm_at, rec_at, runs_on, is_cpu}
-use Rattle.rmm_spec.specs.Change.{changed, realm_updated, rec_updated, with_realm_change, with_rec_change}
-use Rattle.rmm_spec.specs.Sound.{IsSound}
+use Rattle.rmm_spec.specs.Lookup.{rec_at, runs_on, is_cpu}
+use Rattle.rmm_spec.specs.Change.{realm_updated, rec_updated, with_realm_change, with_rec_change}
 use Rattle.rmm_spec.specs.Applicable.{CanChangeRealm, CanChangeRec, CanUpdateRec}
-use Rattle.rmm_spec.specs.Cell.{Cell, Rd, Rec, put, realms_of, recs_of}
-use Rattle.rmm_spec.specs.Flat.{flat_state}
-use Rattle.rmm_spec.specs.Shape.{CpuPlace, Outside, Inside, RunsOn}
-use Rattle.rmm_sound.proofs.Cases.{by_address}
+use Rattle.rmm_spec.specs.Shape.{Outside, Inside, RunsOn}
 use Rattle.rmm_sound.proofs.Records.{updated_like}
-use Rattle.rmm_sound.proofs.Searches.{none_runs, realm_there, rec_there}
-use Rattle.shape_laws.specs.Whole.{Whole, IsShaped, cell_with_realm, cell_with_rec, cells_with_realm_change, cells_with_rec_change, places_left, places_of_rec, places_with_rec_change, cells_changed, side_changed, places_changed}
+use Rattle.rmm_sound.proofs.Searches.{none_runs, rec_there}
+use Rattle.shape_laws.specs.Whole.{cell_with_realm, cell_with_rec, cells_with_realm_change, cells_with_rec_change, places_left, places_of_rec, places_with_rec_change}
 use Rattle.shape_laws.proofs.Cells.{Views, views_of, views_of-put, IsAt-cell}
 use Rattle.shape_laws.proofs.Ties.{AreInside, IsTied-shaped, well_shaped-is_sound}
 use Rattle.shape_laws.proofs.Kept.{Makes, AreLike, AreOwnedAlike, like_put, like_same, alike_put, IsTied-records, rd_there, rec_cell_there, views_put-realm, views_put-rec}
-use Rattle.spec_lemmas.proofs.Maps.{put-elsewhere, put-here}
-use Rattle.lemmas.proofs.Tests.{both_ways}
 
 -- ---- cells
 
@@ -64,7 +55,8 @@ pub realm_change-rec_stays : (config : Config) (cells : ℕ → Cell) (change : 
 realm_change-rec_stays config cells None sound can a c is = is
 realm_change-rec_stays config cells (Some change) sound can a c is =
     by_address (λ x. x ≡ Rec c) a change.rd (cell_with_realm change.update (cells change.rd)) (cells a)
-    (λ here. absurd (let bad : Rd (realm_at (flat_state config cells) change.rd) ≡ Rec c = sym (rd_there config cells change.rd sound can.0) ∙ ap cells (sym here) ∙ is in cc))
+    (λ here. absurd (let bad : Rd (realm_at (flat_state config cells) change.rd) ≡ Rec c =
+    sym (rd_there config cells change.rd sound can.0) ∙ ap cells (sym here) ∙ is in cc))
     (λ _. is)
 
 -- ---- ties
@@ -99,13 +91,19 @@ outside≢inside : {A : Type 0} {rec rd : ℕ} → Outside ≡ Inside rec rd →
 outside≢inside {A} {rec} {rd} same = absurd (let bad : Outside ≡ Inside rec rd = same in cc)
 
 -- a record that keeps its CPU keeps each CPU's place
-inside_put : (places : ℕ → CpuPlace) (recs : ℕ → Option RecRecord) (a : ℕ) (old new : RecRecord) → recs a ≡ Some old → new.owner ≡ old.owner → new.cpu ≡ old.cpu
+inside_put : (places : ℕ → CpuPlace) (recs : ℕ → Option RecRecord) (a : ℕ) (old new : RecRecord)
+    → recs a ≡ Some old → new.owner ≡ old.owner → new.cpu ≡ old.cpu
     → AreInside places recs → AreInside places (put recs a (Some new))
 inside_put places recs a old new there owner on inside cpu rec rd = (
   λ at. let runs = (inside cpu rec rd).0 at in
       by_address (λ found. found ≡ put recs a (Some new) rec → RunsOn (put recs a (Some new)) cpu rec rd) rec a (Some new) (recs rec)
       (λ here is. let same : old ≡ runs.it = same_Some old runs.it (sym there ∙ ap recs (sym here) ∙ runs.is_rec) in
-      record { it = new; is_rec = sym is; is_owner = owner ∙ ap (λ (c : RecRecord). c.owner) same ∙ runs.is_owner; is_on = on ∙ ap (λ (c : RecRecord). c.cpu) same ∙ runs.is_on })
+      record {
+        it = new;
+        is_rec = sym is;
+        is_owner = owner ∙ ap (λ (c : RecRecord). c.owner) same ∙ runs.is_owner;
+        is_on = on ∙ ap (λ (c : RecRecord). c.cpu) same ∙ runs.is_on;
+      })
       (λ _ is. record { it = runs.it; is_rec = sym is ∙ runs.is_rec; is_owner = runs.is_owner; is_on = runs.is_on }) refl,
   λ runs. by_address (λ found. found ≡ Some runs.it → places cpu ≡ Inside rec rd) rec a (Some new) (recs rec)
       (λ here is. let same : new ≡ runs.it = same_Some new runs.it is in
@@ -127,12 +125,18 @@ inside_entered places recs a cpu old new there owner out on none inside other re
       (λ here is.
       let same_rec : a ≡ rec = (let e : Inside a old.owner ≡ Inside rec rd = is in cc) in
       let same_rd : old.owner ≡ rd = (let e : Inside a old.owner ≡ Inside rec rd = is in cc) in
-      record { it = new; is_rec = ap (put recs a (Some new)) (sym same_rec) ∙ put-here recs a (Some new); is_owner = owner ∙ same_rd; is_on = on ∙ ap Some (sym here) })
+      record {
+        it = new;
+        is_rec = ap (put recs a (Some new)) (sym same_rec) ∙ put-here recs a (Some new);
+        is_owner = owner ∙ same_rd;
+        is_on = on ∙ ap Some (sym here);
+      })
       (λ _ is. let runs = (inside other rec rd).0 is in
       record {
         it = runs.it;
         is_rec = put-elsewhere recs a (Some new) rec (false_from_ne_true _ (λ same.
-            none-some other (sym out ∙ ap (λ (c : RecRecord). c.cpu) (same_Some old runs.it (sym there ∙ ap recs (sym (eqb-true rec a same)) ∙ runs.is_rec)) ∙ runs.is_on)))
+            none-some other (sym out
+            ∙ ap (λ (c : RecRecord). c.cpu) (same_Some old runs.it (sym there ∙ ap recs (sym (eqb-true rec a same)) ∙ runs.is_rec)) ∙ runs.is_on)))
             ∙ runs.is_rec;
         is_owner = runs.is_owner;
         is_on = runs.is_on;
@@ -166,7 +170,8 @@ inside_left places recs a cpu old new there on out inside other rec rd = (
   λ runs. by_address (λ found. found ≡ Some runs.it → put places cpu Outside other ≡ Inside rec rd) rec a (Some new) (recs rec)
       (λ _ is. absurd (none-some other (sym out ∙ ap (λ (c : RecRecord). c.cpu) (same_Some new runs.it is) ∙ runs.is_on)))
       (λ apart is.
-      let at : places other ≡ Inside rec rd = (inside other rec rd).1 (record { it = runs.it; is_rec = is; is_owner = runs.is_owner; is_on = runs.is_on }) in
+      let at : places other ≡ Inside rec rd =
+      (inside other rec rd).1 (record { it = runs.it; is_rec = is; is_owner = runs.is_owner; is_on = runs.is_on }) in
       put-elsewhere places cpu Outside other (false_from_ne_true _ (λ same.
       let old_at : places cpu ≡ Inside a old.owner = (inside cpu a old.owner).1 (record { it = old; is_rec = there; is_owner = refl; is_on = on }) in
       let both : Inside a old.owner ≡ Inside rec rd = sym old_at ∙ ap places (sym (eqb-true other cpu same)) ∙ at in
@@ -183,12 +188,14 @@ none_is None there = refl
 none_is (Some x) there = both_ways there refl
 
 -- what becomes of a REC's record, and of the CPUs' places
-updated_inside : (update : RecUpdate) (config : Config) (cells : ℕ → Cell) (places : ℕ → CpuPlace) (a : ℕ) (old : RecRecord) → IsSound (flat_state config cells)
+updated_inside : (update : RecUpdate) (config : Config) (cells : ℕ → Cell) (places : ℕ → CpuPlace) (a : ℕ) (old : RecRecord)
+    → IsSound (flat_state config cells)
     → recs_of cells a ≡ Some old → CanUpdateRec (flat_state config cells) old update → AreInside places (recs_of cells)
     → AreInside (places_of_rec places a update (Rec old)) (put (recs_of cells) a (Some (rec_updated update old)))
 unfolding rec_updated flat_state
 updated_inside (rec_update.Entered cpu) config cells places a old sound there can inside =
-    inside_entered places (recs_of cells) a cpu old _ there refl (none_is old.cpu can.0) refl (none_runs (flat_state config cells) cpu sound can.1) inside
+    inside_entered places (recs_of cells) a cpu old _ there refl
+    (none_is old.cpu can.0) refl (none_runs (flat_state config cells) cpu sound can.1) inside
 updated_inside rec_update.Exited config cells places a old sound there can inside =
     let on = some_is old.cpu can in
     subst (λ o. AreInside (places_left places o) (put (recs_of cells) a (Some (rec_updated rec_update.Exited old)))) (sym on.1)

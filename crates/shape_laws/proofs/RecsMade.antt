@@ -1,30 +1,24 @@
 -- A REC is made with its auxiliary granules, or is gone with them.
-use Rattle.std.proofs.Common.{◌≡◌, ℕ, suc, ◌+◌, ◌-◌, ◌*◌, ◌/◌, false, ◌==◌, IsTrue, Option, Some, None, is_none, refl, sym, ap, ◌∙◌, subst, eq-eqb, eqb-true, ne_eqb, arith, add-one}
-use Rattle.std.proofs.lemmas.Bool.{false_from_ne_true}
-use Rattle.std.proofs.lemmas.Option.{none-some, same_Some}
-use Rattle.rmm_spec.specs.HistoryText.{Config}
+use Rattle.shape_laws.proofs.Common.{◌*◌, ◌+◌, ◌-◌, ◌/◌, ◌==◌, ◌∙◌, ◌≡◌, Cell, Config, CpuPlace, Delegated, IsShaped, IsTrue, None, Option, Rd, RealmRecord, Rec, RecRecord, Some, State, Whole, ap, arith, both_ways, by_address, cells_changed, changed, eq-eqb, eqb-true, false, false_from_ne_true, flat_state, is_granule, none-some, places_changed, put, put-elsewhere, put-here, realm_at, realm_in, realm_there, realms_of, rec_in, recs_of, refl, same_Some, side_changed, subst, suc, sym, table_in, tag_of, tags_of, ℕ}
+use Rattle.std.proofs.Common.{is_none, ne_eqb, add-one}
 use Rattle.rmm_spec.specs.declared.change.Change.TheVariants.{RecMade, RecDestroyed}
 use Rattle.rmm_spec.specs.declared.change.RealmUpdate.TheVariants.{RecCounted}
 use Rattle.rmm_spec.specs.declared.tag.Tag.TheVariants as tag
-use Rattle.rmm_spec.specs.State.{State, RealmRecord, RecRecord}
-use Rattle.rmm_spec.specs.Lookup.{is_granule, realm_at, rec_at, is_owned_by}
-use Rattle.rmm_spec.specs.Change.{changed, new_rec, realm_updated}
+use Rattle.rmm_spec.specs.Lookup.{rec_at, is_owned_by}
+use Rattle.rmm_spec.specs.Change.{new_rec, realm_updated}
 use Rattle.rmm_spec.specs.Applicable.{CanMakeRec, CanDestroyRec}
-use Rattle.rmm_spec.specs.Cell.{Cell, Delegated, Rd, Rec, RecAux, put, tag_of, realm_in, rec_in, table_in, tags_of, realms_of, recs_of}
-use Rattle.rmm_spec.specs.Flat.{flat_state}
-use Rattle.rmm_spec.specs.Shape.{CpuPlace, RunsOn, count_below}
+use Rattle.rmm_spec.specs.Cell.{RecAux}
+use Rattle.rmm_spec.specs.Shape.{RunsOn, count_below}
 use Rattle.spec_lemmas.proofs.TagLaws.{granule_from_tag}
-use Rattle.rmm_sound.proofs.Cases.{by_address}
 use Rattle.rmm_sound.proofs.Records.{updated_like}
-use Rattle.rmm_sound.proofs.Searches.{realm_there, rec_there}
-use Rattle.shape_laws.specs.Whole.{Whole, IsShaped, cell_with_realm, side_without_rec, cells_changed, side_changed, places_changed}
+use Rattle.rmm_sound.proofs.Searches.{rec_there}
+use Rattle.shape_laws.specs.Whole.{cell_with_realm, side_without_rec}
 use Rattle.shape_laws.proofs.Cells.{views_of, views_put, views_of-put, IsAt-cell, tag-cell, cell-aux}
 use Rattle.shape_laws.proofs.Counts.{count_below-same, count_below-one}
 use Rattle.shape_laws.proofs.Finds.{granule-number}
 use Rattle.shape_laws.proofs.Kept.{Makes, AreLike, like_put, ArePlaced-like, IsPlain, plain-delegated, plain-aux, views_put-plain, views_put-realm, delegated_there, rd_there, rec_cell_there}
 use Rattle.shape_laws.proofs.Ties.{AreListed, AreInside, IsTied-shaped, well_shaped-is_sound}
-use Rattle.spec_lemmas.proofs.Maps.{put-same, put-elsewhere, put-here}
-use Rattle.lemmas.proofs.Tests.{both_ways}
+use Rattle.spec_lemmas.proofs.Maps.{put-same}
 
 -- ---- granules that hold nothing
 
@@ -88,10 +82,12 @@ counted_more granules counts recs a c within none old rd =
     (λ elsewhere. old rd
     ∙ sym (count_below-same granules (λ k. is_owned_by rd (recs (k * 4096))) (λ k. is_owned_by rd (put recs a (Some c) (k * 4096)))
     (λ j _. by_address (λ found. is_owned_by rd found ≡ is_owned_by rd (recs (j * 4096))) (j * 4096) a (Some c) (recs (j * 4096))
-    (λ here. ne_eqb c.owner rd (λ same. both_ways (eq-eqb rd c.owner (sym same)) elsewhere) ∙ sym (ap (is_owned_by rd) (ap recs here ∙ none))) (λ _. refl))))
+    (λ here. ne_eqb c.owner rd (λ same. both_ways (eq-eqb rd c.owner (sym same)) elsewhere)
+    ∙ sym (ap (is_owned_by rd) (ap recs here ∙ none))) (λ _. refl))))
 
 -- one REC less
-counted_less : (granules : ℕ) (counts : ℕ → ℕ) (recs : ℕ → Option RecRecord) (a : ℕ) (c : RecRecord) → IsTrue (is_granule granules a) → recs a ≡ Some c
+counted_less : (granules : ℕ) (counts : ℕ → ℕ) (recs : ℕ → Option RecRecord) (a : ℕ) (c : RecRecord)
+    → IsTrue (is_granule granules a) → recs a ≡ Some c
     → ((rd : ℕ) → counts rd ≡ count_below granules (λ k. is_owned_by rd (recs (k * 4096))))
     → (rd : ℕ) → put counts c.owner (counts c.owner - 1) rd ≡ count_below granules (λ k. is_owned_by rd (put recs a None (k * 4096)))
 counted_less granules counts recs a c within is old rd =
@@ -101,17 +97,20 @@ counted_less granules counts recs a c within is old rd =
     let there : a / 4096 * 4096 ≡ a = sym number.1 in
     by_address (λ n. n ≡ count_below granules (λ k. is_owned_by rd (put recs a None (k * 4096)))) rd c.owner (counts c.owner - 1) (counts rd)
     (λ here.
-    let more : count_below granules (λ k. is_owned_by rd (recs (k * 4096))) ≡ suc (count_below granules (λ k. is_owned_by rd (put recs a None (k * 4096)))) =
+    let more : count_below granules (λ k. is_owned_by rd (recs (k * 4096)))
+    ≡ suc (count_below granules (λ k. is_owned_by rd (put recs a None (k * 4096)))) =
     count_below-one granules (λ k. is_owned_by rd (put recs a None (k * 4096))) (λ k. is_owned_by rd (recs (k * 4096))) (a / 4096) number.0
     (ap (λ x. is_owned_by rd (put recs a None x)) there ∙ ap (is_owned_by rd) (put-here recs a None))
     (ap (λ x. is_owned_by rd (recs x)) there ∙ ap (is_owned_by rd) is ∙ eq-eqb c.owner rd (sym here))
     (λ j other. sym (ap (is_owned_by rd) (put-elsewhere recs a None (j * 4096) (apart j other)))) in
-    let count : counts c.owner ≡ suc (count_below granules (λ k. is_owned_by rd (put recs a None (k * 4096)))) = ap counts (sym here) ∙ old rd ∙ more in
+    let count : counts c.owner ≡ suc (count_below granules (λ k. is_owned_by rd (put recs a None (k * 4096)))) =
+    ap counts (sym here) ∙ old rd ∙ more in
     omega (arith, count))
     (λ elsewhere. old rd
     ∙ sym (count_below-same granules (λ k. is_owned_by rd (recs (k * 4096))) (λ k. is_owned_by rd (put recs a None (k * 4096)))
     (λ j _. by_address (λ found. is_owned_by rd found ≡ is_owned_by rd (recs (j * 4096))) (j * 4096) a None (recs (j * 4096))
-    (λ here. sym (ap (is_owned_by rd) (ap recs here ∙ is) ∙ ne_eqb c.owner rd (λ same. both_ways (eq-eqb rd c.owner (sym same)) elsewhere))) (λ _. refl))))
+    (λ here. sym (ap (is_owned_by rd) (ap recs here ∙ is) ∙ ne_eqb c.owner rd (λ same. both_ways (eq-eqb rd c.owner (sym same)) elsewhere)))
+    (λ _. refl))))
 
 -- ---- made
 
@@ -171,7 +170,8 @@ Makes-rec_made config w rd rec mpidr flags aux0 aux1 shaped can =
         sides = record {
           listed = λ g r at. let q = like.before g r at in ap w.side.vmids q.2.vmid ∙ old.sides.listed g q.0 q.1;
           used = λ vmid g at. let q = old.sides.used vmid g at in let r = like.after g q.0 q.1 in (r.0, r.1, r.2.vmid ∙ q.2);
-          counted = counted_more config.granules w.side.rec_counts (recs_of cells) rec new (granule_from_tag s rec tag.Delegated can.rec_tag) none old.sides.counted;
+          counted = counted_more config.granules w.side.rec_counts (recs_of cells) rec new
+              (granule_from_tag s rec tag.Delegated can.rec_tag) none old.sides.counted;
         };
         tables = ArePlaced-like config.granules (realms_of cells) (put (realms_of cells) rd (Some counted)) (views_of cells).tables like old.tables;
         links = old.links;
@@ -193,8 +193,10 @@ Makes-rec_destroyed config w rec aux0 aux1 shaped can =
     let it : RecRecord = rec_at s rec in
     let there : recs_of cells rec ≡ Some it = rec_there s rec sound can.rec_tag in
     let rec_is : cells rec ≡ Rec it = rec_cell_there config cells rec sound can.rec_tag in
-    let aux0_is : cells aux0 ≡ RecAux = ap cells can.is_aux0 ∙ cell-aux (cells it.aux0) (tag-cell config cells it.aux0 tag.RecAux (sound.recs.aux0 rec it there)) in
-    let aux1_is : cells aux1 ≡ RecAux = ap cells can.is_aux1 ∙ cell-aux (cells it.aux1) (tag-cell config cells it.aux1 tag.RecAux (sound.recs.aux1 rec it there)) in
+    let aux0_is : cells aux0 ≡ RecAux =
+    ap cells can.is_aux0 ∙ cell-aux (cells it.aux0) (tag-cell config cells it.aux0 tag.RecAux (sound.recs.aux0 rec it there)) in
+    let aux1_is : cells aux1 ≡ RecAux =
+    ap cells can.is_aux1 ∙ cell-aux (cells it.aux1) (tag-cell config cells it.aux1 tag.RecAux (sound.recs.aux1 rec it there)) in
     let away : (a : ℕ) → cells a ≡ RecAux → (a == rec) ≡ false =
     λ a is. ne_eqb a rec (λ same. (let bad : RecAux ≡ Rec it = sym is ∙ ap cells same ∙ rec_is in cc)) in
     let apart : (aux1 == aux0) ≡ false =
@@ -205,15 +207,18 @@ Makes-rec_destroyed config w rec aux0 aux1 shaped can =
       realms = put-same (realms_of cells) rec None (ap realm_in rec_is) i;
       tables = put-same (views_of cells).tables rec None (ap table_in rec_is) i;
     }) in
-    let second : views_of (put (put one aux0 Delegated) aux1 Delegated) ≡ record (views_of one) { tags = put (put (tags_of one) aux0 tag.Delegated) aux1 tag.Delegated } =
+    let second : views_of (put (put one aux0 Delegated) aux1 Delegated)
+    ≡ record (views_of one) { tags = put (put (tags_of one) aux0 tag.Delegated) aux1 tag.Delegated } =
     views_of-two_plain one aux0 aux1 RecAux RecAux Delegated (put-elsewhere cells rec Delegated aux0 (away aux0 aux0_is) ∙ aux0_is)
     (put-elsewhere cells rec Delegated aux1 (away aux1 aux1_is) ∙ aux1_is) apart plain-aux plain-aux plain-delegated in
     let idle : it.cpu ≡ None = none_is it.cpu can.ready in
-    let listed : AreListed config.granules (record w.side { rec_counts = put w.side.rec_counts it.owner (w.side.rec_counts it.owner - 1) }) (realms_of cells) (put (recs_of cells) rec None) =
+    let listed : AreListed config.granules (record w.side { rec_counts = put w.side.rec_counts it.owner (w.side.rec_counts it.owner - 1) })
+    (realms_of cells) (put (recs_of cells) rec None) =
     record {
       listed = old.sides.listed;
       used = old.sides.used;
-      counted = counted_less config.granules w.side.rec_counts (recs_of cells) rec it (granule_from_tag s rec tag.Rec can.rec_tag) there old.sides.counted;
+      counted = counted_less config.granules w.side.rec_counts (recs_of cells) rec it
+          (granule_from_tag s rec tag.Rec can.rec_tag) there old.sides.counted;
     } in
     record {
       views = record {
@@ -225,7 +230,8 @@ Makes-rec_destroyed config w rec aux0 aux1 shaped can =
       seen = second ∙ (λ i. record (first i) { tags = put (put (first i).tags aux0 tag.Delegated) aux1 tag.Delegated });
       flat = refl;
       tied = record {
-        sides = subst (λ c. AreListed config.granules (side_without_rec w.side c) (realms_of cells) (put (recs_of cells) rec None)) (sym rec_is) listed;
+        sides = subst (λ c. AreListed config.granules (side_without_rec w.side c) (realms_of cells) (put (recs_of cells) rec None))
+            (sym rec_is) listed;
         tables = old.tables;
         links = old.links;
         inside = inside_idle w.places (recs_of cells) rec None (λ c is. ap (λ (x : RecRecord). x.cpu) (sym (same_Some it c (sym there ∙ is))) ∙ idle)

@@ -1,13 +1,10 @@
 -- Nothing changes; or a granule that holds nothing gets another tag.
-use Rattle.std.proofs.Common.{◌≡◌, ℕ, refl, sym, ap, ◌∙◌, inl, inr}
-use Rattle.rmm_spec.specs.HistoryText.{Config}
+use Rattle.shape_laws.proofs.Common.{◌∙◌, ◌≡◌, Cell, Config, Delegated, IsShaped, Whole, ap, cells_changed, changed, flat_state, inl, inr, places_changed, put, refl, side_changed, sym, tag_of, tags_of, ℕ}
 use Rattle.rmm_spec.specs.declared.change.Change.TheVariants.{Unchanged, Retagged}
 use Rattle.rmm_spec.specs.declared.change.TagChange.{TagChange}
-use Rattle.rmm_spec.specs.Change.{changed}
 use Rattle.rmm_spec.specs.Applicable.{CanRetag}
-use Rattle.rmm_spec.specs.Cell.{Cell, Undelegated, Delegated, put, tag_of, tags_of}
-use Rattle.rmm_spec.specs.Flat.{flat_state}
-use Rattle.shape_laws.specs.Whole.{Whole, IsShaped, cell_with_tag, changed_at, cells_changed, side_changed, places_changed}
+use Rattle.rmm_spec.specs.Cell.{Undelegated}
+use Rattle.shape_laws.specs.Whole.{cell_with_tag, changed_at}
 use Rattle.shape_laws.proofs.Cells.{views_of, views_of-put, IsAt-cell}
 use Rattle.shape_laws.proofs.Ties.{IsTied-shaped}
 use Rattle.shape_laws.proofs.Kept.{Makes, IsPlain, plain-undelegated, plain-delegated, views_put-plain, delegated_there, undelegated_there}
@@ -32,7 +29,8 @@ pub record CanGetTag (cells : ℕ → Cell) (change : TagChange) : Type 0 where
   pub new_plain : IsPlain new
 
 pub views_of-retagged : (cells : ℕ → Cell) (change : TagChange) → CanGetTag cells change
-    → views_of (changed_at cells change.granule (cell_with_tag change.tag)) ≡ record (views_of cells) { tags = put (tags_of cells) change.granule change.tag }
+    → views_of (changed_at cells change.granule (cell_with_tag change.tag))
+    ≡ record (views_of cells) { tags = put (tags_of cells) change.granule change.tag }
 views_of-retagged cells change can =
     ap (λ c. views_of (put cells change.granule c)) can.is_new
     ∙ views_of-put cells change.granule can.new

@@ -1,24 +1,16 @@
 -- A whole that stands for a sound state, and is tied to it, is well shaped.
-use Rattle.std.proofs.Common.{◌≡◌, ℕ, suc, ◌+◌, ◌*◌, ◌/◌, ◌%◌, ◌<◌, ◌≤◌, false, Option, Some, slice_get, refl, sym, ap, ◌∙◌, subst, inl, inr, arith}
-use Rattle.std.proofs.lemmas.Option.{same_Some, slice_get_within}
-use Rattle.rmm_spec.specs.HistoryText.{Config}
-use Rattle.rmm_spec.specs.declared.entry.Entry.{Entry}
-use Rattle.rmm_spec.specs.declared.entry.Entry.TheVariants.{Assigned, Table}
+use Rattle.shape_laws.proofs.Common.{◌%◌, ◌*◌, ◌+◌, ◌/◌, ◌<◌, ◌∙◌, ◌≡◌, ◌≤◌, Cell, Config, CpuPlace, Entry, IsSound, Option, RealmRecord, Some, Table, TableRecord, ap, arith, both_ways, false, flat_state, inl, inr, is_table, leaf_in_tables, place_number, realms_of, recs_of, refl, same_Some, slice_get, subst, suc, sym, table_granule, tables_of, value_there, ℕ}
+use Rattle.std.proofs.lemmas.Option.{slice_get_within}
+use Rattle.rmm_spec.specs.declared.entry.Entry.TheVariants.{Assigned}
 use Rattle.rmm_spec.specs.declared.tag.Ripas.{Ripas}
 use Rattle.rmm_spec.specs.declared.tag.Tag.TheVariants as tag
-use Rattle.rmm_spec.specs.State.{RealmRecord}
-use Rattle.rmm_spec.specs.Walk.{is_table}
-use Rattle.rmm_spec.specs.Table.{TableRecord, place_number}
-use Rattle.rmm_spec.specs.Sound.{IsSound, IsLeafOf}
-use Rattle.rmm_spec.specs.Cell.{Cell, is_aux, is_data, realms_of, recs_of, tables_of, auxes_of, datas_of}
-use Rattle.rmm_spec.specs.Flat.{flat_state, table_granule, leaf_in_tables}
-use Rattle.rmm_spec.specs.Shape.{Side, CpuPlace, HoldsTable, IsPlaceOf, IsLinked, FitsPlace, AreTableCells, AreDataCells, AreRecCells, IsWellShaped}
+use Rattle.rmm_spec.specs.Sound.{IsLeafOf}
+use Rattle.rmm_spec.specs.Cell.{is_aux, is_data, auxes_of, datas_of}
+use Rattle.rmm_spec.specs.Shape.{Side, HoldsTable, IsPlaceOf, IsLinked, FitsPlace, AreTableCells, AreDataCells, AreRecCells, IsWellShaped}
 use Rattle.rmm_sound.proofs.Cases.{nothing_there}
-use Rattle.rmm_sound.proofs.Entries.{value_there}
 use Rattle.shape_laws.proofs.Cells.{cell-undelegated, cell-aux, cell-data, tag-cell, views_of}
 use Rattle.shape_laws.proofs.Finds.{table_granule-holds, holds-found}
 use Rattle.shape_laws.proofs.Ties.{leaf-found, entry_leaf-some, link_or_leaf, entry_there, number-again, at_place, ArePlaced, IsTied}
-use Rattle.lemmas.proofs.Tests.{both_ways}
 
 -- an entry's number, its table's and its place there
 number_in : (number i : ℕ) → i < 512 → ((512 * number + i) / 512 ≡ number) × ((512 * number + i) % 512 ≡ i)
@@ -52,22 +44,28 @@ tables_shaped config side places cells sound tied = record {
       ap (λ l. table_granule config.granules tables t.place.rd l (place_number t.place)) (sym is_level) ∙ tied.tables.found g t held in
       let parent = value_there (table_granule config.granules tables t.place.rd above (place_number t.place / 512))
       (sound.tables.below t.place.rd above (place_number t.place) g realm there of_realm under) in
-      parent_of t.place.rd above (place_number t.place) g there parent.0 (table_granule-holds config.granules tables t.place.rd above (place_number t.place / 512) parent.0 parent.1);
-  links = λ g i child t held link. table_granule-holds config.granules tables t.place.rd (suc t.place.level) (512 * place_number t.place + i) child (tied.links g i child t held link);
-  apart = λ g h t held other. same_Some g h (sym (tied.tables.found g t held) ∙ holds-found config.granules tables h t.place.rd t.place.level (place_number t.place) tied.tables.found other);
+      parent_of t.place.rd above (place_number t.place) g there parent.0
+      (table_granule-holds config.granules tables t.place.rd above (place_number t.place / 512) parent.0 parent.1);
+  links = λ g i child t held link. table_granule-holds config.granules tables t.place.rd
+      (suc t.place.level) (512 * place_number t.place + i) child (tied.links g i child t held link);
+  apart = λ g h t held other. same_Some g h (sym (tied.tables.found g t held)
+      ∙ holds-found config.granules tables h t.place.rd t.place.level (place_number t.place) tied.tables.found other);
   kinds = λ g i t realm e held of_realm entry. elim (link_or_leaf e) [
     | inl link ↦ subst (λ x. FitsPlace x realm t.place.level (512 * place_number t.place + i)) (sym link.1)
-        (let below = sound.tables.owned t.place.rd (suc t.place.level) (512 * place_number t.place + i) link.0 (tied.links g i link.0 t held (entry ∙ ap Some link.1)) in
+        (let below = sound.tables.owned t.place.rd (suc t.place.level)
+        (512 * place_number t.place + i) link.0 (tied.links g i link.0 t held (entry ∙ ap Some link.1)) in
         let last : suc t.place.level ≤ 3 = below.2.last in omega arith)
     | inr leaf ↦ fits_place e realm t.place.level (512 * place_number t.place + i) leaf
-        (sound.leaves.kinds t.place.rd t.place.level (512 * place_number t.place + i) e realm (leaf_at config.granules (realms_of cells) tables tied.tables g i t e held entry leaf) of_realm)
+        (sound.leaves.kinds t.place.rd t.place.level (512 * place_number t.place + i) e realm
+        (leaf_at config.granules (realms_of cells) tables tied.tables g i t e held entry leaf) of_realm)
   ];
 }
   where
     tables : ℕ → Option TableRecord
     tables = tables_of cells
 
-    owner : (g : ℕ) (t : TableRecord) → tables_of cells g ≡ Some t → (realm : RealmRecord) × (realms_of cells t.place.rd ≡ Some realm) × IsPlaceOf realm t.place
+    owner : (g : ℕ) (t : TableRecord) → tables_of cells g ≡ Some t
+        → (realm : RealmRecord) × (realms_of cells t.place.rd ≡ Some realm) × IsPlaceOf realm t.place
     owner g t held =
         let its = sound.tables.owned t.place.rd t.place.level (place_number t.place) g (tied.tables.found g t held) in
         (its.0, its.1, record { width = tied.tables.widths g t its.0 held its.1; within = its.2; base = tied.tables.bases g t held })
@@ -82,7 +80,11 @@ tables_shaped config side places cells sound tied = record {
               subst (λ n. table_granule config.granules (tables_of cells) rd (suc above) n ≡ Some link.0) (number-again number)
               (at_place (λ a b c. table_granule config.granules (tables_of cells) a (suc b) (512 * c + number % 512) ≡ Some link.0) held
               (tied.links parent (number % 512) link.0 held.table held.is_held (entry.1 ∙ ap Some link.1))) in
-              record { parent = parent; above = held; link = entry.1 ∙ ap Some link.1 ∙ ap (λ x. Some (Table x)) (same_Some link.0 g (sym leads ∙ there)) })
+              record {
+                parent = parent;
+                above = held;
+                link = entry.1 ∙ ap Some link.1 ∙ ap (λ x. Some (Table x)) (same_Some link.0 g (sym leads ∙ there));
+              })
           | inr leaf ↦ nothing_there
               (sound.leaves.unlinked rd above number entry.0
               (leaf-found config.granules (tables_of cells) rd above number parent held.table
@@ -104,10 +106,12 @@ data_shaped config side places cells sound tied =
           (tag-cell config cells page tag.Data
           (sound.leaves.pages t.place.rd t.place.level (512 * place_number t.place + i) page ripas (leaf g i page t ripas held entry))));
       apart = λ g h i j page t u ripas other held held_too entry entry_too.
-          let place = sound.leaves.apart t.place.rd t.place.level (512 * place_number t.place + i) u.place.rd u.place.level (512 * place_number u.place + j)
+          let place =
+          sound.leaves.apart t.place.rd t.place.level (512 * place_number t.place + i) u.place.rd u.place.level (512 * place_number u.place + j)
           page ripas other (leaf g i page t ripas held entry) (leaf h j page u other held_too entry_too) in
           let i_below : i < 512 = subst (λ n. i < n) (tied.tables.whole g t held) (slice_get_within t.entries i (Assigned ripas page) entry) in
-          let j_below : j < 512 = subst (λ n. j < n) (tied.tables.whole h u held_too) (slice_get_within u.entries j (Assigned other page) entry_too) in
+          let j_below : j < 512 =
+          subst (λ n. j < n) (tied.tables.whole h u held_too) (slice_get_within u.entries j (Assigned other page) entry_too) in
           let one = number_in (place_number t.place) i i_below in
           let two = number_in (place_number u.place) j j_below in
           let number : place_number t.place ≡ place_number u.place = sym one.0 ∙ ap (λ n. n / 512) place.2 ∙ two.0 in (

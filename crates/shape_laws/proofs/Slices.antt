@@ -1,13 +1,11 @@
 -- Lists of entries: one replaced, a stretch changed, and copies of one.
-use Rattle.std.proofs.Common.{◌≡◌, ℕ, zero, suc, ◌+◌, ◌-◌, ◌<◌, ◌≤◌, Bool, true, false, if◌then◌else◌, List, [], ◌∷◌, ◌++◌, map, take, drop, replicate, length, Option, Some, None, option_map, option_and_then, slice_get, slice_set, slice_range, nat_lt, refl, sym, ap, ◌∙◌, subst, arith}
+use Rattle.shape_laws.proofs.Common.{◌+◌, ◌-◌, ◌<◌, ◌∙◌, ◌≡◌, ◌≤◌, Bool, Entry, List, None, Option, Some, Table, ap, arith, false, if◌then◌else◌, is_table, length, none-some, option_and_then, refl, same_Some, slice_get, subst, suc, sym, true, zero, ℕ}
+use Rattle.std.proofs.Common.{[], ◌∷◌, ◌++◌, map, take, drop, replicate, option_map, slice_set, slice_range, nat_lt}
 use Rattle.std.proofs.lemmas.Bool.{ltb-true, ltb-false}
 use Rattle.std.proofs.lemmas.List.{drop-drop}
-use Rattle.std.proofs.lemmas.Option.{none-some, same_Some}
-use Rattle.rmm_spec.specs.declared.entry.Entry.{Entry}
-use Rattle.rmm_spec.specs.declared.entry.Entry.TheVariants.{Unassigned, Assigned, Table}
+use Rattle.rmm_spec.specs.declared.entry.Entry.TheVariants.{Unassigned, Assigned}
 use Rattle.rmm_spec.specs.declared.tag.Ripas.{Ripas}
 use Rattle.rmm_spec.specs.Update.{entry_with_ripas}
-use Rattle.rmm_spec.specs.Walk.{is_table}
 use Rattle.rmm_spec.specs.Table.{entries_with_ripas}
 use Rattle.shape_laws.proofs.Ties.{entry_leaf}
 
@@ -57,7 +55,8 @@ halves {A} n x y i below = by (nat_lt i n) refl
         let past : n ≤ i = ltb-false i n more in
         slice_get-after_copies n x (replicate n y) i (i - n) (omega arith) ∙ slice_get-copies n y (i - n) (omega arith)
 
-pub halves-all : {A : Type 0} (n : ℕ) (x y : A) (i : ℕ) (z : A) (P : A → Type 0) → P x → P y → slice_get (replicate n x ++ replicate n y) i ≡ Some z → P z
+pub halves-all : {A : Type 0} (n : ℕ) (x y : A) (i : ℕ) (z : A) (P : A → Type 0)
+    → P x → P y → slice_get (replicate n x ++ replicate n y) i ≡ Some z → P z
 halves-all {A} n x y i z P px py is = by (nat_lt i n) refl
   where
     by : (b : Bool) → nat_lt i n ≡ b → P z
@@ -80,7 +79,8 @@ stretch f first count xs = take first xs ++ (map f (take count (drop first xs)) 
 stretch-get : (f : Entry → Entry) (first count : ℕ) (xs : List Entry) (j : ℕ) → IsStretch f first count xs (stretch f first count xs) j
 stretch-get f zero zero xs j = record { before = λ _. refl; within = λ a b. absurd (omega (arith, a, b)); after = λ _. refl }
 stretch-get f zero (suc c) [] j = record { before = λ _. refl; within = λ _ _. refl; after = λ _. refl }
-stretch-get f zero (suc c) (x ∷ xs) zero = record { before = λ a. absurd (omega (arith, a)); within = λ _ _. refl; after = λ a. absurd (omega (arith, a)) }
+stretch-get f zero (suc c) (x ∷ xs) zero =
+    record { before = λ a. absurd (omega (arith, a)); within = λ _ _. refl; after = λ a. absurd (omega (arith, a)) }
 stretch-get f zero (suc c) (x ∷ xs) (suc j) =
     let rest = stretch-get f zero c xs j in record {
       before = λ a. absurd (omega (arith, a));
@@ -89,7 +89,8 @@ stretch-get f zero (suc c) (x ∷ xs) (suc j) =
     }
 stretch-get f (suc n) zero [] j = record { before = λ _. refl; within = λ _ _. refl; after = λ _. refl }
 stretch-get f (suc n) (suc c) [] j = record { before = λ _. refl; within = λ _ _. refl; after = λ _. refl }
-stretch-get f (suc n) c (x ∷ xs) zero = record { before = λ _. refl; within = λ a b. absurd (omega (arith, a)); after = λ a. absurd (omega (arith, a)) }
+stretch-get f (suc n) c (x ∷ xs) zero =
+    record { before = λ _. refl; within = λ a b. absurd (omega (arith, a)); after = λ a. absurd (omega (arith, a)) }
 stretch-get f (suc n) c (x ∷ xs) (suc j) =
     let rest = stretch-get f n c xs j in record {
       before = λ a. rest.before (omega (arith, a));
@@ -103,7 +104,8 @@ unfolding entries_with_ripas
 ripas-get first last ripas xs j order =
     let reach : first + (last - first) ≡ last = omega arith in
     let ends : drop (last - first) (drop first xs) ≡ drop last xs = drop-drop (last - first) first xs ∙ ap (λ (n : ℕ). drop n xs) reach in
-    subst (λ rest. IsStretch (entry_with_ripas ripas) first (last - first) xs (take first xs ++ (map (entry_with_ripas ripas) (slice_range xs first last) ++ rest)) j)
+    subst (λ rest. IsStretch (entry_with_ripas ripas) first (last - first) xs
+    (take first xs ++ (map (entry_with_ripas ripas) (slice_range xs first last) ++ rest)) j)
     ends (stretch-get (entry_with_ripas ripas) first (last - first) xs j)
 
 -- an entry with another RIPAS is a link only where it was that link

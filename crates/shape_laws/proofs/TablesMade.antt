@@ -1,28 +1,18 @@
 -- A table is put in below an entry of another, or is taken out.
-use Rattle.std.proofs.Common.{◌≡◌, ℕ, zero, suc, ◌+◌, ◌-◌, ◌*◌, ◌/◌, ◌%◌, ◌<◌, Bool, true, false, ◌==◌, if◌then◌else◌, List, replicate, length, Option, Some, None, is_some, slice_get, slice_set, refl, sym, ap, ◌∙◌, subst, arith, eq-eqb, eqb-true, ne_eqb, mul-div_cancel}
-use Rattle.std.proofs.lemmas.Bool.{false_from_ne_true}
+use Rattle.shape_laws.proofs.Common.{◌%◌, ◌*◌, ◌+◌, ◌-◌, ◌/◌, ◌<◌, ◌==◌, ◌∙◌, ◌≡◌, Bool, Cell, Config, Delegated, Entry, IsShaped, List, None, Option, RealmRecord, Rtt, Some, State, Table, TableRecord, Whole, ap, arith, both_ways, by_address, cells_changed, changed, eq-eqb, eqb-true, false, false_from_ne_true, flat_state, if◌then◌else◌, is_same_table, is_table, leaf_in_tables, length, none-some, place_number, places_changed, put, put-elsewhere, realm_at, realm_in, realm_there, realms_of, rec_in, recs_of, refl, same_Some, side_changed, slice_get, spot_hit, subst, suc, sym, table_granule, table_in, tables_of, tags_of, true, value_there, zero, ℕ}
+use Rattle.std.proofs.Common.{replicate, is_some, slice_set, ne_eqb, mul-div_cancel}
 use Rattle.std.proofs.lemmas.List.{length-set, length-replicate}
 use Rattle.std.proofs.lemmas.Nat.{pow_pos}
-use Rattle.std.proofs.lemmas.Option.{none-some, same_Some, slice_get_within}
-use Rattle.rmm_spec.specs.HistoryText.{Config}
+use Rattle.std.proofs.lemmas.Option.{slice_get_within}
 use Rattle.rmm_spec.specs.declared.change.Change.TheVariants.{TableMade, TableDestroyed}
-use Rattle.rmm_spec.specs.declared.entry.Entry.{Entry}
-use Rattle.rmm_spec.specs.declared.entry.Entry.TheVariants.{Table}
 use Rattle.rmm_spec.specs.declared.tag.Tag.TheVariants as tag
-use Rattle.rmm_spec.specs.State.{State, RealmRecord}
-use Rattle.rmm_spec.specs.Lookup.{realm_at}
-use Rattle.rmm_spec.specs.Update.{is_same_entry, is_same_table}
-use Rattle.rmm_spec.specs.Walk.{table_size, table_number, entry_at, is_table}
-use Rattle.rmm_spec.specs.Table.{TableRecord, place_number}
-use Rattle.rmm_spec.specs.Change.{changed}
+use Rattle.rmm_spec.specs.Update.{is_same_entry}
+use Rattle.rmm_spec.specs.Walk.{table_size, table_number, entry_at}
 use Rattle.rmm_spec.specs.Applicable.{CanMakeTable, CanDestroyTable}
-use Rattle.rmm_spec.specs.Cell.{Cell, Delegated, Rtt, put, realm_in, rec_in, table_in, tags_of, realms_of, recs_of, tables_of}
-use Rattle.rmm_spec.specs.Flat.{flat_state, table_granule, leaf_in_tables}
 use Rattle.spec_lemmas.proofs.TagLaws.{granule_from_tag}
-use Rattle.rmm_sound.proofs.Cases.{by_address, choice, spot_hit, left_of}
-use Rattle.rmm_sound.proofs.Entries.{leaf_there, value_there}
-use Rattle.rmm_sound.proofs.Searches.{realm_there}
-use Rattle.shape_laws.specs.Whole.{Whole, IsShaped, cell_with_entries, cells_with_entries, cells_with_table, changed_at, width_in, copied_table, cells_changed, side_changed, places_changed}
+use Rattle.rmm_sound.proofs.Cases.{choice, left_of}
+use Rattle.rmm_sound.proofs.Entries.{leaf_there}
+use Rattle.shape_laws.specs.Whole.{cell_with_entries, cells_with_entries, cells_with_table, changed_at, width_in, copied_table}
 use Rattle.shape_laws.proofs.Cells.{views_of, views_put, views_of-put, IsAt-cell, cell-table}
 use Rattle.shape_laws.proofs.EntriesSet.{with_entries, leaf-no_link, no_link-child, set_links, leaf-set_here, leaf-set_elsewhere}
 use Rattle.shape_laws.proofs.Finds.{AreFound, IsPlaced, same_place, table_granule-holds, table_granule-kept, table_granule-taken}
@@ -30,8 +20,7 @@ use Rattle.shape_laws.proofs.Kept.{Makes, delegated_there, views_put-table}
 use Rattle.shape_laws.proofs.Leaves.{CanPutIn, table-put, leaf-put, table-put_keeps, AreFound-entries, ArePlaced-entries, ArePlaced-put, leaf-taken, table-taken_keeps, ArePlaced-taken}
 use Rattle.shape_laws.proofs.Slices.{slice_get-set_same, slice_get-set_other, slice_get-copies, copies-all, entry_leaf-of, entry_leaf-link}
 use Rattle.shape_laws.proofs.Ties.{entry_leaf, number-again, ArePlaced, IsTied-shaped, well_shaped-is_sound}
-use Rattle.spec_lemmas.proofs.Maps.{put-same, put-elsewhere}
-use Rattle.lemmas.proofs.Tests.{both_ways}
+use Rattle.spec_lemmas.proofs.Maps.{put-same}
 
 -- ---- the table above
 
@@ -51,7 +40,8 @@ pub record IsAbove (granules : ℕ) (tables : ℕ → Option TableRecord) (rd le
   pub placed : IsPlaced t rd level (number / 512)
   pub below : number % 512 < length t.entries
 
-above_is : (granules : ℕ) (realms : ℕ → Option RealmRecord) (tables : ℕ → Option TableRecord) (rd level number above : ℕ) → ArePlaced granules realms tables
+above_is : (granules : ℕ) (realms : ℕ → Option RealmRecord) (tables : ℕ → Option TableRecord) (rd level number above : ℕ)
+    → ArePlaced granules realms tables
     → table_granule granules tables rd level (number / 512) ≡ Some above → (t : TableRecord) × IsAbove granules tables rd level number above t
 above_is granules realms tables rd level number above placed found =
     let held = table_granule-holds granules tables rd level (number / 512) above found in (
@@ -95,7 +85,8 @@ Makes-table_made config w rd (suc up) number rtt entry shaped can =
     let back : suc up - 1 ≡ up = omega arith in
     let parent = value_there (table_granule config.granules tables rd (suc up - 1) (number / 512)) can.parent in
     let above : ℕ = parent.0 in
-    let found_up : table_granule config.granules tables rd up (number / 512) ≡ Some above = ap (λ l. table_granule config.granules tables rd l (number / 512)) (sym back) ∙ parent.1 in
+    let found_up : table_granule config.granules tables rd up (number / 512) ≡ Some above =
+    ap (λ l. table_granule config.granules tables rd l (number / 512)) (sym back) ∙ parent.1 in
     let is_above = above_is config.granules (realms_of cells) tables rd up number above old.tables found_up in
     let t : TableRecord = is_above.0 in
     let its = is_above.1 in
@@ -153,68 +144,87 @@ Makes-table_made config w rd (suc up) number rtt entry shaped can =
             (length-set t.entries (number % 512) (Table rtt) ∙ old.tables.whole above t its.is_held))
             can_put
             (record {
-              width = λ realm at. ap width_in above_cell ∙ old.tables.widths above t realm its.is_held (ap (realms_of cells) its.placed.is_realm ∙ at);
+              width = λ realm at. ap width_in above_cell
+                  ∙ old.tables.widths above t realm its.is_held (ap (realms_of cells) its.placed.is_realm ∙ at);
               base = sym (ap (λ n. n * table_size (suc up)) (copied_place rd (suc up) number (width_in (cells above)) entry).is_number);
               whole = length-replicate 512 entry;
             });
         links = λ g i child x. by_address (λ o. o ≡ Some x → slice_get x.entries i ≡ Some (Table child)
-            → table_granule config.granules (put one rtt (Some new)) x.place.rd (suc x.place.level) (512 * place_number x.place + i) ≡ Some child) g rtt (Some new) (one g)
-            (λ _ is link. no_link-child entry child can.leaf
+            → table_granule config.granules (put one rtt (Some new)) x.place.rd (suc x.place.level) (512 * place_number x.place + i) ≡ Some child)
+            g rtt (Some new) (one g) (λ _ is link. no_link-child entry child can.leaf
             (copies-all 512 entry i (Table child) (ap (λ (v : TableRecord). slice_get v.entries i) (same_Some new x is) ∙ link)))
             (λ _. by_address (λ o. o ≡ Some x → slice_get x.entries i ≡ Some (Table child)
-            → table_granule config.granules (put one rtt (Some new)) x.place.rd (suc x.place.level) (512 * place_number x.place + i) ≡ Some child) g above (Some u) (tables g)
-            (λ _ is link.
+            → table_granule config.granules (put one rtt (Some new)) x.place.rd (suc x.place.level) (512 * place_number x.place + i) ≡ Some child)
+            g above (Some u) (tables g) (λ _ is link.
             let same : u ≡ x = same_Some u x is in
-            subst (λ (v : TableRecord). table_granule config.granules (put one rtt (Some new)) v.place.rd (suc v.place.level) (512 * place_number v.place + i) ≡ Some child) same
+            subst (λ (v : TableRecord).
+            table_granule config.granules (put one rtt (Some new)) v.place.rd (suc v.place.level) (512 * place_number v.place + i) ≡ Some child) same
             (above_links t its can_put old.links i child (i == number % 512) refl (ap (λ (v : TableRecord). slice_get v.entries i) same ∙ link)))
-            (λ _ is link. table-put_keeps config.granules one rtt new rd (suc up) number can_put x.place.rd (suc x.place.level) (512 * place_number x.place + i) child
+            (λ _ is link. table-put_keeps config.granules one rtt new rd
+            (suc up) number can_put x.place.rd (suc x.place.level) (512 * place_number x.place + i) child
             (kept x.place.rd (suc x.place.level) (512 * place_number x.place + i) ∙ old.links g i child x is link)));
         inside = old.inside;
       };
     }
   where
-    leaves : {above : ℕ} (t : TableRecord) → IsAbove config.granules (tables_of w.cells) rd up number above t → is_table entry ≡ false → AreFound config.granules (tables_of w.cells)
+    leaves : {above : ℕ} (t : TableRecord) → IsAbove config.granules (tables_of w.cells) rd up number above t
+        → is_table entry ≡ false → AreFound config.granules (tables_of w.cells)
         → (other l n : ℕ) (b : Bool)
         → (if b then entry_leaf (replicate 512 entry) (n % 512)
-        else leaf_in_tables config.granules (put (tables_of w.cells) above (Some (with_entries t (slice_set t.entries (number % 512) (Table rtt))))) other l n)
-        ≡ (if b then Some entry else (if is_same_entry rd (suc up) number other (l + 1) n then None else leaf_in_tables config.granules (tables_of w.cells) other l n))
-    leaves t its leaf found other l n true = entry_leaf-of (replicate 512 entry) (n % 512) entry (slice_get-copies 512 entry (n % 512) (omega arith)) leaf
+        else leaf_in_tables config.granules
+        (put (tables_of w.cells) above (Some (with_entries t (slice_set t.entries (number % 512) (Table rtt))))) other l n)
+        ≡ (if b then Some entry
+        else (if is_same_entry rd (suc up) number other (l + 1) n then None else leaf_in_tables config.granules (tables_of w.cells) other l n))
+    leaves t its leaf found other l n true =
+        entry_leaf-of (replicate 512 entry) (n % 512) entry (slice_get-copies 512 entry (n % 512) (omega arith)) leaf
     leaves {above} t its leaf found other l n false =
-        let now = leaf_in_tables config.granules (put (tables_of w.cells) above (Some (with_entries t (slice_set t.entries (number % 512) (Table rtt))))) in
-        choice (λ x. now other l n ≡ x) _ (is_same_entry rd (suc up) number other (l + 1) n) None (leaf_in_tables config.granules (tables_of w.cells) other l n) refl
+        let now =
+        leaf_in_tables config.granules (put (tables_of w.cells) above (Some (with_entries t (slice_set t.entries (number % 512) (Table rtt))))) in
+        choice (λ x. now other l n ≡ x) _ (is_same_entry rd (suc up) number other (l + 1) n) None
+        (leaf_in_tables config.granules (tables_of w.cells) other l n) refl
         (λ hit. spot_hit rd (suc up) number other (l + 1) n hit (λ here next first.
         let at : l ≡ up = omega (arith, next) in
         (λ i. now (here i) (at i) (first i))
         ∙ leaf-set_here config.granules (tables_of w.cells) above t rd up number (Table rtt) found its.is_held its.placed
-        ∙ entry_leaf-link (slice_set t.entries (number % 512) (Table rtt)) (number % 512) rtt (slice_get-set_same t.entries (number % 512) (Table rtt) its.below)))
-        (λ miss. leaf-set_elsewhere config.granules (tables_of w.cells) above t rd up number (Table rtt) found its.is_held its.placed other l n (level_up rd up number other l n miss))
+        ∙ entry_leaf-link (slice_set t.entries (number % 512) (Table rtt)) (number % 512) rtt
+        (slice_get-set_same t.entries (number % 512) (Table rtt) its.below)))
+        (λ miss. leaf-set_elsewhere config.granules (tables_of w.cells) above t rd up number
+        (Table rtt) found its.is_held its.placed other l n (level_up rd up number other l n miss))
 
     above_links : {above width : ℕ} (t : TableRecord) → IsAbove config.granules (tables_of w.cells) rd up number above t
-        → CanPutIn config.granules (put (tables_of w.cells) above (Some (with_entries t (slice_set t.entries (number % 512) (Table rtt))))) rtt (copied_table rd (suc up) number width entry) rd (suc up) number
+        → CanPutIn config.granules (put (tables_of w.cells) above (Some (with_entries t (slice_set t.entries (number % 512) (Table rtt))))) rtt
+        (copied_table rd (suc up) number width entry) rd (suc up) number
         → ((g i child : ℕ) (x : TableRecord) → tables_of w.cells g ≡ Some x → slice_get x.entries i ≡ Some (Table child)
         → table_granule config.granules (tables_of w.cells) x.place.rd (suc x.place.level) (512 * place_number x.place + i) ≡ Some child)
         → (i child : ℕ) (b : Bool) → (i == number % 512) ≡ b → slice_get (slice_set t.entries (number % 512) (Table rtt)) i ≡ Some (Table child)
-        → table_granule config.granules (put (put (tables_of w.cells) above (Some (with_entries t (slice_set t.entries (number % 512) (Table rtt))))) rtt (Some (copied_table rd (suc up) number width entry)))
+        → table_granule config.granules (put (put (tables_of w.cells) above (Some (with_entries t (slice_set t.entries (number % 512) (Table rtt)))))
+        rtt (Some (copied_table rd (suc up) number width entry)))
         t.place.rd (suc t.place.level) (512 * place_number t.place + i) ≡ Some child
     above_links {above} {width} t its can_put old i child true same link =
         let here : i ≡ number % 512 = eqb-true i (number % 512) same in
         let one = put (tables_of w.cells) above (Some (with_entries t (slice_set t.entries (number % 512) (Table rtt)))) in
         let child_is : rtt ≡ child =
         (let both : Some (Table rtt) ≡ Some (Table child) =
-        sym (slice_get-set_same t.entries (number % 512) (Table rtt) its.below) ∙ ap (slice_get (slice_set t.entries (number % 512) (Table rtt))) (sym here) ∙ link in
+        sym (slice_get-set_same t.entries (number % 512) (Table rtt) its.below)
+        ∙ ap (slice_get (slice_set t.entries (number % 512) (Table rtt))) (sym here) ∙ link in
         let entries : Table rtt ≡ Table child = same_Some (Table rtt) (Table child) both in cc) in
-        let place : 512 * place_number t.place + i ≡ number = ap (λ k. 512 * place_number t.place + k) here ∙ above_number t rd up number its.placed in
-        (λ k. table_granule config.granules (put one rtt (Some (copied_table rd (suc up) number width entry))) (its.placed.is_realm k) (suc (its.placed.is_level k)) (place k))
+        let place : 512 * place_number t.place + i ≡ number =
+        ap (λ k. 512 * place_number t.place + k) here ∙ above_number t rd up number its.placed in
+        (λ k. table_granule config.granules (put one rtt (Some (copied_table rd (suc up) number width entry)))
+        (its.placed.is_realm k) (suc (its.placed.is_level k)) (place k))
         ∙ table-put config.granules one rtt (copied_table rd (suc up) number width entry) rd (suc up) number can_put rd (suc up) number
-        ∙ ap (λ b. if b then Some rtt else table_granule config.granules one rd (suc up) number) (same_place rd (suc up) number rd (suc up) number refl refl refl)
+        ∙ ap (λ b. if b then Some rtt else table_granule config.granules one rd (suc up) number)
+        (same_place rd (suc up) number rd (suc up) number refl refl refl)
         ∙ ap Some child_is
     above_links {above} {width} t its can_put old i child false apart link =
         let u = with_entries t (slice_set t.entries (number % 512) (Table rtt)) in
         let one = put (tables_of w.cells) above (Some u) in
         let was : slice_get t.entries i ≡ Some (Table child) =
         sym (slice_get-set_other t.entries (number % 512) i (Table rtt) (λ same. both_ways (eq-eqb i (number % 512) same) apart)) ∙ link in
-        table-put_keeps config.granules one rtt (copied_table rd (suc up) number width entry) rd (suc up) number can_put t.place.rd (suc t.place.level) (512 * place_number t.place + i) child
-        ((λ k. table_granule-kept config.granules (tables_of w.cells) above t u its.is_held refl k t.place.rd (suc t.place.level) (512 * place_number t.place + i))
+        table-put_keeps config.granules one rtt (copied_table rd (suc up) number width entry) rd
+        (suc up) number can_put t.place.rd (suc t.place.level) (512 * place_number t.place + i) child
+        ((λ k. table_granule-kept config.granules (tables_of w.cells) above t u its.is_held refl k t.place.rd
+        (suc t.place.level) (512 * place_number t.place + i))
         ∙ old above i child t its.is_held was)
 
 -- ---- gone
@@ -235,7 +245,8 @@ Makes-table_destroyed config w rd (suc up) number rtt entry shaped can =
     let parent = value_there (table_granule config.granules tables rd up (number / 512))
     (sound.tables.below rd up number rtt r can.there realm (omega (arith, can.below_root))) in
     let above : ℕ = parent.0 in
-    let found_at : table_granule config.granules tables rd (suc up - 1) (number / 512) ≡ Some above = ap (λ l. table_granule config.granules tables rd l (number / 512)) back ∙ parent.1 in
+    let found_at : table_granule config.granules tables rd (suc up - 1) (number / 512) ≡ Some above =
+    ap (λ l. table_granule config.granules tables rd l (number / 512)) back ∙ parent.1 in
     let is_above = above_is config.granules (realms_of cells) tables rd up number above old.tables parent.1 in
     let t : TableRecord = is_above.0 in
     let its = is_above.1 in
@@ -255,7 +266,8 @@ Makes-table_destroyed config w rd (suc up) number rtt entry shaped can =
     let one_held : one rtt ≡ Some gone = put-elsewhere tables above (Some u) rtt apart ∙ held.is_held in
     let kept : (other l n : ℕ) → table_granule config.granules one other l n ≡ table_granule config.granules tables other l n =
     λ other l n i. table_granule-kept config.granules tables above t u its.is_held refl i other l n in
-    let first : views_of (changed_at cells above (cell_with_entries (λ entries. slice_set entries (number % 512) entry))) ≡ record (views_of cells) { tables = one } =
+    let first : views_of (changed_at cells above (cell_with_entries (λ entries. slice_set entries (number % 512) entry)))
+    ≡ record (views_of cells) { tables = one } =
     views_of-entries cells above t (λ entries. slice_set entries (number % 512) entry) above_cell in
     record {
       views = record {
@@ -291,25 +303,34 @@ Makes-table_destroyed config w rd (suc up) number rtt entry shaped can =
             one_held gone_placed;
         links = λ g i child x is link.
             let was = left_of (g == rtt) (one g) x is in
-            by_address (λ o. o ≡ Some x → table_granule config.granules (put one rtt None) x.place.rd (suc x.place.level) (512 * place_number x.place + i) ≡ Some child) g above (Some u) (tables g)
+            by_address (λ o. o ≡ Some x → table_granule config.granules (put one rtt None) x.place.rd
+            (suc x.place.level) (512 * place_number x.place + i) ≡ Some child) g above (Some u) (tables g)
             (λ _ at.
             let same : u ≡ x = same_Some u x at in
-            let before = set_links t.entries (number % 512) entry i child its.below no_link (ap (λ (v : TableRecord). slice_get v.entries i) same ∙ link) in
-            let found : table_granule config.granules tables t.place.rd (suc t.place.level) (512 * place_number t.place + i) ≡ Some child = old.links above i child t its.is_held before.1 in
-            subst (λ (v : TableRecord). table_granule config.granules (put one rtt None) v.place.rd (suc v.place.level) (512 * place_number v.place + i) ≡ Some child) same
-            (table-taken_keeps config.granules one rtt gone rd (suc up) number one_found one_held gone_placed t.place.rd (suc t.place.level) (512 * place_number t.place + i) child
+            let before =
+            set_links t.entries (number % 512) entry i child its.below no_link (ap (λ (v : TableRecord). slice_get v.entries i) same ∙ link) in
+            let found : table_granule config.granules tables t.place.rd (suc t.place.level) (512 * place_number t.place + i) ≡ Some child =
+            old.links above i child t its.is_held before.1 in
+            subst (λ (v : TableRecord).
+            table_granule config.granules (put one rtt None) v.place.rd (suc v.place.level) (512 * place_number v.place + i) ≡ Some child) same
+            (table-taken_keeps config.granules one rtt gone rd (suc up) number one_found one_held gone_placed t.place.rd
+            (suc t.place.level) (512 * place_number t.place + i) child
             (kept t.place.rd (suc t.place.level) (512 * place_number t.place + i) ∙ found)
             (ne_eqb child rtt (λ is_gone.
-            let place = sound.tables.apart t.place.rd (suc t.place.level) (512 * place_number t.place + i) rd (suc up) number rtt (found ∙ ap Some is_gone) can.there in
+            let place = sound.tables.apart t.place.rd (suc t.place.level)
+            (512 * place_number t.place + i) rd (suc up) number rtt (found ∙ ap Some is_gone) can.there in
             let here : 512 * place_number t.place + number % 512 ≡ number = above_number t rd up number its.placed in
             before.0 (omega (arith, place.2, here))))))
             (λ elsewhere at.
-            let found : table_granule config.granules tables x.place.rd (suc x.place.level) (512 * place_number x.place + i) ≡ Some child = old.links g i child x at link in
+            let found : table_granule config.granules tables x.place.rd (suc x.place.level) (512 * place_number x.place + i) ≡ Some child =
+            old.links g i child x at link in
             let below : i < 512 = subst (λ n. i < n) (old.tables.whole g x at) (slice_get_within x.entries i (Table child) link) in
-            table-taken_keeps config.granules one rtt gone rd (suc up) number one_found one_held gone_placed x.place.rd (suc x.place.level) (512 * place_number x.place + i) child
+            table-taken_keeps config.granules one rtt gone rd (suc up) number one_found one_held gone_placed x.place.rd
+            (suc x.place.level) (512 * place_number x.place + i) child
             (kept x.place.rd (suc x.place.level) (512 * place_number x.place + i) ∙ found)
             (ne_eqb child rtt (λ is_gone.
-            let place = sound.tables.apart x.place.rd (suc x.place.level) (512 * place_number x.place + i) rd (suc up) number rtt (found ∙ ap Some is_gone) can.there in
+            let place = sound.tables.apart x.place.rd (suc x.place.level)
+            (512 * place_number x.place + i) rd (suc up) number rtt (found ∙ ap Some is_gone) can.there in
             let level : x.place.level ≡ up = omega (arith, place.1) in
             let parent_number : place_number x.place ≡ number / 512 = omega (arith, place.2, below) in
             both_ways (eq-eqb g above (same_Some g above (sym (old.tables.found g x at)
@@ -319,16 +340,20 @@ Makes-table_destroyed config w rd (suc up) number rtt entry shaped can =
       };
     }
   where
-    leaves : {above : ℕ} (t : TableRecord) → IsAbove config.granules (tables_of w.cells) rd up number above t → is_table entry ≡ false → AreFound config.granules (tables_of w.cells)
+    leaves : {above : ℕ} (t : TableRecord) → IsAbove config.granules (tables_of w.cells) rd up number above t
+        → is_table entry ≡ false → AreFound config.granules (tables_of w.cells)
         → (other l n : ℕ)
         → leaf_in_tables config.granules (put (tables_of w.cells) above (Some (with_entries t (slice_set t.entries (number % 512) entry)))) other l n
         ≡ (if is_same_entry rd (suc up) number other (l + 1) n then Some entry else leaf_in_tables config.granules (tables_of w.cells) other l n)
     leaves {above} t its leaf found other l n =
         let now = leaf_in_tables config.granules (put (tables_of w.cells) above (Some (with_entries t (slice_set t.entries (number % 512) entry)))) in
-        choice (λ x. now other l n ≡ x) _ (is_same_entry rd (suc up) number other (l + 1) n) (Some entry) (leaf_in_tables config.granules (tables_of w.cells) other l n) refl
+        choice (λ x. now other l n ≡ x) _ (is_same_entry rd (suc up) number other (l + 1) n)
+        (Some entry) (leaf_in_tables config.granules (tables_of w.cells) other l n) refl
         (λ hit. spot_hit rd (suc up) number other (l + 1) n hit (λ here next first.
         let at : l ≡ up = omega (arith, next) in
         (λ i. now (here i) (at i) (first i))
         ∙ leaf-set_here config.granules (tables_of w.cells) above t rd up number entry found its.is_held its.placed
-        ∙ entry_leaf-of (slice_set t.entries (number % 512) entry) (number % 512) entry (slice_get-set_same t.entries (number % 512) entry its.below) leaf))
-        (λ miss. leaf-set_elsewhere config.granules (tables_of w.cells) above t rd up number entry found its.is_held its.placed other l n (level_up rd up number other l n miss))
+        ∙ entry_leaf-of (slice_set t.entries (number % 512) entry) (number % 512) entry
+        (slice_get-set_same t.entries (number % 512) entry its.below) leaf))
+        (λ miss. leaf-set_elsewhere config.granules
+        (tables_of w.cells) above t rd up number entry found its.is_held its.placed other l n (level_up rd up number other l n miss))

@@ -1,24 +1,17 @@
 -- A well-shaped whole is one that stands for a sound state and whose side table, tables and places are tied to it.
-use Rattle.std.proofs.Common.{◌≡◌, ℕ, suc, ◌+◌, ◌*◌, ◌/◌, ◌%◌, ◌<◌, ◌≤◌, Bool, true, false, ◌↔◌, ◌⊎◌, ◌||◌, if◌then◌else◌, IsTrue, List, length, Option, Some, None, is_some, option_and_then, slice_get, refl, sym, ap, ◌∙◌, subst, inl, inr, arith, eqb-true}
+use Rattle.shape_laws.proofs.Common.{◌%◌, ◌*◌, ◌+◌, ◌/◌, ◌<◌, ◌∙◌, ◌≡◌, ◌≤◌, Bool, Cell, Config, CpuPlace, Entry, IsSound, IsTrue, List, None, Option, RealmRecord, RecRecord, Some, Table, TableRecord, ap, arith, both_ways, eqb-true, false, flat_state, if◌then◌else◌, inl, inr, is_granule, is_table, leaf_in_tables, length, none-some, option_and_then, place_number, realms_of, recs_of, refl, same_Some, slice_get, subst, suc, sym, table_granule, table_in, tables_of, tag_of, true, value_there, ℕ}
+use Rattle.std.proofs.Common.{◌↔◌, ◌⊎◌, ◌||◌, is_some}
 use Rattle.std.proofs.lemmas.Bool.{false≢true, or_left, or_right}
-use Rattle.std.proofs.lemmas.Option.{none-some, same_Some, option_and_then_some, slice_get_cases}
-use Rattle.rmm_spec.specs.HistoryText.{Config}
-use Rattle.rmm_spec.specs.declared.entry.Entry.{Entry}
-use Rattle.rmm_spec.specs.declared.entry.Entry.TheVariants.{Assigned, Table}
+use Rattle.std.proofs.lemmas.Option.{option_and_then_some, slice_get_cases}
+use Rattle.rmm_spec.specs.declared.entry.Entry.TheVariants.{Assigned}
 use Rattle.rmm_spec.specs.declared.tag.Tag.TheVariants as tag
-use Rattle.rmm_spec.specs.State.{RealmRecord, RecRecord}
-use Rattle.rmm_spec.specs.Lookup.{is_granule, has_tag, runs_on, is_cpu, is_owned_by}
-use Rattle.rmm_spec.specs.Walk.{table_size, is_table}
-use Rattle.rmm_spec.specs.Table.{TableRecord, place_number}
+use Rattle.rmm_spec.specs.Lookup.{has_tag, runs_on, is_cpu, is_owned_by}
+use Rattle.rmm_spec.specs.Walk.{table_size}
 use Rattle.rmm_spec.specs.TableCells.{leaf_of}
-use Rattle.rmm_spec.specs.Sound.{IsSound, AreRealms, AreRecs, AreTables, AreLeaves, IsTableOf, IsLeafOf}
-use Rattle.rmm_spec.specs.Cell.{Cell, tag_of, table_in, realms_of, recs_of, tables_of}
-use Rattle.rmm_spec.specs.Flat.{flat_state, table_granule, leaf_in_tables}
-use Rattle.rmm_spec.specs.Shape.{Side, CpuPlace, Inside, HoldsTable, IsPlaceOf, IsLinked, FitsPlace, AreOutside, RunsOn, IsWellShaped, count_below}
-use Rattle.rmm_sound.proofs.Entries.{value_there}
+use Rattle.rmm_spec.specs.Sound.{AreRealms, AreRecs, AreTables, AreLeaves, IsTableOf, IsLeafOf}
+use Rattle.rmm_spec.specs.Shape.{Side, Inside, HoldsTable, IsPlaceOf, IsLinked, FitsPlace, AreOutside, RunsOn, IsWellShaped, count_below}
 use Rattle.shape_laws.proofs.Cells.{cell-table, tag-some_realm, tag-aux, tag-data, some_realm-tagged, some_rec-tagged, has_tag-cell, Views, views_of}
 use Rattle.shape_laws.proofs.Finds.{table_granule-holds, table_granule-some, AreFound, holds-found}
-use Rattle.lemmas.proofs.Tests.{both_ways}
 
 -- ---- leaves
 
@@ -136,7 +129,8 @@ IsTied-shaped config side places cells w =
 -- ---- a well-shaped whole stands for a sound state
 
 -- what is said of a table's place is said of the place that it is held for
-pub at_place : {tables : ℕ → Option TableRecord} {granule rd level number : ℕ} (P : ℕ → ℕ → ℕ → Type 0) (held : HoldsTable tables granule rd level number)
+pub at_place : {tables : ℕ → Option TableRecord} {granule rd level number : ℕ}
+    (P : ℕ → ℕ → ℕ → Type 0) (held : HoldsTable tables granule rd level number)
     → P held.table.place.rd held.table.place.level (place_number held.table.place) → P rd level number
 at_place {rd = rd} {level = level} {number = number} P held is =
     subst (λ a. P a level number) held.is_realm
@@ -216,9 +210,11 @@ tables-sound config side places cells w =
       tagged = λ rd level number granule at.
           let held = table_granule-holds config.granules tables rd level number granule at in
           has_tag-cell config cells granule tag.Rtt w.outside (ap tag_of (cell-table (cells granule) held.table held.is_held)) refl;
-      owned = λ rd level number granule at. table_owner config side places cells w granule rd level number (table_granule-holds config.granules tables rd level number granule at);
+      owned = λ rd level number granule at. table_owner config side places cells w granule rd level number
+          (table_granule-holds config.granules tables rd level number granule at);
       below = λ rd level number granule r at realm under.
-          let link = linked config side places cells w granule rd level number r (table_granule-holds config.granules tables rd (suc level) number granule at) realm under in
+          let link = linked config side places cells w granule rd level number r
+          (table_granule-holds config.granules tables rd (suc level) number granule at) realm under in
           ap is_some (holds-found config.granules tables link.parent rd level (number / 512) found link.above);
       apart = λ rd level number other l n granule at too.
           let one = table_granule-holds config.granules tables rd level number granule at in
@@ -256,9 +252,11 @@ unfolding flat_state
 leaves-sound config side places cells w =
     let tables = tables_of cells in
     let found = AreFound-shaped config side places cells w in
-    let parts : (rd level number : ℕ) (e : Entry) → leaf_in_tables config.granules tables rd level number ≡ Some e → IsLeafIn config.granules tables rd level number e =
+    let parts : (rd level number : ℕ) (e : Entry)
+    → leaf_in_tables config.granules tables rd level number ≡ Some e → IsLeafIn config.granules tables rd level number e =
     λ rd level number e at. leaf-parts config.granules tables rd level number e at in
-    let holds : (rd level number granule : ℕ) → table_granule config.granules tables rd level number ≡ Some granule → HoldsTable tables granule rd level number =
+    let holds : (rd level number granule : ℕ)
+    → table_granule config.granules tables rd level number ≡ Some granule → HoldsTable tables granule rd level number =
     λ rd level number granule at. table_granule-holds config.granules tables rd level number granule at in
     record {
       placed = λ rd level number e at. ap is_some (parts rd level number e at).is_found;
@@ -305,20 +303,24 @@ leaves-sound config side places cells w =
         let link = linked config side places cells w child rd level number owner.0
         (table_granule-holds config.granules tables rd (suc level) number child at) owner.1 owner.2.below_root in
         let parent : link.parent ≡ leaf.granule =
-        same_Some link.parent leaf.granule (sym (holds-found config.granules tables link.parent rd level (number / 512) (AreFound-shaped config side places cells w) link.above) ∙ leaf.is_found) in
-        let same : link.above.table ≡ leaf.table = same_table tables leaf.granule link.above.table leaf.table (ap tables (sym parent) ∙ link.above.is_held) leaf.is_held in
+        same_Some link.parent leaf.granule (sym (holds-found config.granules tables link.parent rd level
+        (number / 512) (AreFound-shaped config side places cells w) link.above) ∙ leaf.is_found) in
+        let same : link.above.table ≡ leaf.table =
+        same_table tables leaf.granule link.above.table leaf.table (ap tables (sym parent) ∙ link.above.is_held) leaf.is_held in
         let entry : Some (Table child) ≡ Some e = sym link.link ∙ ap (λ (t : TableRecord). slice_get t.entries (number % 512)) same ∙ leaf.is_entry in
         both_ways (sym (ap is_table (same_Some (Table child) e entry))) leaf.is_leaf
 
     complete : (rd level number granule : ℕ) → table_granule config.granules (tables_of cells) rd level (number / 512) ≡ Some granule
         → HoldsTable (tables_of cells) granule rd level (number / 512)
-        → IsTrue (is_some (leaf_in_tables config.granules (tables_of cells) rd level number) || is_some (table_granule config.granules (tables_of cells) rd (suc level) number))
+        → IsTrue (is_some (leaf_in_tables config.granules (tables_of cells) rd level number)
+        || is_some (table_granule config.granules (tables_of cells) rd (suc level) number))
     complete rd level number granule at held =
         let tables = tables_of cells in
         let below : number % 512 < 512 = omega arith in
         let entry = entry_there held.table.entries (number % 512) (w.tables.whole granule held.table held.is_held) below in
         elim (link_or_leaf entry.0) [
-          | inl link ↦ or_right _ _ (ap is_some (holds-found config.granules tables link.0 rd (suc level) number (AreFound-shaped config side places cells w)
+          | inl link ↦ or_right _ _
+              (ap is_some (holds-found config.granules tables link.0 rd (suc level) number (AreFound-shaped config side places cells w)
               (subst (λ n. HoldsTable tables link.0 rd (suc level) n) (number-again number)
               (at_place (λ a b c. HoldsTable tables link.0 a (suc b) (512 * c + number % 512)) held
               (w.tables.links granule (number % 512) link.0 held.table held.is_held (entry.1 ∙ ap Some link.1))))))

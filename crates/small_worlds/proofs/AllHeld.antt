@@ -68,7 +68,8 @@ put_all-listed (g ∷ held) cells new a how = by (a == g) refl (put_all-listed h
     by true is rest = rest (inr (rw is (ap new (sym (eqb-true a g is)))))
     by false apart rest = rest (later apart how)
 
-pub put_all-every : (n : ℕ) (cells new : ℕ → Cell) → ((a : ℕ) → is_granule n a ≡ false → cells a ≡ new a) → put_all cells (cells_at new (granules_below n)) ≡ new
+pub put_all-every : (n : ℕ) (cells new : ℕ → Cell)
+    → ((a : ℕ) → is_granule n a ≡ false → cells a ≡ new a) → put_all cells (cells_at new (granules_below n)) ≡ new
 put_all-every n cells new outside =
     same_cells n (put_all cells (cells_at new (granules_below n))) new
     (λ a is. put_all-listed (granules_below n) cells new a (inl (granule_listed n a is)))
@@ -79,19 +80,25 @@ pub accepted-is_local : (config : Config) (cpu : ℕ) (command : Command) (chang
     → ((places : ℕ → CpuPlace) → places_changed w.cells places change ≡ places)
     → LocalStep config cpu command (ok []) (hold_all config w) (hold_all config (whole_changed config w change))
 accepted-is_local config cpu command change w shaped accepted stays = record {
-  same = granules_held-cells_at (cells_changed config w.cells change) (granules_below config.granules) ∙ sym (granules_held-cells_at w.cells (granules_below config.granules));
+  same = granules_held-cells_at (cells_changed config w.cells change) (granules_below config.granules)
+      ∙ sym (granules_held-cells_at w.cells (granules_below config.granules));
   right = λ others places others_shaped agrees place.
       let here : w.cells ≡ others = same_cells config.granules w.cells others
-      (λ a is. sym (agrees-at others (cells_at w.cells (granules_below config.granules)) (held_at a (w.cells a)) agrees (cell_held w.cells (granules_below config.granules) a (granule_listed config.granules a is))))
+      (λ a is. sym (agrees-at others (cells_at w.cells (granules_below config.granules)) (held_at a (w.cells a)) agrees
+      (cell_held w.cells (granules_below config.granules) a (granule_listed config.granules a is))))
       (λ a not. shaped.outside.undelegated a not ∙ sym (others_shaped.outside.undelegated a not)) in
-      subst (λ o. Step (flat_state config o) cpu command (ok []) (flat_state config (put_all o (cells_at (cells_changed config w.cells change) (granules_below config.granules))))
-      × IsWellShaped config (side_changed w.cells w.side change) (put places cpu Outside) (put_all o (cells_at (cells_changed config w.cells change) (granules_below config.granules)))) here
+      subst (λ o. Step (flat_state config o) cpu command (ok [])
+      (flat_state config (put_all o (cells_at (cells_changed config w.cells change) (granules_below config.granules))))
+      × IsWellShaped config (side_changed w.cells w.side change) (put places cpu Outside)
+      (put_all o (cells_at (cells_changed config w.cells change) (granules_below config.granules)))) here
       (at_home places place (subst (IsWellShaped config w.side places) (sym here) others_shaped));
 }
   where
     at_home : (places : ℕ → CpuPlace) → places cpu ≡ Outside → IsWellShaped config w.side places w.cells
-        → Step (flat_state config w.cells) cpu command (ok []) (flat_state config (put_all w.cells (cells_at (cells_changed config w.cells change) (granules_below config.granules))))
-        × IsWellShaped config (side_changed w.cells w.side change) (put places cpu Outside) (put_all w.cells (cells_at (cells_changed config w.cells change) (granules_below config.granules)))
+        → Step (flat_state config w.cells) cpu command (ok [])
+        (flat_state config (put_all w.cells (cells_at (cells_changed config w.cells change) (granules_below config.granules))))
+        × IsWellShaped config (side_changed w.cells w.side change) (put places cpu Outside)
+        (put_all w.cells (cells_at (cells_changed config w.cells change) (granules_below config.granules)))
     at_home places place here =
         let fresh = cells_changed config w.cells change in
         let goes = done-keeps_shape config (record { cells = w.cells; side = w.side; places = places }) cpu command [] change here accepted in
@@ -99,5 +106,6 @@ accepted-is_local config cpu command change w shaped accepted stays = record {
         put_all-every config.granules w.cells fresh (λ a not. here.outside.undelegated a not ∙ sym (goes.0.outside.undelegated a not)) in (
           subst (λ o. Step (flat_state config w.cells) cpu command (ok []) (flat_state config o)) (sym put_in) goes.1,
           subst (IsWellShaped config (side_changed w.cells w.side change) (put places cpu Outside)) (sym put_in)
-              (subst (λ p. IsWellShaped config (side_changed w.cells w.side change) p fresh) (stays places ∙ sym (put-same places cpu Outside place)) goes.0),
+              (subst (λ p. IsWellShaped config (side_changed w.cells w.side change) p fresh)
+              (stays places ∙ sym (put-same places cpu Outside place)) goes.0),
         )

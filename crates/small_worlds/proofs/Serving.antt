@@ -10,7 +10,7 @@ use Rattle.rmm_spec.specs.declared.reply.Reply.{Reply}
 use Rattle.rmm_spec.specs.Lookup.{is_granule}
 use Rattle.rmm_spec.specs.Cell.{put}
 use Rattle.rmm_spec.specs.Local.{Hold, put_all, LocalStep}
-use Rattle.rmm_spec.specs.World.{World, Phase, Between, Deciding, Decided, Move, Happens, HappenAll, without_granule}
+use Rattle.rmm_spec.specs.World.{World, Phase, Between, Deciding, Decided, Move, HappenAll, without_granule}
 use Rattle.rmm_spec.specs.World as move
 use Rattle.spec_lemmas.proofs.Maps.{put_elim, put-same, put-here}
 use Rattle.spec_lemmas.proofs.Members.{Contains-nil, Contains-other, Contains-tail, Contains-head, cells_at}
@@ -48,11 +48,13 @@ Contains-last (first ∷ held) granule = Contains-tail first (held ++ granule �
 -- granules that can be taken one after another
 abbrev pub can_take : ℕ → List ℕ → List ℕ → Bool
 can_take granules held [] = true
-can_take granules held (granule ∷ more) = is_granule granules granule && (not (is_among held granule) && can_take granules (held ++ granule ∷ []) more)
+can_take granules held (granule ∷ more) =
+    is_granule granules granule && (not (is_among held granule) && can_take granules (held ++ granule ∷ []) more)
 
 -- ---- runs
 
-pub HappenAll-from_by : (may : World → ℕ → ℕ → Type 0) (old : World) (moves : List Move) (last : World) → HappenBy may old moves last → HappenAll old moves last
+pub HappenAll-from_by : (may : World → ℕ → ℕ → Type 0) (old : World) (moves : List Move) (last : World)
+    → HappenBy may old moves last → HappenAll old moves last
 HappenAll-from_by may old [] last happen = happen
 HappenAll-from_by may old (m ∷ moves) last happen = (happen.0, happen.2, HappenAll-from_by may happen.0 moves last happen.3)
 
@@ -80,11 +82,13 @@ takes : (may : World → ℕ → ℕ → Type 0) (w : World) (cpu number : ℕ) 
     → HappenBy may (with_held w cpu held) (map (λ granule. move.Take cpu granule) more) (with_held w cpu (held ++ more))
 takes may w cpu number command is_cpu deciding held [] can all = ap (with_held w cpu) (append-nil held)
 takes may w cpu number command is_cpu deciding held (granule ∷ more) can all =
-    let parts = and_parts (is_granule w.config.granules granule) (not (is_among held granule) && can_take w.config.granules (held ++ granule ∷ []) more) can in
+    let parts =
+    and_parts (is_granule w.config.granules granule) (not (is_among held granule) && can_take w.config.granules (held ++ granule ∷ []) more) can in
     let new = and_parts (not (is_among held granule)) (can_take w.config.granules (held ++ granule ∷ []) more) parts.1 in
     let apart : is_among held granule ≡ false = not-true (is_among held granule) new.0 in
     let grown : put (λ _. []) cpu (held ++ granule ∷ []) ≡ put (put (λ _. []) cpu held) cpu (put (λ _. []) cpu held cpu ++ granule ∷ []) =
-    ap (λ (before : List ℕ). put (λ _. []) cpu (before ++ granule ∷ [])) (sym (put-here (λ _. []) cpu held)) ∙ sym (put_again (λ _. []) cpu held _) in (
+    ap (λ (before : List ℕ). put (λ _. []) cpu (before ++ granule ∷ [])) (sym (put-here (λ _. []) cpu held))
+    ∙ sym (put_again (λ _. []) cpu held _) in (
       with_held w cpu (held ++ granule ∷ []),
       all.0,
       record {
@@ -92,7 +96,8 @@ takes may w cpu number command is_cpu deciding held (granule ∷ more) can all =
         moves = record {
           deciding = record { number = number; command = command; learnt = None; is_deciding = deciding };
           is_lock = parts.0;
-          is_free = λ other. put_elim (λ (has : List ℕ). Contains has granule → ⊥) (λ _. []) cpu held other (λ same. not_among held granule apart) (λ _. Contains-nil granule);
+          is_free = λ other. put_elim (λ (has : List ℕ). Contains has granule → ⊥)
+              (λ _. []) cpu held other (λ same. not_among held granule apart) (λ _. Contains-nil granule);
           is_new = λ i. record w { taken = grown i };
         };
       },
@@ -105,7 +110,8 @@ frees : (may : World → ℕ → ℕ → Type 0) (w : World) (cpu number : ℕ) 
     → HappenBy may (with_held w cpu (held ++ more)) (freeing cpu more) (with_held w cpu held)
 frees may w cpu number command given is_cpu decided held [] can = ap (with_held w cpu) (sym (append-nil held))
 frees may w cpu number command given is_cpu decided held (granule ∷ more) can =
-    let parts = and_parts (is_granule w.config.granules granule) (not (is_among held granule) && can_take w.config.granules (held ++ granule ∷ []) more) can in
+    let parts =
+    and_parts (is_granule w.config.granules granule) (not (is_among held granule) && can_take w.config.granules (held ++ granule ∷ []) more) can in
     let new = and_parts (not (is_among held granule)) (can_take w.config.granules (held ++ granule ∷ []) more) parts.1 in
     let apart : is_among held granule ≡ false = not-true (is_among held granule) new.0 in
     let both = held ++ granule ∷ [] in
@@ -114,7 +120,8 @@ frees may w cpu number command given is_cpu decided held (granule ∷ more) can 
     ap (put (λ _. []) cpu) (sym (ap (without_granule granule) there ∙ without-last held granule apart)) ∙ sym (put_again (λ _. []) cpu both _) in
     let phase : w.phase ≡ put w.phase cpu (move.phase_learnt None (w.phase cpu)) =
     sym (put-same w.phase cpu (move.phase_learnt None (w.phase cpu)) (decided ∙ sym (ap (move.phase_learnt None) decided))) in
-    HappenBy-append may (with_held w cpu (held ++ granule ∷ more)) (freeing cpu more) (move.Free cpu granule None ∷ []) (with_held w cpu both) (with_held w cpu held)
+    HappenBy-append may (with_held w cpu (held ++ granule ∷ more)) (freeing cpu more)
+    (move.Free cpu granule None ∷ []) (with_held w cpu both) (with_held w cpu held)
     (subst (λ all_held. HappenBy may (with_held w cpu all_held) (freeing cpu more) (with_held w cpu both)) (append_assoc held (granule ∷ []) more)
     (frees may w cpu number command given is_cpu decided both more new.1)) (
       with_held w cpu held,
@@ -159,7 +166,8 @@ serve may w cpu number command given held granules is_cpu quiet deciding can all
     let done = committed_by w cpu number command given held in
     let last = after w cpu number command given held in
     let decided : done.phase cpu ≡ Decided number command given = put-here w.phase cpu (Decided number command given) in
-    let local = subst (λ (gs : List ℕ). LocalStep w.config cpu command given (record { cells = cells_at w.cells gs; side = w.side; place = w.place cpu }) held)
+    let local =
+    subst (λ (gs : List ℕ). LocalStep w.config cpu command given (record { cells = cells_at w.cells gs; side = w.side; place = w.place cpu }) held)
     (sym (put-here (λ _. []) cpu granules)) step in
     subst (λ first. HappenBy may first (served_by cpu granules given held) last) (with_held-none w cpu quiet)
     (HappenBy-append may (with_held w cpu []) (map (λ g. move.Take cpu g) granules) _ (with_held w cpu granules) last

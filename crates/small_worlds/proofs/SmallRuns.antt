@@ -13,7 +13,7 @@ use Rattle.rmm_spec.specs.Step.Terms.{needed, named}
 use Rattle.rmm_spec.specs.Cell.{Undelegated, Delegated, put, tag_of}
 use Rattle.rmm_spec.specs.Shape.{Outside}
 use Rattle.rmm_spec.specs.Local.{HeldCell, LocalStep}
-use Rattle.rmm_spec.specs.World.{World, Phase, Between, Deciding, Stopped, IsGoing, opening_world, hold_of, held_cells, Happens, HappenAll, certificate_of}
+use Rattle.rmm_spec.specs.World.{World, Phase, Between, Deciding, Stopped, opening_world, Happens, HappenAll, certificate_of}
 use Rattle.rmm_spec.specs.World as move
 use Rattle.rmm_spec.specs.Locks.{needs, IsRisingTake}
 use Rattle.rmm_spec.specs.Waits.{IsRising, WaitsAt}
@@ -73,9 +73,11 @@ class_of-delegate : (granule : ℕ) → class_of (call_of (delegate granule)) �
 unfolding call_from class_of
 class_of-delegate granule = refl
 
-accepts : (cpu granule : ℕ) → is_granule 4 granule ≡ true → LocalStep two_cpus cpu (delegate granule) (ok []) (holding_at granule Undelegated) (holding_at granule Delegated)
+accepts : (cpu granule : ℕ) → is_granule 4 granule ≡ true
+    → LocalStep two_cpus cpu (delegate granule) (ok []) (holding_at granule Undelegated) (holding_at granule Delegated)
 accepts cpu granule is_lock =
-    subst (λ b. LocalStep two_cpus cpu (delegate granule) (ok []) (holding_at granule Undelegated) (holding_at granule (if b then Delegated else Undelegated)))
+    subst (λ b. LocalStep two_cpus cpu (delegate granule) (ok [])
+    (holding_at granule Undelegated) (holding_at granule (if b then Delegated else Undelegated)))
     (eq-eqb granule granule refl)
     (delegate-is_local two_cpus cpu granule (delegate granule) (holding_at granule Undelegated) (call_of-delegate granule) refl is_lock
     (Contains-head (held_at granule Undelegated) []))
@@ -86,7 +88,8 @@ names_it granule = Contains-head (needed granule tag.Undelegated) []
 
 refuses : (cpu granule : ℕ) → LocalStep two_cpus cpu (delegate granule) input_error (holding_at granule Delegated) (holding_at granule Delegated)
 refuses cpu granule =
-    tags-are_local two_cpus cpu (delegate granule) (holding_at granule Delegated) (held_at granule Delegated) (needed granule tag.Undelegated) (class_of-delegate granule) refl
+    tags-are_local two_cpus cpu (delegate granule) (holding_at granule Delegated)
+    (held_at granule Delegated) (needed granule tag.Undelegated) (class_of-delegate granule) refl
     (Contains-head (held_at granule Delegated) []) (names_it granule) refl refl
 
 is_lock : is_granule 4 0x1000 ≡ true
@@ -136,10 +139,14 @@ serves_both first second is_first is_second deciding later outside = (
     both,
     happens-call first_called 1 0 (delegate 0x1000) [] one_fits refl refl,
     HappenAll-from_by anything both (delegates first 0x1000 (ok []) ++ delegates second 0x1000 input_error) (two_served first second)
-        (HappenBy-append anything both (delegates first 0x1000 (ok [])) (delegates second 0x1000 input_error) (one_served first) (two_served first second)
-        (serve anything both first 0 (delegate 0x1000) (ok []) (holding_at 0x1000 Delegated) (0x1000 ∷ []) is_first refl deciding refl (tt, tt) (accepts first 0x1000 refl))
-        (serve anything (one_served first) second 0 (delegate 0x1000) input_error (holding_at 0x1000 Delegated) (0x1000 ∷ []) is_second refl later refl (tt, tt)
-        (subst (λ place. LocalStep two_cpus second (delegate 0x1000) input_error (record (holding_at 0x1000 Delegated) { place = place }) (holding_at 0x1000 Delegated))
+        (HappenBy-append anything both (delegates first 0x1000 (ok []))
+        (delegates second 0x1000 input_error) (one_served first) (two_served first second)
+        (serve anything both first 0 (delegate 0x1000) (ok []) (holding_at 0x1000 Delegated)
+        (0x1000 ∷ []) is_first refl deciding refl (tt, tt) (accepts first 0x1000 refl))
+        (serve anything (one_served first) second 0 (delegate 0x1000) input_error
+        (holding_at 0x1000 Delegated) (0x1000 ∷ []) is_second refl later refl (tt, tt)
+        (subst (λ place. LocalStep two_cpus second (delegate 0x1000) input_error
+        (record (holding_at 0x1000 Delegated) { place = place }) (holding_at 0x1000 Delegated))
         (sym outside) (refuses second 0x1000)))),
   ),
 )
@@ -260,7 +267,8 @@ takes_first w cpu number granule command rest deciding none first = record {
 }
 
 -- the second of two, while the first is held
-takes_second : (w : World) (cpu number rd root : ℕ) → w.phase cpu ≡ Deciding number (realm_of rd root) None → w.taken cpu ≡ rd ∷ [] → w.cells rd ≡ Delegated
+takes_second : (w : World) (cpu number rd root : ℕ)
+    → w.phase cpu ≡ Deciding number (realm_of rd root) None → w.taken cpu ≡ rd ∷ [] → w.cells rd ≡ Delegated
     → IsWordTake w cpu root
 unfolding call_from named
 takes_second w cpu number rd root deciding holds lent = record {

@@ -74,7 +74,8 @@ phases : (number : ℕ) (first second : Phase) (last : Phase)
 phases number first second last = λ i other. by (other == 0) i
   where
     by : (b : Bool)
-        → ◌≡◌ {A = Phase} (if b then last else (if b then second else (if b then first else (if b then Between number else Between 0)))) (if b then last else Between 0)
+        → ◌≡◌ {A = Phase} (if b then last else (if b then second else (if b then first else (if b then Between number else Between 0))))
+        (if b then last else Between 0)
     by true = refl
     by false = refl
 
@@ -86,7 +87,8 @@ programs calls rest = λ i other. by other (other == 0) i
     by other true = refl
     by other false = refl
 
-next-by : (w : Whole) (a : Accepted) (number : ℕ) (rest : List Command) (journal : List Commitment) (events : List Event) → IsShaped nine_granules w → w.places ≡ (λ _. Outside)
+next-by : (w : Whole) (a : Accepted) (number : ℕ) (rest : List Command) (journal : List Commitment) (events : List Event)
+    → IsShaped nine_granules w → w.places ≡ (λ _. Outside)
     → IsAnswered w a → Stays w a
     → HappenBy anything (at_whole w number (a.command ∷ rest) journal events)
     (move.Call 0 ∷ served_by 0 (granules_below 9) (ok []) (hold_all nine_granules (whole_changed nine_granules w a.change)))
@@ -133,9 +135,11 @@ abbrev number_after : ℕ → List Accepted → ℕ
 number_after number [] = number
 number_after number (a ∷ others) = number_after (number + 1) others
 
-all-by : (script : List Accepted) (w : Whole) (number : ℕ) (rest : List Command) (journal : List Commitment) (events : List Event) → IsShaped nine_granules w → w.places ≡ (λ _. Outside)
+all-by : (script : List Accepted) (w : Whole) (number : ℕ) (rest : List Command) (journal : List Commitment) (events : List Event)
+    → IsShaped nine_granules w → w.places ≡ (λ _. Outside)
     → AreAnswered w script
-    → (j : List Commitment) × (e : List Event) × HappenBy anything (at_whole w number (map (λ (a : Accepted). a.command) script ++ rest) journal events) (all_accepted nine_granules w script)
+    → (j : List Commitment) × (e : List Event)
+    × HappenBy anything (at_whole w number (map (λ (a : Accepted). a.command) script ++ rest) journal events) (all_accepted nine_granules w script)
     (at_whole (whole_after w script) (number_after number script) rest j e)
 all-by [] w number rest journal events shaped outside answered = (journal, events, refl)
 all-by (a ∷ others) w number rest journal events shaped outside answered =
@@ -160,7 +164,8 @@ unfolding opening_world
 untouched-shaped = IsShapedWorld-opening nine_granules each_destroys
 
 recs-answered : AreAnswered untouched two_recs_made
-unfolding flat_state outcome answer_of granule_delegate realm_create rec_create call_from class_of words_of named has_tag is_granule is_inside is_vmid_used realm_at realm_updated cells_changed side_changed places_changed
+unfolding flat_state outcome answer_of granule_delegate realm_create rec_create call_from class_of words_of named has_tag is_granule is_inside
+    is_vmid_used realm_at realm_updated cells_changed side_changed places_changed
 recs-answered = (
   refl,
   λ p. refl,
@@ -201,7 +206,8 @@ recs-answered = (
 own_part : (c : RecRecord) → IsTrue (names_part (Rec c) c.aux0)
 own_part c = or_left (c.aux0 == c.aux0) (c.aux1 == c.aux0) (eq-eqb c.aux0 c.aux0 refl)
 
-unguarded : (config : Config) (rec stray : ℕ) (c : RecRecord) → is_granule config.granules c.aux0 ≡ true → (rec ≡ c.aux0 → ⊥) → (stray ≡ c.aux0 → ⊥) → (rec ≡ stray → ⊥)
+unguarded : (config : Config) (rec stray : ℕ) (c : RecRecord)
+    → is_granule config.granules c.aux0 ≡ true → (rec ≡ c.aux0 → ⊥) → (stray ≡ c.aux0 → ⊥) → (rec ≡ stray → ⊥)
     → IsUnguardedTake config (named (RecDestroy rec)) (held_at rec (Rec c) ∷ held_at stray RecAux ∷ []) c.aux0
 unfolding named
 unguarded config rec stray c is_lock own other apart =
@@ -214,7 +220,8 @@ unguarded config rec stray c is_lock own other apart =
       no_data = each_of_two (λ (h : HeldCell). is_data h.cell ≡ false) mine strange refl refl;
       tags = λ h n has_h has_n.
           each_of_one (λ (m : Needed). m.granule ≡ h.granule → tag_of h.cell ≡ m.tag) (needed rec tag.Rec)
-          (each_of_two (λ (k : HeldCell). rec ≡ k.granule → tag_of k.cell ≡ tag.Rec) mine strange (λ same. refl) (λ same. absurd (apart same)) h has_h)
+          (each_of_two (λ (k : HeldCell). rec ≡ k.granule → tag_of k.cell ≡ tag.Rec) mine strange
+          (λ same. refl) (λ same. absurd (apart same)) h has_h)
           n has_n;
       upwards = inr (record {
         by = mine;
@@ -239,7 +246,8 @@ rec_of index aux0 aux1 = record {
 -- ---- the circle
 
 abbrev asking : List Commitment → List Event → World
-asking j e = called (called (at_whole (whole_after untouched two_recs_made) 11 (destroys 0x3000 ∷ []) j e) 0 11 (destroys 0x3000) []) 1 0 (destroys 0x6000) []
+asking j e =
+    called (called (at_whole (whole_after untouched two_recs_made) 11 (destroys 0x3000 ∷ []) j e) 0 11 (destroys 0x3000) []) 1 0 (destroys 0x6000) []
 
 abbrev zero_first : List Commitment → List Event → World
 zero_first j e = took (asking j e) 0 0x3000
@@ -276,13 +284,19 @@ strays_run j e =
           (
             one_first j e,
             tt,
-            happens-take (zero_first j e) 1 0x6000 0 (destroys 0x6000) one_cpu refl refl (λ other. first_free 0x6000 (λ same. omega arith) (other == 0)),
+            happens-take (zero_first j e) 1 0x6000 0 (destroys 0x6000) one_cpu refl refl
+                (λ other. first_free 0x6000 (λ same. omega arith) (other == 0)),
             (
               zero_strays j e,
               tt,
               happens-take (one_first j e) 0 0x7000 11 (destroys 0x3000) zero_cpu refl refl
                   (λ other. second_free 0x7000 (λ same. omega arith) (λ same. omega arith) (other == 1) (other == 0)),
-              (both_stray j e, tt, happens-take (zero_strays j e) 1 0x4000 0 (destroys 0x6000) one_cpu refl refl (λ other. third_free (other == 0) (other == 1)), refl),
+              (
+                both_stray j e,
+                tt,
+                happens-take (zero_strays j e) 1 0x4000 0 (destroys 0x6000) one_cpu refl refl (λ other. third_free (other == 0) (other == 1)),
+                refl,
+              ),
             ),
           ),
         ),
@@ -293,11 +307,13 @@ strays_run j e =
     first_free g apart true has = each_of_one (λ (x : ℕ). x ≡ g → ⊥) 0x3000 apart g has refl
     first_free g apart false has = Contains-nil g has
 
-    second_free : (g : ℕ) → (0x3000 ≡ g → ⊥) → (0x6000 ≡ g → ⊥) → (a b : Bool) → Contains {X = ℕ} (if a then 0x6000 ∷ [] else (if b then 0x3000 ∷ [] else [])) g → ⊥
+    second_free : (g : ℕ) → (0x3000 ≡ g → ⊥) → (0x6000 ≡ g → ⊥) → (a b : Bool)
+        → Contains {X = ℕ} (if a then 0x6000 ∷ [] else (if b then 0x3000 ∷ [] else [])) g → ⊥
     second_free g apart other true b has = each_of_one (λ (x : ℕ). x ≡ g → ⊥) 0x6000 other g has refl
     second_free g apart other false b has = first_free g apart b has
 
-    third_free : (a b : Bool) → Contains {X = ℕ} (if a then 0x3000 ∷ 0x7000 ∷ [] else (if b then 0x6000 ∷ [] else (if a then 0x3000 ∷ [] else []))) 0x4000 → ⊥
+    third_free : (a b : Bool)
+        → Contains {X = ℕ} (if a then 0x3000 ∷ 0x7000 ∷ [] else (if b then 0x6000 ∷ [] else (if a then 0x3000 ∷ [] else []))) 0x4000 → ⊥
     third_free true b has = each_of_two (λ (x : ℕ). x ≡ 0x4000 → ⊥) 0x3000 0x7000 (λ same. omega arith) (λ same. omega arith) 0x4000 has refl
     third_free false b has = second_free 0x4000 (λ same. omega arith) (λ same. omega arith) b false has
 

@@ -28,7 +28,8 @@ granules_below (suc n) = granules_below n ++ n * 4096 ∷ []
 
 -- all granules of a whole, held by a CPU outside of RECs
 abbrev pub hold_all : Config → Whole → Hold
-hold_all config w = record { cells = map (λ granule. held_at granule (w.cells granule)) (granules_below config.granules); side = w.side; place = Outside }
+hold_all config w =
+    record { cells = map (λ granule. held_at granule (w.cells granule)) (granules_below config.granules); side = w.side; place = Outside }
 
 -- CPU 0 calls each of the commands, takes all granules, commits and returns
 abbrev pub all_accepted : Config → Whole → List Accepted → List Move

@@ -29,6 +29,7 @@ pub fn broken_recs_are_not_well_shaped()
 pub fn broken_places_are_not_well_shaped()
     ensures nowhere { IsWellShaped eight_granules (one_owned 0x1000) (λ _. Inside 0x6000 0x1000) (one_rec the_rec) → ⊥ }
     ensures not_running { IsWellShaped eight_granules (one_owned 0x1000) (λ _. Inside 0x3000 0x1000) (one_rec the_rec) → ⊥ }
-    ensures elsewhere { IsWellShaped eight_granules (one_owned 0x1000) (put (λ _. Outside) 0 (Inside 0x3000 0x2000)) (one_rec (record the_rec { cpu = Some 0 })) → ⊥ }
+    ensures elsewhere { IsWellShaped eight_granules (one_owned 0x1000)
+        (put (λ _. Outside) 0 (Inside 0x3000 0x2000)) (one_rec (record the_rec { cpu = Some 0 })) → ⊥ }
     ensures unplaced { IsWellShaped eight_granules (one_owned 0x1000) (λ _. Outside) (one_rec (record the_rec { cpu = Some 0 })) → ⊥ }
 {}

@@ -9,7 +9,8 @@ use Rattle.rmm_spec.specs.Step.{answer_of, commands}
 use Rattle.rmm_spec.specs.Step.Front.{with_front}
 
 -- both are read off the command's definition
-unfoldable pub behind : (s : State) (cpu : ℕ) (c : Call) → (rows : List Row) × (accepted : Accepted) × (answer_of s cpu c ≡ decided (with_front s c rows) accepted)
+unfoldable pub behind : (s : State) (cpu : ℕ) (c : Call)
+    → (rows : List Row) × (accepted : Accepted) × (answer_of s cpu c ≡ decided (with_front s c rows) accepted)
 unfolding answer_of commands
 behind s cpu (call.GranuleDelegate granule) = (_, _, refl)
 behind s cpu _ = (_, _, refl)

@@ -66,6 +66,7 @@ pub same_entry : (events : List Event) → HasOnePlaces events → (line : Line)
     → IsEntryOf events line entry → IsEntryOf events line other → SameEntries entry other
 same_entry events one line entry other here there = record {
   cpu = here.cpu ∙ sym there.cpu;
-  command = same_command events one here.called there.called (cpu_named line) (number_named line) entry.command other.command here.is_called there.is_called;
+  command = same_command events one here.called there.called (cpu_named line)
+      (number_named line) entry.command other.command here.is_called there.is_called;
   given = same_reply events one line entry.given other.given here.given there.given;
 }

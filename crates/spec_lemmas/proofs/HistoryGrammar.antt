@@ -82,7 +82,8 @@ stand_from-front old (event ∷ front) back is_some =
 IsRecord-take : (cpu n : ℕ) (events : List Event) → IsRecord (subhistory_of cpu events) → IsRecord (subhistory_of cpu (take n events))
 IsRecord-take cpu n events is_record =
     let parts : subhistory_of cpu events ≡ subhistory_of cpu (take n events) ++ subhistory_of cpu (drop n events) =
-    ap (λ (es : List Event). subhistory_of cpu es) (sym (take-append-drop n events)) ∙ filter-append (λ e. nat_eq (cpu_of e) cpu) (take n events) (drop n events) in
+    ap (λ (es : List Event). subhistory_of cpu es) (sym (take-append-drop n events))
+    ∙ filter-append (λ e. nat_eq (cpu_of e) cpu) (take n events) (drop n events) in
     stand_from-front start (subhistory_of cpu (take n events)) (subhistory_of cpu (drop n events)) (subst IsRecord parts is_record)
 
 -- the first events of a history are a history
@@ -100,7 +101,8 @@ SpellsHistory-take zero spelled counted given = absurd (omega (arith, counted))
 SpellsHistory-take (suc n) spelled counted given = record {
   history = record given.history { events = take n given.history.events };
   is_history = IsHistory-take n given.history given.is_history;
-  is_spelled = ap (λ ls. take (suc n) ls) given.is_spelled ∙ ap (λ ls. config_parts given.history.config ∷ ls) (take-map event_parts n given.history.events);
+  is_spelled = ap (λ ls. take (suc n) ls) given.is_spelled
+      ∙ ap (λ ls. config_parts given.history.config ∷ ls) (take-map event_parts n given.history.events);
 }
 
 -- a history's text has no bad line

@@ -24,7 +24,8 @@ line_for-returned events c place given is =
     rw (list_any_at (is_return_of c.cpu c.number) events place event (slice_get_within events place event is) passes) refl
 
 -- an event that isn't the return fails the test
-is_return_of-other : (cpu number : ℕ) (event : Event) → ((given : Reply) → event ≡ Returned cpu number given → ⊥) → is_return_of cpu number event ≡ false
+is_return_of-other : (cpu number : ℕ) (event : Event)
+    → ((given : Reply) → event ≡ Returned cpu number given → ⊥) → is_return_of cpu number event ≡ false
 is_return_of-other cpu number (Called other count command) none = refl
 is_return_of-other cpu number (Returned other count given) none = by (other == cpu && count == number) refl
   where
@@ -41,5 +42,6 @@ none_returned (event ∷ events) cpu number none =
     (none_returned events cpu number (λ finished. none (suc finished.0, finished.1, finished.2)))
 
 -- and where none is recorded the line is unfinished
-pub line_for-unfinished : (events : List Event) (c : Commitment) → ¬ IsFinished events c.cpu c.number → line_for events c ≡ Unfinished c.cpu c.number c.given
+pub line_for-unfinished : (events : List Event) (c : Commitment)
+    → ¬ IsFinished events c.cpu c.number → line_for events c ≡ Unfinished c.cpu c.number c.given
 line_for-unfinished events c none = rw (none_returned events c.cpu c.number none) refl

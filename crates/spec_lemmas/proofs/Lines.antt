@@ -16,7 +16,8 @@ abbrev pub AreOneLineEach : List (List (List ℕ)) → Type 0
 AreOneLineEach lines = AllByRecursion IsOneLine lines
 
 -- the first lines pass over a line and its newline
-pub first_lines-line : (n : ℕ) (front rest : List ℕ) → HasNoNewline front → first_lines (suc n) (front ++ 10 ∷ rest) ≡ front ++ 10 ∷ first_lines n rest
+pub first_lines-line : (n : ℕ) (front rest : List ℕ)
+    → HasNoNewline front → first_lines (suc n) (front ++ 10 ∷ rest) ≡ front ++ 10 ∷ first_lines n rest
 first_lines-line n [] rest none = refl
 first_lines-line n (byte ∷ front) rest none =
     ap (λ b. byte ∷ first_lines (if b then n else suc n) (front ++ 10 ∷ rest)) (ne_eqb byte 10 none.0)
@@ -45,7 +46,8 @@ lines_text-append (x ∷ xs) ys =
     ∙ sym (append_assoc (line_text x) (10 ∷ lines_text xs) (lines_text ys))
 
 -- one more line at the end
-pub lines_text-push : (lines : List (List (List ℕ))) (line : List (List ℕ)) → lines_text (lines ++ line ∷ []) ≡ lines_text lines ++ (line_text line ++ 10 ∷ [])
+pub lines_text-push : (lines : List (List (List ℕ))) (line : List (List ℕ))
+    → lines_text (lines ++ line ∷ []) ≡ lines_text lines ++ (line_text line ++ 10 ∷ [])
 lines_text-push lines line = lines_text-append lines (line ∷ [])
 
 -- the first lines pass over whole lines
@@ -104,7 +106,8 @@ first_line_cut [] front more none same = absurd (append-cons-not_nil front 10 mo
 first_line_cut (byte ∷ rest) [] more none same =
     let is_newline : byte ≡ 10 = cc in
     let later : first_lines (if byte == 10 then 0 else 1) rest ≡ more = cc in
-    let ended : first_lines (if 10 == 10 then 0 else 1) rest ≡ more = subst (λ b. first_lines (if b == 10 then 0 else 1) rest ≡ more) is_newline later in
+    let ended : first_lines (if 10 == 10 then 0 else 1) rest ≡ more =
+    subst (λ b. first_lines (if b == 10 then 0 else 1) rest ≡ more) is_newline later in
     (rest, (ap (λ b. b ∷ rest) is_newline, sym ended))
 first_line_cut (byte ∷ rest) (x ∷ front) more none same =
     let heads : byte ≡ x = cc in
@@ -120,7 +123,8 @@ pub record IsLineGrammar (Grammar : List ℕ → Type 0) (Takes : List (List (Li
   pub each : (lines : List (List (List ℕ))) → Takes lines → AreOneLineEach lines
 
 -- what is taken after good lines, by the lines that follow them
-taken_from : (Takes : List (List (List ℕ)) → Type 0) (good more : List (List (List ℕ))) (rest : List ℕ) → Takes (good ++ more) → AreOneLineEach (good ++ more)
+taken_from : (Takes : List (List (List ℕ)) → Type 0) (good more : List (List (List ℕ))) (rest : List ℕ)
+    → Takes (good ++ more) → AreOneLineEach (good ++ more)
     → first_lines 1 rest ≡ lines_text more
     → (Takes good × (rest ≡ []))
     ⊎ ((line : List (List ℕ)) × ((tail : List ℕ) × (Takes (good ++ line ∷ []) × (rest ≡ line_text line ++ 10 ∷ tail))))
@@ -167,7 +171,8 @@ IsBadLine-after {Grammar} {Takes} grammar good text rest each is_text before no_
 
 -- the next line is whole, and isn't taken after the good ones
 pub IsBadLine-line : {Grammar : List ℕ → Type 0} {Takes : List (List (List ℕ)) → Type 0} → IsLineGrammar Grammar Takes
-    → (good : List (List (List ℕ))) (text front more : List ℕ) → AreOneLineEach good → text ≡ lines_text good ++ (front ++ 10 ∷ more) → HasNoNewline front
+    → (good : List (List (List ℕ))) (text front more : List ℕ)
+    → AreOneLineEach good → text ≡ lines_text good ++ (front ++ 10 ∷ more) → HasNoNewline front
     → (0 < length good → Grammar (lines_text good))
     → (Takes (good ++ parts_of front ∷ []) → ⊥)
     → IsBadLine Grammar text (length good + 1)
@@ -251,7 +256,8 @@ pub first_lines-take : (n : ℕ) (lines : List (List (List ℕ))) → AreOneLine
 first_lines-take zero lines each = refl
 first_lines-take (suc n) [] each = refl
 first_lines-take (suc n) (line ∷ lines) each =
-    first_lines-line n (line_text line) (lines_text lines) each.0.has_no_newline ∙ ap (λ bytes. line_text line ++ 10 ∷ bytes) (first_lines-take n lines each.1)
+    first_lines-line n (line_text line) (lines_text lines) each.0.has_no_newline
+    ∙ ap (λ bytes. line_text line ++ 10 ∷ bytes) (first_lines-take n lines each.1)
 
 -- A text of the grammar has no bad line, where the first lines of what is taken are taken.
 pub not-IsBadLine : {Grammar : List ℕ → Type 0} {Takes : List (List (List ℕ)) → Type 0} → IsLineGrammar Grammar Takes

@@ -22,7 +22,8 @@ put-same {A} values key value is = λ i other. at other i
     at : (other : ℕ) → put values key value other ≡ values other
     at other = put_elim (λ v. v ≡ values other) values key value other (λ same. sym is ∙ ap values (sym same)) (λ apart. refl)
 
-pub put-elsewhere : {A : Type 0} (values : ℕ → A) (key : ℕ) (value : A) (other : ℕ) → (other == key) ≡ false → put values key value other ≡ values other
+pub put-elsewhere : {A : Type 0} (values : ℕ → A) (key : ℕ) (value : A) (other : ℕ)
+    → (other == key) ≡ false → put values key value other ≡ values other
 put-elsewhere values key value other apart = rw apart refl
 
 pub put-here : {A : Type 0} (values : ℕ → A) (key : ℕ) (value : A) → put values key value key ≡ value

@@ -82,7 +82,8 @@ cell_is_granule config side places cells shaped g delegated = by (is_granule con
 -- and has a number
 pub cell_granule : (config : Config) (side : Side) (places : ℕ → CpuPlace) (cells : ℕ → Cell) → IsWellShaped config side places cells
     → (g : ℕ) → (cells g ≡ Undelegated → ⊥) → (k : ℕ) × (k < config.granules) × (k * 4096 ≡ g)
-cell_granule config side places cells shaped g delegated = granule_number config.granules g (cell_is_granule config side places cells shaped g delegated)
+cell_granule config side places cells shaped g delegated =
+    granule_number config.granules g (cell_is_granule config side places cells shaped g delegated)
 
 -- so has what holds a REC
 pub rec_granule : (config : Config) (side : Side) (places : ℕ → CpuPlace) (cells : ℕ → Cell) → IsWellShaped config side places cells

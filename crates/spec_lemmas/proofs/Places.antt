@@ -72,10 +72,12 @@ length-stand_from old (event ∷ events) last leads =
     omega (arith, step.counted))
 
 -- the events of a CPU, one event longer at the front
-pub subhistory_of-same : (cpu : ℕ) (event : Event) (events : List Event) → cpu_of event ≡ cpu → subhistory_of cpu (event ∷ events) ≡ event ∷ subhistory_of cpu events
+pub subhistory_of-same : (cpu : ℕ) (event : Event) (events : List Event)
+    → cpu_of event ≡ cpu → subhistory_of cpu (event ∷ events) ≡ event ∷ subhistory_of cpu events
 subhistory_of-same cpu event events same = rw (eq-eqb (cpu_of event) cpu same) refl
 
-pub subhistory_of-other : (cpu : ℕ) (event : Event) (events : List Event) → eqb (cpu_of event) cpu ≡ false → subhistory_of cpu (event ∷ events) ≡ subhistory_of cpu events
+pub subhistory_of-other : (cpu : ℕ) (event : Event) (events : List Event)
+    → eqb (cpu_of event) cpu ≡ false → subhistory_of cpu (event ∷ events) ≡ subhistory_of cpu events
 subhistory_of-other cpu event events other = rw other refl
 
 -- where some events of a CPU stand, and its event at a place
@@ -84,7 +86,8 @@ pub record Ranked (old : Stand) (cpu : ℕ) (events : List Event) (place : ℕ) 
 
 -- the rank of an event is the count of its CPU's events before it
 pub Ranked-slice_get : (old : Stand) (cpu : ℕ) (events : List Event) (last : Stand) (place : ℕ) (event : Event)
-    → stand_from old (subhistory_of cpu events) ≡ Some last → slice_get events place ≡ Some event → cpu_of event ≡ cpu → Ranked old cpu events place event
+    → stand_from old (subhistory_of cpu events) ≡ Some last → slice_get events place ≡ Some event
+    → cpu_of event ≡ cpu → Ranked old cpu events place event
 Ranked-slice_get old cpu [] last place event leads is_event same = absurd (none-some event is_event)
 Ranked-slice_get old cpu (first ∷ events) last zero event leads is_event same =
     let is_first : first ≡ event = same_Some first event is_event in
@@ -123,7 +126,8 @@ stand_of_record events is_record = value_of (stand_from start events) is_record
 
 -- the same from the start
 pub rank-slice_get : (cpu : ℕ) (events : List Event) (place : ℕ) (event : Event)
-    → IsRecord (subhistory_of cpu events) → slice_get events place ≡ Some event → cpu_of event ≡ cpu → rank event ≡ length (subhistory_of cpu (take place events))
+    → IsRecord (subhistory_of cpu events) → slice_get events place ≡ Some event
+    → cpu_of event ≡ cpu → rank event ≡ length (subhistory_of cpu (take place events))
 rank-slice_get cpu events place event is_record is_event same =
     let stand = stand_of_record (subhistory_of cpu events) is_record in
     let ranked : Ranked start cpu events place event = Ranked-slice_get start cpu events stand.0 place event stand.1 is_event same in
@@ -131,7 +135,8 @@ rank-slice_get cpu events place event is_record is_event same =
 
 -- an event of a CPU makes that CPU's part longer for every later place
 pub length-subhistory_of-lt : (cpu : ℕ) (events : List Event) (place later : ℕ) (event : Event)
-    → slice_get events place ≡ Some event → cpu_of event ≡ cpu → place < later → length (subhistory_of cpu (take place events)) < length (subhistory_of cpu (take later events))
+    → slice_get events place ≡ Some event → cpu_of event ≡ cpu → place < later
+    → length (subhistory_of cpu (take place events)) < length (subhistory_of cpu (take later events))
 length-subhistory_of-lt cpu [] place later event is_event same before = absurd (none-some event is_event)
 length-subhistory_of-lt cpu (first ∷ events) place zero event is_event same before = absurd (omega arith)
 length-subhistory_of-lt cpu (first ∷ events) zero (suc later) event is_event same before =
@@ -146,7 +151,8 @@ length-subhistory_of-lt cpu (first ∷ events) (suc place) (suc later) event is_
       | inl is_same ↦
           let same_cpu : cpu_of first ≡ cpu = eqb-true (cpu_of first) cpu is_same in
           rw (subhistory_of-same cpu first (take place events) same_cpu, subhistory_of-same cpu first (take later events) same_cpu) (omega arith)
-      | inr is_other ↦ rw (subhistory_of-other cpu first (take place events) is_other, subhistory_of-other cpu first (take later events) is_other) rest
+      | inr is_other ↦
+          rw (subhistory_of-other cpu first (take place events) is_other, subhistory_of-other cpu first (take later events) is_other) rest
     ]
 
 -- so that it is within the CPU's part
@@ -170,7 +176,8 @@ pub record HasPlace (cpu : ℕ) (events : List Event) (count : ℕ) : Type 0 whe
 -- each event of a CPU's part has its place
 pub HasPlace-subhistory_of : (cpu : ℕ) (events : List Event) (count : ℕ) → count < length (subhistory_of cpu events) → HasPlace cpu events count
 HasPlace-subhistory_of cpu [] count within = absurd (omega arith)
-HasPlace-subhistory_of cpu (first ∷ events) count within = HasPlace-step (cases_Bool (eqb (cpu_of first) cpu)) count within (HasPlace-subhistory_of cpu events)
+HasPlace-subhistory_of cpu (first ∷ events) count within =
+    HasPlace-step (cases_Bool (eqb (cpu_of first) cpu)) count within (HasPlace-subhistory_of cpu events)
   where
     HasPlace-step : (eqb (cpu_of first) cpu ≡ true) ⊎ (eqb (cpu_of first) cpu ≡ false) → (n : ℕ) → n < length (subhistory_of cpu (first ∷ events))
         → ((k : ℕ) → k < length (subhistory_of cpu events) → HasPlace cpu events k) → HasPlace cpu (first ∷ events) n
@@ -188,9 +195,16 @@ HasPlace-subhistory_of cpu (first ∷ events) count within = HasPlace-step (case
         let later : HasPlace cpu events n = rest n (omega (arith, longer, below)) in
         let more : length (subhistory_of cpu (first ∷ take later.place events)) ≡ length (subhistory_of cpu (take later.place events)) + 1 =
         ap length (subhistory_of-same cpu first (take later.place events) same_cpu) ∙ omega arith in
-        record { place = suc later.place; event = later.event; is_event = later.is_event; same = later.same; counted = omega (arith, more, later.counted) }
+        record {
+          place = suc later.place;
+          event = later.event;
+          is_event = later.is_event;
+          same = later.same;
+          counted = omega (arith, more, later.counted);
+        }
     HasPlace-step (inr is_other) n below rest =
-        let as_long : length (subhistory_of cpu (first ∷ events)) ≡ length (subhistory_of cpu events) = ap length (subhistory_of-other cpu first events is_other) in
+        let as_long : length (subhistory_of cpu (first ∷ events)) ≡ length (subhistory_of cpu events) =
+        ap length (subhistory_of-other cpu first events is_other) in
         let later : HasPlace cpu events n = rest n (omega (arith, as_long, below)) in
         let more : length (subhistory_of cpu (first ∷ take later.place events)) ≡ length (subhistory_of cpu (take later.place events)) =
         ap length (subhistory_of-other cpu first (take later.place events) is_other) in
@@ -202,11 +216,14 @@ pub one_place : (cpu : ℕ) (events : List Event) (place other : ℕ) (event oth
     → rank event ≡ rank other_event → place ≡ other
 one_place cpu events place other event other_event is_record is_event is_other same other_same ranks =
     let here : rank event ≡ length (subhistory_of cpu (take place events)) = rank-slice_get cpu events place event is_record is_event same in
-    let there : rank other_event ≡ length (subhistory_of cpu (take other events)) = rank-slice_get cpu events other other_event is_record is_other other_same in
+    let there : rank other_event ≡ length (subhistory_of cpu (take other events)) =
+    rank-slice_get cpu events other other_event is_record is_other other_same in
     ⊎_elim (λ (e : place ≡ other). e)
     (⊎_elim
-    (λ (before : place < other). absurd (omega (arith, here, there, ranks, length-subhistory_of-lt cpu events place other event is_event same before)))
-    (λ (before : other < place). absurd (omega (arith, here, there, ranks, length-subhistory_of-lt cpu events other place other_event is_other other_same before))))
+    (λ (before : place < other).
+    absurd (omega (arith, here, there, ranks, length-subhistory_of-lt cpu events place other event is_event same before)))
+    (λ (before : other < place).
+    absurd (omega (arith, here, there, ranks, length-subhistory_of-lt cpu events other place other_event is_other other_same before))))
     (cases_order place other)
 
 -- a call is made at one place
@@ -227,22 +244,27 @@ pub IsKnown-below : (cpu number : ℕ) (events : List Event) → IsRecord (subhi
 IsKnown-below cpu number events is_record within = known (HasPlace-subhistory_of cpu events (number + number) within)
   where
     known : HasPlace cpu events (number + number) → IsKnown events cpu number
-    known found = named found.event found.is_event found.same (rank-slice_get cpu events found.place found.event is_record found.is_event found.same ∙ found.counted)
+    known found = named found.event found.is_event found.same
+        (rank-slice_get cpu events found.place found.event is_record found.is_event found.same ∙ found.counted)
       where
-        named : (event : Event) → slice_get events found.place ≡ Some event → cpu_of event ≡ cpu → rank event ≡ number + number → IsKnown events cpu number
+        named : (event : Event) → slice_get events found.place ≡ Some event
+            → cpu_of event ≡ cpu → rank event ≡ number + number → IsKnown events cpu number
         named (Called c n command) is_event same ranked =
             let number_is : n ≡ number = omega arith in
             (found.place, command, is_event ∙ ap (λ (x : ℕ). Some (Called x n command)) same ∙ ap (λ (x : ℕ). Some (Called cpu x command)) number_is)
         named (Returned c n given) is_event same ranked = absurd (omega arith)
 
-pub IsFinished-below : (cpu number : ℕ) (events : List Event) → IsRecord (subhistory_of cpu events) → number + number + 1 < length (subhistory_of cpu events)
+pub IsFinished-below : (cpu number : ℕ) (events : List Event)
+    → IsRecord (subhistory_of cpu events) → number + number + 1 < length (subhistory_of cpu events)
     → IsFinished events cpu number
 IsFinished-below cpu number events is_record within = finished (HasPlace-subhistory_of cpu events (number + number + 1) within)
   where
     finished : HasPlace cpu events (number + number + 1) → IsFinished events cpu number
-    finished found = named found.event found.is_event found.same (rank-slice_get cpu events found.place found.event is_record found.is_event found.same ∙ found.counted)
+    finished found = named found.event found.is_event found.same
+        (rank-slice_get cpu events found.place found.event is_record found.is_event found.same ∙ found.counted)
       where
-        named : (event : Event) → slice_get events found.place ≡ Some event → cpu_of event ≡ cpu → rank event ≡ number + number + 1 → IsFinished events cpu number
+        named : (event : Event) → slice_get events found.place ≡ Some event → cpu_of event ≡ cpu
+            → rank event ≡ number + number + 1 → IsFinished events cpu number
         named (Called c n command) is_event same ranked = absurd (omega arith)
         named (Returned c n given) is_event same ranked =
             let number_is : n ≡ number = omega arith in
@@ -264,7 +286,8 @@ below-IsFinished cpu number events is_record finished =
     omega (arith, ranked, length-subhistory_of-take cpu events finished.0 (Returned cpu number finished.1) finished.2 refl)
 
 -- a call that returns was made
-pub finished_is_known : (cpu number : ℕ) (events : List Event) → IsRecord (subhistory_of cpu events) → IsFinished events cpu number → IsKnown events cpu number
+pub finished_is_known : (cpu number : ℕ) (events : List Event)
+    → IsRecord (subhistory_of cpu events) → IsFinished events cpu number → IsKnown events cpu number
 finished_is_known cpu number events is_record finished =
     IsKnown-below cpu number events is_record (let within = below-IsFinished cpu number events is_record finished in omega (arith, within))
 

@@ -11,14 +11,18 @@ use Rattle.rmm_spec.specs.HistoryText.{Config, History, IsHistory, IsEvent, CanF
 use Rattle.spec_lemmas.proofs.Places.{subhistory_of-same, subhistory_of-other}
 
 -- the event belongs to the CPU, and goes to the end of its part
-pub subhistory_of-push_same : (cpu : ℕ) (events : List Event) (event : Event) → cpu_of event ≡ cpu → subhistory_of cpu (events ++ event ∷ []) ≡ subhistory_of cpu events ++ event ∷ []
+pub subhistory_of-push_same : (cpu : ℕ) (events : List Event) (event : Event)
+    → cpu_of event ≡ cpu → subhistory_of cpu (events ++ event ∷ []) ≡ subhistory_of cpu events ++ event ∷ []
 subhistory_of-push_same cpu events event same =
-    filter-append (λ e. eqb (cpu_of e) cpu) events (event ∷ []) ∙ ap (λ (es : List Event). subhistory_of cpu events ++ es) (subhistory_of-same cpu event [] same)
+    filter-append (λ e. eqb (cpu_of e) cpu) events (event ∷ [])
+    ∙ ap (λ (es : List Event). subhistory_of cpu events ++ es) (subhistory_of-same cpu event [] same)
 
 -- the event belongs to another CPU
-pub subhistory_of-push_other : (cpu : ℕ) (events : List Event) (event : Event) → eqb (cpu_of event) cpu ≡ false → subhistory_of cpu (events ++ event ∷ []) ≡ subhistory_of cpu events
+pub subhistory_of-push_other : (cpu : ℕ) (events : List Event) (event : Event)
+    → eqb (cpu_of event) cpu ≡ false → subhistory_of cpu (events ++ event ∷ []) ≡ subhistory_of cpu events
 subhistory_of-push_other cpu events event other =
-    filter-append (λ e. eqb (cpu_of e) cpu) events (event ∷ []) ∙ ap (λ (es : List Event). subhistory_of cpu events ++ es) (subhistory_of-other cpu event [] other)
+    filter-append (λ e. eqb (cpu_of e) cpu) events (event ∷ [])
+    ∙ ap (λ (es : List Event). subhistory_of cpu events ++ es) (subhistory_of-other cpu event [] other)
     ∙ append-nil (subhistory_of cpu events)
 
 -- the stand after one event more
@@ -39,7 +43,8 @@ stand_from-push old (first ∷ events) event = stand_from-more (stand_after old 
     stand_from-more (Some s) rest = rest s
 
 -- the stand after one event more, where it is known before
-pub stand_from-push_at : (events : List Event) (event : Event) (last : Stand) → stand_from start events ≡ Some last → stand_from start (events ++ event ∷ []) ≡ stand_after last event
+pub stand_from-push_at : (events : List Event) (event : Event) (last : Stand)
+    → stand_from start events ≡ Some last → stand_from start (events ++ event ∷ []) ≡ stand_after last event
 stand_from-push_at events event last leads =
     stand_from-push start events event ∙ ap (option_and_then (λ s. stand_after s event)) leads
 
@@ -61,7 +66,8 @@ AllByRecursion-last P [] x each = each.0
 AllByRecursion-last P (first ∷ xs) x each = AllByRecursion-last P xs x each.1
 
 -- each CPU's part is a record after an event that can follow
-pub records_push : (history : History) (event : Event) → IsHistory history → CanFollow history event → (cpu : ℕ) → IsRecord (subhistory_of cpu (history.events ++ event ∷ []))
+pub records_push : (history : History) (event : Event) → IsHistory history → CanFollow history event → (cpu : ℕ)
+    → IsRecord (subhistory_of cpu (history.events ++ event ∷ []))
 records_push history event is_history can_follow cpu =
     ⊎_elim
     (λ (same : eqb (cpu_of event) cpu ≡ true).
@@ -81,7 +87,8 @@ IsHistory-push history event is_history can_follow room = record {
 }
 
 -- and no other event does
-pub CanFollow-from_push : (config : Config) (events : List Event) (event : Event) → IsHistory (record { config = config; events = events ++ event ∷ [] })
+pub CanFollow-from_push : (config : Config) (events : List Event) (event : Event)
+    → IsHistory (record { config = config; events = events ++ event ∷ [] })
     → CanFollow (record { config = config; events = events }) event
 CanFollow-from_push config events event is_history = record {
   is_event = AllByRecursion-last (IsEvent config.cpus) events event is_history.events;

@@ -56,5 +56,7 @@ with_tag-restored s address tag = λ i. record s { tag = λ other. tag-restored 
 -- the program's comparison of two tags is that of their numbers
 pub sameb-tag_number : (a b : Tag) → sameb the_type a b ≡ (tag_number a == tag_number b)
 sameb-tag_number a b = same_from_decides (sameb the_type a b) (tag_number a == tag_number b)
-    (same_true the_type tt a b, true_same the_type a b)
-    (λ same. tag_number-injective a b (eqb-true (tag_number a) (tag_number b) same), λ same. eq-eqb (tag_number a) (tag_number b) (ap tag_number same))
+    (same_true the_type tt a b, true_same the_type a b) (
+      λ same. tag_number-injective a b (eqb-true (tag_number a) (tag_number b) same),
+      λ same. eq-eqb (tag_number a) (tag_number b) (ap tag_number same),
+    )

@@ -262,7 +262,8 @@ unfolding command_parts
 command_parts-injective c d e =
     let numbers : fixed_hex 8 (number_of c.function) ≡ fixed_hex 8 (number_of d.function) = ap (λ ps. get_or ps 0 []) e in
     let words : map word c.words.items ≡ map word d.words.items = ap (λ ps. drop 1 ps) e in
-    let number : number_of c.function ≡ number_of d.function = fixed_hex-injective 8 _ _ (number_of-lt c.function) (number_of-lt d.function) numbers in
+    let number : number_of c.function ≡ number_of d.function =
+    fixed_hex-injective 8 _ _ (number_of-lt c.function) (number_of-lt d.function) numbers in
     let function : c.function ≡ d.function = number_of-injective c.function d.function number in
     let items : c.words.items ≡ d.words.items = map-word-injective c.words.items d.words.items words in
     λ i. record { function = function i; words = record { items = items i } }

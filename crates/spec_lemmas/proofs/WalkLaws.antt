@@ -53,7 +53,8 @@ unfolding reach
 reach-here s rd ipa l there = rw there refl
 
 -- no table of the level covers the address: the walk ends above it
-pub reach-below : (s : State) (rd ipa l : ℕ) → is_some (s.table rd (suc l) (table_number (suc l) ipa)) ≡ false → reach s rd ipa (suc l) ≡ reach s rd ipa l
+pub reach-below : (s : State) (rd ipa l : ℕ)
+    → is_some (s.table rd (suc l) (table_number (suc l) ipa)) ≡ false → reach s rd ipa (suc l) ≡ reach s rd ipa l
 unfolding reach
 reach-below s rd ipa l nothing = rw nothing refl
 

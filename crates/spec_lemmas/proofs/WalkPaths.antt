@@ -57,7 +57,8 @@ one_a_level-by cells root ipa max w g h t u p q level earlier (inr above_g) (inr
     let down_g = link_level cells root ipa max w above_g.0 g above_g.1 t above_g.2 above_g.3 p in
     let down_h = link_level cells root ipa max w above_h.0 h above_h.1 u above_h.2 above_h.3 q in
     let same = earlier above_g.0 above_h.0 above_g.1 above_h.1 above_g.2 above_h.2 (omega arith) down_g in
-    same_link g h ipa above_g.1 above_h.1 (same_table cells above_g.0 above_h.0 above_g.1 above_h.1 above_g.2.is_held above_h.2.is_held same) above_g.3 above_h.3
+    same_link g h ipa above_g.1 above_h.1
+    (same_table cells above_g.0 above_h.0 above_g.1 above_h.1 above_g.2.is_held above_h.2.is_held same) above_g.3 above_h.3
 
 -- the path has one table a level
 pub one_a_level : (cells : List TableCell) (root ipa max : ℕ) (w : IsWalkable cells root ipa max) (depth g h : ℕ) (t u : TableRecord)

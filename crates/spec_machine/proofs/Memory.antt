@@ -1,5 +1,5 @@
 -- Which commands make a change that takes memory, and how deep a stretch lies.
-use Rattle.spec_machine.proofs.Common.{◌≡◌, ℕ, ◌/◌, ◌≤◌, Bool, false, ◌||◌, List, [], ◌∷◌, is_some, IsTrue, ◌==◌, Ok, CanApply, Change, Claim, IsSound, Reaches, RealmMade, State, Stretch, TableMade, ap, both_ways, claims_opened, done, makes_table, opened, outcome, reached_applies, reached_change, refl, stretch_change, sym, tag_number, takes_memory, Rd, Rec, has_tag, rec_at, rec_there, ◌∙◌}
+use Rattle.spec_machine.proofs.Common.{◌/◌, ◌==◌, ◌||◌, ◌∙◌, ◌∷◌, ◌≡◌, ◌≤◌, Bool, CanApply, Change, Claim, IsSound, IsTrue, List, Ok, Rd, Reaches, RealmMade, Rec, State, Stretch, TableMade, [], ap, both_ways, claims_opened, done, false, has_tag, is_some, makes_table, opened, outcome, reached_applies, reached_change, rec_at, rec_there, refl, stretch_change, sym, tag_number, takes_memory, ℕ}
 use Rattle.rmm_spec.specs.declared.accepted.StretchUse.{StretchUse}
 use Rattle.rmm_spec.specs.declared.accepted.StretchUse.TheVariants.{Init, Requested}
 use Rattle.rmm_spec.specs.declared.command.Command.{Command}
@@ -29,7 +29,8 @@ claims-makes RealmCreate words = refl
 claims-makes RttCreate words = refl
 claims-makes _ words = refl
 
-pub done_makes : (s : State) (cpu : ℕ) (command : Command) (words : List ℕ) (change : Change) → outcome s cpu (call_of command) ≡ Ok (done words change)
+pub done_makes : (s : State) (cpu : ℕ) (command : Command) (words : List ℕ) (change : Change)
+    → outcome s cpu (call_of command) ≡ Ok (done words change)
     → IsTrue (takes_memory change) → IsTrue (makes_table command.function)
 done_makes s cpu command words change is takes =
     let tells = outcome-tells command s cpu (Ok (done words change)) is in
@@ -53,7 +54,8 @@ table_level s rd level number sound there =
     (sound.tables.owned rd level number found.0 found.1).2.last
 
 -- and a stretch lies in one, where its change can be made
-in_table : (s : State) (purpose : StretchUse) (rd level base first last top : ℕ) → IsSound s → CanApply s (stretch_change purpose rd level base first last top) → level ≤ 3
+in_table : (s : State) (purpose : StretchUse) (rd level base first last top : ℕ)
+    → IsSound s → CanApply s (stretch_change purpose rd level base first last top) → level ≤ 3
 in_table s Init rd level base first last top sound can = table_level s rd level (first / 512) sound can.1.0.table
 in_table s (Requested rec ripas) rd level base first last top sound can = table_level s rd level (first / 512) sound can.1.0.table
 

@@ -1,5 +1,5 @@
 -- Each granule is given to the one realm to which the state ties it, and each that is tied is given.
-use Rattle.spec_machine.proofs.Common.{◌≡◌, ◌⊎◌, ℕ, zero, suc, ◌+◌, ◌*◌, ◌/◌, ◌%◌, ◌<◌, ◌≤◌, ◌==◌, Bool, true, false, List, [], ◌∷◌, ◌++◌, length, if◌then◌else◌, IsTrue, is_some, Some, None, Option, RecRecord, State, Tag, Data, Rd, Rec, RecAux, Rtt, Undelegated, Delegated, IsSound, IsTied, IsOwnerOf, ap, arith, eq-eqb, eqb-false, eqb-true, false_from_ne_true, granule_from_tag, inl, inr, is_granule, owner_rows, refl, slice_set, sound_in, state_in, subst, sym, tag-has_tag, ◌∙◌}
+use Rattle.spec_machine.proofs.Common.{◌%◌, ◌*◌, ◌++◌, ◌+◌, ◌/◌, ◌<◌, ◌==◌, ◌∙◌, ◌∷◌, ◌≡◌, ◌≤◌, ◌⊎◌, Bool, Data, Delegated, IsOf, IsOwnerOf, IsShapedIn, IsSound, IsTied, IsTrue, List, None, Option, Rd, Rec, RecAux, RecRecord, Rtt, Some, State, Tag, Undelegated, [], ap, arith, count_of, eq-eqb, eqb-false, eqb-true, false, false_from_ne_true, flat_state, granule_from_tag, if◌then◌else◌, inl, inr, is_granule, is_some, length, owner_rows, refl, slice_set, sound_in, state_in, subst, suc, sym, tag-has_tag, true, zero, ℕ}
 use Rattle.std.proofs.Common.{Bor}
 use Rattle.std.specs.Option.{option_copied}
 use Rattle.std.specs.Prelude.{slice_get}
@@ -11,21 +11,21 @@ use Rattle.rmm_spec.specs.declared.entry.Entry.{Entry}
 use Rattle.rmm_spec.specs.declared.entry.Entry.TheVariants.{Assigned}
 use Rattle.rmm_spec.specs.declared.tag.Ripas.{Ripas}
 use Rattle.rmm_spec.specs.Cell.{put}
-use Rattle.rmm_spec.specs.Flat.{flat_state}
 use Rattle.rmm_spec.specs.Table.{TableRecord, place_number}
 use Rattle.rmm_laws.proofs.Ties.{tied-once, tied-tag}
 use Rattle.shape_laws.proofs.Finds.{granule-number, table_granule-holds}
 use Rattle.shape_laws.proofs.Ties.{IsTied-shaped, entry_leaf-some, leaf-found, leaf-parts}
 use Rattle.machine_cells.specs.declared.granules.Granules.{Granules}
-use Rattle.machine_cells.specs.Whole.{cells_of, config_of, count_of, tables_at, whole_of, IsShapedIn}
+use Rattle.machine_cells.specs.Whole.{cells_of, config_of, tables_at, whole_of}
 use Rattle.spec_machine.specs.declared.owner_report.OwnerRow.{OwnerRow}
-use Rattle.spec_machine.specs.Owners.{AreGiven, AreTied, Assigns, CellGives, Gives, IsGivenBelow, IsOf, IsPageOf}
+use Rattle.spec_machine.specs.Owners.{AreGiven, AreTied, Assigns, CellGives, Gives, IsGivenBelow, IsPageOf}
 use Rattle.spec_machine.proofs.Rows.{length-owner_rows, row_of}
 
 -- ---- what is looked up
 
 -- what is found behind a reference is there
-pub found-there : {A : Type 0} (found : Option (Bor A)) (there : Option A) → is_some found ≡ true → option_copied found ≡ there → IsTrue (is_some there)
+pub found-there : {A : Type 0} (found : Option (Bor A)) (there : Option A)
+    → is_some found ≡ true → option_copied found ≡ there → IsTrue (is_some there)
 found-there None there some is = absurd (false≢true some)
 found-there (Some x) there some is = ap is_some (sym is)
 
@@ -42,7 +42,8 @@ gives-none s first Given rows none before owner size tied at = record {
 }
 
 -- one after the other
-pub gives-both : (s : State) (first : ℕ) (A B C : ℕ → Type 0) (old between new : List OwnerRow) → Gives s first A old between → Gives s first B between new
+pub gives-both : (s : State) (first : ℕ) (A B C : ℕ → Type 0) (old between new : List OwnerRow)
+    → Gives s first A old between → Gives s first B between new
     → ((x : ℕ) → C x → A x ⊎ B x) → Gives s first C old new
 gives-both s first A B C old between new one other either before owner size tied at =
     let a = one before owner size tied at in
@@ -56,7 +57,8 @@ gives-both s first A B C old between new one other either before owner size tied
     }
 
 -- the same granules by another name
-pub gives-same : (s : State) (first : ℕ) (A B : ℕ → Type 0) (old new : List OwnerRow) → Gives s first A old new → ((x : ℕ) → B x → A x) → Gives s first B old new
+pub gives-same : (s : State) (first : ℕ) (A B : ℕ → Type 0) (old new : List OwnerRow)
+    → Gives s first A old new → ((x : ℕ) → B x → A x) → Gives s first B old new
 gives-same s first A B old new gives to before owner size tied at =
     let a = gives before owner size tied at in
     record { next = a.next; are_tied = a.are_tied; are_rows = a.are_rows; kept = a.kept; given = λ x g. a.given x (to x g) }
@@ -78,7 +80,8 @@ owner_rows-before s owner k (suc n) given before =
 
 -- a granule's owner is written in its row
 pub owner_rows-put : (s : State) (owner : ℕ → Option ℕ) (k n : ℕ) (given : Option ℕ) → k < n
-    → slice_set (owner_rows s owner n) k (record { granule = k * 4096; tag = s.tag (k * 4096); realm = given }) ≡ owner_rows s (put owner (k * 4096) given) n
+    → slice_set (owner_rows s owner n) k (record { granule = k * 4096; tag = s.tag (k * 4096); realm = given })
+    ≡ owner_rows s (put owner (k * 4096) given) n
 unfolding owner_rows
 owner_rows-put s owner k zero given within = absurd (omega (arith, within))
 owner_rows-put s owner k (suc n) given within = by (λ below. owner_rows-put s owner k n given below) (n == k) refl
@@ -87,13 +90,15 @@ owner_rows-put s owner k (suc n) given within = by (λ below. owner_rows-put s o
     row = record { granule = k * 4096; tag = s.tag (k * 4096); realm = given }
 
     by : (k < n → slice_set (owner_rows s owner n) k row ≡ owner_rows s (put owner (k * 4096) given) n) → (b : Bool) → (n == k) ≡ b
-        → slice_set (owner_rows s owner n ++ row_of s owner n ∷ []) k row ≡ owner_rows s (put owner (k * 4096) given) n ++ row_of s (put owner (k * 4096) given) n ∷ []
+        → slice_set (owner_rows s owner n ++ row_of s owner n ∷ []) k row
+        ≡ owner_rows s (put owner (k * 4096) given) n ++ row_of s (put owner (k * 4096) given) n ∷ []
     by earlier true same =
         let here = eqb-true n k same in
         let last : (n * 4096 == k * 4096) ≡ true = eq-eqb (n * 4096) (k * 4096) (ap (λ m. m * 4096) here) in
         let seam = set-append_seam (owner_rows s owner n) (row_of s owner n) [] row in
         ap (λ m. slice_set (owner_rows s owner n ++ row_of s owner n ∷ []) m row) (sym here ∙ sym (length-owner_rows s owner n)) ∙ seam
-        ∙ ap (λ (r : OwnerRow). owner_rows s owner n ++ r ∷ []) (λ i. record { granule = sym here i * 4096; tag = s.tag (sym here i * 4096); realm = given })
+        ∙ ap (λ (r : OwnerRow). owner_rows s owner n ++ r ∷ [])
+        (λ i. record { granule = sym here i * 4096; tag = s.tag (sym here i * 4096); realm = given })
         ∙ rw (owner_rows-before s owner k n given (omega (arith, here)), last) refl
     by earlier false apart =
         let other : (n * 4096 == k * 4096) ≡ false = apart_numbers n k (eqb-false n k apart) in
@@ -104,7 +109,8 @@ owner_rows-put s owner k (suc n) given within = by (λ below. owner_rows-put s o
 -- ---- a granule is given
 
 -- a granule that gets an owner has one, and the others keep theirs
-pub put-given : (s : State) (before : List OwnerRow) (owner : ℕ → Option ℕ) (granule realm : ℕ) (rows : List OwnerRow) → AreTied s owner → IsOf s granule realm
+pub put-given : (s : State) (before : List OwnerRow) (owner : ℕ → Option ℕ) (granule realm : ℕ) (rows : List OwnerRow)
+    → AreTied s owner → IsOf s granule realm
     → rows ≡ before ++ owner_rows s (put owner granule (Some realm)) s.config.granules → AreGiven s before (λ other. other ≡ granule) owner rows
 put-given s before owner granule realm rows tied of at = record {
   next = put owner granule (Some realm);

@@ -1,5 +1,5 @@
 -- A reply that isn't taken: an end that the test refuses is none that the definitions allow.
-use Rattle.spec_machine.proofs.Common.{◌≡◌, ℕ, true, false, [], ◌∷◌, Ok, CarriesOut, Reaches, State, Stretch, both_ways, is_reached, ok, reached-is_reached, refl, sym, ◌∙◌}
+use Rattle.spec_machine.proofs.Common.{◌∙◌, ◌∷◌, ◌≡◌, CarriesOut, Ok, Reaches, State, Stretch, [], both_ways, false, is_reached, ok, reached-is_reached, refl, sym, true, ℕ}
 use Rattle.std.specs.Prelude.{Result}
 use Rattle.rmm_spec.specs.declared.accepted.Accepted.{Accepted}
 use Rattle.rmm_spec.specs.declared.refusal.Refusal.{Refusal}

@@ -1,5 +1,5 @@
 -- A report has a row for each granule.
-use Rattle.spec_machine.proofs.Common.{◌≡◌, ℕ, zero, suc, ◌+◌, ◌*◌, ◌<◌, ◌==◌, Bool, true, false, List, [], ◌∷◌, ◌++◌, length, slice_index_or, Option, State, ap, append_assoc, arith, refl, sym, subst, ◌∙◌, eqb-true, eqb-false, owner_rows}
+use Rattle.spec_machine.proofs.Common.{◌*◌, ◌++◌, ◌+◌, ◌<◌, ◌==◌, ◌∙◌, ◌∷◌, ◌≡◌, Bool, List, Option, State, [], ap, append_assoc, arith, eqb-false, eqb-true, false, length, owner_rows, refl, slice_index_or, subst, suc, sym, true, zero, ℕ}
 use Rattle.std.proofs.lemmas.List.{get_or_append_left, length-append}
 use Rattle.std.proofs.Math.Seq.{get_or-append_seam}
 use Rattle.spec_machine.specs.declared.owner_report.OwnerRow.{OwnerRow}
@@ -25,7 +25,8 @@ length-owner_rows s owner (suc n) =
     omega (arith, both, length-owner_rows s owner n)
 
 -- the row of a granule
-pub get_or-owner_rows : (s : State) (owner : ℕ → Option ℕ) (n k : ℕ) (default : OwnerRow) → k < n → slice_index_or (owner_rows s owner n) k default ≡ row_of s owner k
+pub get_or-owner_rows : (s : State) (owner : ℕ → Option ℕ) (n k : ℕ) (default : OwnerRow)
+    → k < n → slice_index_or (owner_rows s owner n) k default ≡ row_of s owner k
 unfolding owner_rows
 get_or-owner_rows s owner zero k default within = absurd (omega (arith, within))
 get_or-owner_rows s owner (suc n) k default within = by (λ below. get_or-owner_rows s owner n k default below) (n == k) refl

@@ -14,5 +14,6 @@ use Rattle.spec_machine.specs.declared.lending.Lending.{Lending}
 abbrev pub lending_outcome : State → ℕ → Lending → Result Accepted Refusal
 lending_outcome s cpu lending =
     if not (is_inside s cpu)
-    then decided (input GranState (has_tag s lending.granule lending.from) ∷ []) (done [] (Retagged (record { granule = lending.granule; tag = lending.to })))
+    then decided (input GranState (has_tag s lending.granule lending.from) ∷ [])
+    (done [] (Retagged (record { granule = lending.granule; tag = lending.to })))
     else Err (Misplaced OwnOutside)

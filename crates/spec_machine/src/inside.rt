@@ -39,7 +39,8 @@ impl Machine {
         requires inside { IsTrue (is_inside (state_of self.old) cpu) }
         requires at { address ≡ rec_inside (state_of self.old) cpu }
         requires call { call.now ≡ call_of (command_seen command) }
-        ensures { TakesReply (outcome (state_of self.old) cpu (call_of (command_seen command.entry))) (state_of self.old) (reply_seen reply.entry) result (state_of self.new) }
+        ensures { TakesReply (outcome (state_of self.old) cpu (call_of (command_seen command.entry)))
+            (state_of self.old) (reply_seen reply.entry) result (state_of self.new) }
     {
         let Call::MeasurementExtend {
             index,
@@ -79,7 +80,8 @@ impl Machine {
         requires inside { IsTrue (is_inside (state_of self.old) cpu) }
         requires at { address ≡ rec_inside (state_of self.old) cpu }
         requires call { call.now ≡ call_of (command_seen command) }
-        ensures { TakesReply (outcome (state_of self.old) cpu (call_of (command_seen command.entry))) (state_of self.old) (reply_seen reply.entry) result (state_of self.new) }
+        ensures { TakesReply (outcome (state_of self.old) cpu (call_of (command_seen command.entry)))
+            (state_of self.old) (reply_seen reply.entry) result (state_of self.new) }
     {
         let rec = self.rec_here(cpu, address);
         let rd = owner(rec);

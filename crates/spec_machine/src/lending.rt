@@ -26,7 +26,8 @@ pub(crate) struct Lending {
 /// What a command lends or takes back, where it is one of those two.
 #[tactic(auto, unfolding(rmm_spec::specs::Call::call_from, rmm_spec::specs::Call::class_of, rmm_spec::specs::Step::outcome, rmm_spec::specs::Step::answer_of, rmm_spec::specs::Step::Granule::granule_delegate, rmm_spec::specs::Step::Granule::granule_undelegate, rmm_spec::specs::Step::Terms::words_of, rmm_spec::specs::Step::Terms::named))]
 pub(crate) fn lending_of(command: CommandRef<'_>) -> Option<Lending>
-    ensures means { IfSome result (λ lending. (s : State) (cpu : ℕ) → outcome s cpu (call_of (command_seen command.entry)) ≡ lending_outcome s cpu lending) }
+    ensures means { IfSome result (λ lending. (s : State) (cpu : ℕ)
+        → outcome s cpu (call_of (command_seen command.entry)) ≡ lending_outcome s cpu lending) }
     ensures can { IfSome result (λ lending. (s : State) → IsTrue (has_tag s lending.granule lending.from)
         → CanRetag s (record { granule = lending.granule; tag = lending.to })) }
 {
@@ -60,7 +61,8 @@ impl Machine {
     pub(crate) fn lend(&mut self, cpu: u8, lending: Lending, reply: ReplyRef<'_>) -> bool
         requires { IsTrue (has_tag (state_of self.old) lending.granule lending.from)
             → CanRetag (state_of self.old) (record { granule = lending.granule; tag = lending.to }) }
-        ensures { TakesReply (lending_outcome (state_of self.old) cpu lending) (state_of self.old) (reply_seen reply.entry) result (state_of self.new) }
+        ensures { TakesReply (lending_outcome (state_of self.old) cpu lending)
+            (state_of self.old) (reply_seen reply.entry) result (state_of self.new) }
     {
         if self.rec_inside(cpu).is_some() {
             return matches!(reply, ReplyRef::Misplaced);

@@ -13,8 +13,8 @@ pub struct EntryRead {
     pub ripas: u64,
 }
 
-/// What a condition read: a word of the command that isn't as it has to be, or one fact of the state. Addresses are in bytes; `rd` and `rec` are those of a
-/// realm's descriptor and of a REC.
+/// What a condition read: a word of the command that isn't as it has to be, or one fact of the state. Addresses are in bytes; `rd` and `rec` are
+/// those of a realm's descriptor and of a REC.
 #[derive(Clone, Copy)]
 pub enum Fact {
     /// Nothing: what it is about isn't there.

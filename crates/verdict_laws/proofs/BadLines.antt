@@ -19,7 +19,8 @@ first_lines-first_lines (suc m) (suc k) (byte ∷ text) below =
     ap (λ bytes. byte ∷ bytes) (first_lines-byte (byte == 10) m k text (omega (arith, below)) (λ i j. first_lines-first_lines i j text))
 
 -- a bad line is one of the first lines that it is among
-IsBadLine-first_lines : (Grammar : List ℕ → Type 0) (text : List ℕ) (n k : ℕ) → n ≤ k → IsBadLine Grammar text n → IsBadLine Grammar (first_lines k text) n
+IsBadLine-first_lines : (Grammar : List ℕ → Type 0) (text : List ℕ) (n k : ℕ)
+    → n ≤ k → IsBadLine Grammar text n → IsBadLine Grammar (first_lines k text) n
 IsBadLine-first_lines Grammar text n k among bad = record {
   counted = bad.counted;
   before = λ more. subst Grammar (sym (first_lines-first_lines (n - 1) k text (omega (arith, among)))) (bad.before more);

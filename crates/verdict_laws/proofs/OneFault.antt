@@ -86,7 +86,8 @@ not-FailsAt-below : (history : History) → HasOnePlaces history.events → (why
     → (fault : FailsAt history lines step why) → fault.index < count → Passes history (take count lines) last → ⊥
 not-FailsAt-below history one why lines step count last fault below passes =
     let front : take fault.index lines ≡ take fault.index (take count lines) = sym (take-front fault.index count lines below) in
-    not-FailsBy history one why (take count lines) fault.index fault.line fault.old last (slice_get-front count lines fault.index fault.line below fault.is_line)
+    not-FailsBy history one why (take count lines) fault.index fault.line fault.old last
+    (slice_get-front count lines fault.index fault.line below fault.is_line)
     (subst (λ (ls : List Line). Passes history ls fault.old) front fault.before)
     (subst (λ (ls : List Line). FailsBy why history.events ls fault.old fault.line) front fault.fails) passes
 

@@ -43,7 +43,8 @@ called_missing : (events : List Event) (lines : List Line) (place cpu number : �
     → Decided (IsFinished events cpu number) → Decided (IsNamed lines cpu number) → Decided (IsMissingAt events lines place)
 called_missing events lines place cpu number command is_called finished named =
     decided_as
-    (λ (both : IsFinished events cpu number × (¬ IsNamed lines cpu number)). record { cpu = cpu; number = number; command = command; is_called = is_called; finished = both.0; unnamed = both.1 })
+    (λ (both : IsFinished events cpu number × (¬ IsNamed lines cpu number)).
+    record { cpu = cpu; number = number; command = command; is_called = is_called; finished = both.0; unnamed = both.1 })
     (λ (missing : IsMissingAt events lines place).
     let both : Some (Called missing.cpu missing.number missing.command) ≡ Some (Called cpu number command) = sym missing.is_called ∙ is_called in
     let same_cpu : missing.cpu ≡ cpu = cc in
@@ -61,7 +62,8 @@ module _ (history : History) (is_history : IsHistory history) (lines : List Line
       inr (λ missing.
       let both : Some (Returned cpu number given) ≡ Some (Called missing.cpu missing.number missing.command) = sym is ∙ missing.is_called in cc)
   missing_by_event place (Some (Called cpu number command)) is =
-      called_missing history.events lines place cpu number command is (decided_finished history is_history cpu number) (decided_named lines cpu number)
+      called_missing history.events lines place cpu number command is
+      (decided_finished history is_history cpu number) (decided_named lines cpu number)
 
   -- the first lines pass, or an earlier one fails
   abbrev PassOrFault : ℕ → Type 0
@@ -72,7 +74,8 @@ module _ (history : History) (is_history : IsHistory history) (lines : List Line
       → IsJudged history is_history (take count lines) old line → PassOrFault (suc count)
   pass_or_fault-next count old line is_line passes (inl next) =
       let one_more : count + 1 ≡ suc count = omega arith in
-      let front : take count lines ++ line ∷ [] ≡ take (suc count) lines = sym (take-next_at lines count line is_line) ∙ ap (λ (n : ℕ). take n lines) one_more in
+      let front : take count lines ++ line ∷ [] ≡ take (suc count) lines =
+      sym (take-next_at lines count line is_line) ∙ ap (λ (n : ℕ). take n lines) one_more in
       inl (next.0, subst (λ (ls : List Line). Passes history ls next.0) front next.1)
   pass_or_fault-next count old line is_line passes (inr fault) =
       inr (fault.0, count + 1, FirstFault-from_FailsBy fault.0 history lines count line old is_line passes fault.1)
@@ -90,7 +93,8 @@ module _ (history : History) (is_history : IsHistory history) (lines : List Line
   -- all lines pass: a finished call is missing, or the order is a linearization
   judged_whole : (last : State) → Passes history lines last → (v : Verdict) × JudgesOrder v history lines
   judged_whole last passes =
-      elim (first_below (IsMissingAt history.events lines) (λ place. missing_by_event place (slice_get history.events place) refl) (length history.events)) [
+      elim (first_below (IsMissingAt history.events lines)
+      (λ place. missing_by_event place (slice_get history.events place) refl) (length history.events)) [
         | inl first ↦
             let missing = first.holds in (
               verdict.No (length lines + 1) (reason.Missing missing.cpu missing.number),

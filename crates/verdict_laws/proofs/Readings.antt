@@ -132,7 +132,8 @@ read_config parts = record { granules = read_decimal (part parts 1); cpus = read
 -- a configuration is read back from its parts
 pub read_config-config_parts : (config : Config) → read_config (config_parts config) ≡ config
 unfolding read_config
-read_config-config_parts config = λ i. record { granules = read_decimal-decimal config.granules i; cpus = read_decimal-decimal config.cpus i; version = read_mark-mark config.version i }
+read_config-config_parts config = λ i.
+    record { granules = read_decimal-decimal config.granules i; cpus = read_decimal-decimal config.cpus i; version = read_mark-mark config.version i }
 
 -- the event of a line, by its first byte
 pub read_event : List (List ℕ) → Event

@@ -1,34 +1,23 @@
 -- Where the table is held at which a whole's walk ends, the held cells tell that it ends there: so what a command keeps to its
 -- commit settles it.
-use Rattle.std.proofs.Common.{◌≡◌, ℕ, zero, suc, ◌-◌, ◌/◌, ◌%◌, ◌<◌, ◌≤◌, Bool, true, false, not, ◌&&◌, ◌||◌, ◌==◌, List, ◌∷◌, [], Option, Some, None, ◌⊎◌, inl, inr, refl, sym, ap, ◌∙◌, subst, arith, eq-eqb}
-use Rattle.std.specs.Prelude.{IsTrue, is_some}
+use Rattle.walk_laws.proofs.Common.{◌&&◌, ◌-◌, ◌/◌, ◌<◌, ◌==◌, ◌||◌, ◌∙◌, ◌∷◌, ◌≡◌, ◌≤◌, ◌⊎◌, Bool, Call, Config, Entry, HeldCell, IsTrue, List, None, Option, Side, Some, Table, Way, [], and_parts, ap, arith, entry_at, entry_for, entry_number, false, false≢true, flat_state, inl, inr, is_held, is_some, is_table, is_walk_held, named, not, not-true, reach, reach-le, refl, seen_state, subst, suc, sym, table_behind, table_held, table_number, table_number-entry, table_placed, tables_of, true, way_of, ℕ}
+use Rattle.std.proofs.Common.{zero, ◌%◌, eq-eqb}
 use Rattle.std.specs.List.{AllByRecursion, list_all}
 use Rattle.std.specs.Option.{option_and_then}
-use Rattle.std.proofs.lemmas.Bool.{false≢true, cases_order, and_from, and_parts, not-true, or_right}
+use Rattle.std.proofs.lemmas.Bool.{cases_order, and_from, or_right}
 use Rattle.std.proofs.lemmas.Bool.Decides.{nat_tests}
 use Rattle.std.proofs.lemmas.Option.{none-some}
-use Rattle.rmm_spec.specs.HistoryText.{Config}
-use Rattle.rmm_spec.specs.declared.call.Call.{Call}
 use Rattle.rmm_spec.specs.declared.call.Call.TheVariants as call
-use Rattle.rmm_spec.specs.declared.entry.Entry.{Entry}
-use Rattle.rmm_spec.specs.declared.entry.Entry.TheVariants.{Table}
 use Rattle.rmm_spec.specs.declared.tag.Tag.TheVariants as tag
 use Rattle.rmm_spec.specs.Lookup.{tag_number}
 use Rattle.rmm_spec.specs.Rows.{Needed}
-use Rattle.rmm_spec.specs.Step.Terms.{named, Terms, OfWalk, terms_of, names_in, walk_in}
-use Rattle.rmm_spec.specs.Walk.{is_table, entry_at, entry_for, entry_number, table_number, reach}
-use Rattle.rmm_spec.specs.Cell.{tables_of}
-use Rattle.rmm_spec.specs.Flat.{flat_state}
-use Rattle.rmm_spec.specs.Shape.{Side}
-use Rattle.rmm_spec.specs.Local.{HeldCell}
-use Rattle.spec_lemmas.proofs.WalkLaws.{table_number-suc, reach-le, reach-covers, reach-deepest}
+use Rattle.rmm_spec.specs.Step.Terms.{Terms, OfWalk, terms_of, names_in, walk_in}
+use Rattle.spec_lemmas.proofs.WalkLaws.{table_number-suc, reach-covers, reach-deepest}
 use Rattle.rmm_sound.proofs.Cases.{nothing_there}
 use Rattle.rmm_sound.proofs.Entries.{entry-link, link_there}
-use Rattle.rmm_sound.proofs.Walked.{table_number-entry}
 use Rattle.shape_laws.proofs.Finds.{table_granule-holds}
-use Rattle.walk_laws.specs.Held.{is_held}
-use Rattle.walk_laws.specs.SeenState.{is_of_realm, table_behind, table_held, table_placed, entry_in, entry_held, link_of, linked_or, table_seen, seen_state}
-use Rattle.walk_laws.specs.Walking.{Way, way_of, keeps_realm, part_below, is_walk_held, end_entry, is_part_held, is_told, are_told, is_refused_early, seen_answer, is_way_settled, is_walk_settled, is_kept}
+use Rattle.walk_laws.specs.SeenState.{is_of_realm, entry_in, entry_held, link_of, linked_or, table_seen}
+use Rattle.walk_laws.specs.Walking.{keeps_realm, part_below, end_entry, is_part_held, is_told, are_told, is_refused_early, seen_answer, is_way_settled, is_walk_settled, is_kept}
 use Rattle.walk_laws.proofs.Found.{placed-holds, behind-some}
 use Rattle.walk_laws.proofs.Seen.{walk-end, held-placed}
 use Rattle.walk_laws.proofs.Tables.{placed-found, entry-there, entry-same}
@@ -37,7 +26,8 @@ use Rattle.walk_laws.proofs.Wholes.{Whole, state, sound, held-contains, table-is
 -- ---- tables that are told of
 
 -- below a first level, by the entry above
-seen-below : (held : List HeldCell) (rd up number : ℕ) → table_seen held rd (suc up) number ≡ linked_or (entry_held held rd up number) (table_placed held rd (suc up) number)
+seen-below : (held : List HeldCell) (rd up number : ℕ)
+    → table_seen held rd (suc up) number ≡ linked_or (entry_held held rd up number) (table_placed held rd (suc up) number)
 unfolding table_seen
 seen-below held rd up number =
     let below : (suc up == 0) ≡ false = grind (arith, nat_tests) in
@@ -50,7 +40,8 @@ unfolding table_seen
 seen-first held rd number = refl
 
 -- what isn't placed has no entries
-unplaced-entry : (held : List HeldCell) (rd level number : ℕ) → table_placed held rd level (number / 512) ≡ None → entry_held held rd level number ≡ None
+unplaced-entry : (held : List HeldCell) (rd level number : ℕ)
+    → table_placed held rd level (number / 512) ≡ None → entry_held held rd level number ≡ None
 unfolding entry_held
 unplaced-entry held rd level number none = ap (option_and_then (λ (granule : ℕ). entry_in (number % 512) (table_held held granule))) none
 
@@ -83,7 +74,8 @@ record IsEnd (config : Config) (side : Side) (held : List HeldCell) (w : Whole c
   has : IsTrue (is_held g held)
 
 -- the end is found among the held tables
-end-placed : {config : Config} {side : Side} {held : List HeldCell} (w : Whole config side held) (rd ipa max level g : ℕ) → IsEnd config side held w rd ipa max level g
+end-placed : {config : Config} {side : Side} {held : List HeldCell} (w : Whole config side held) (rd ipa max level g : ℕ)
+    → IsEnd config side held w rd ipa max level g
     → (f : ℕ) × (table_placed held rd level (table_number level ipa) ≡ Some f)
 unfolding flat_state
 end-placed {config} {side} {held} w rd ipa max level g end =
@@ -91,7 +83,8 @@ end-placed {config} {side} {held} w rd ipa max level g end =
     (table_granule-holds config.granules (tables_of w.cells) rd level (table_number level ipa) g end.found)
 
 -- nothing is told of below
-none-deeper : {config : Config} {side : Side} {held : List HeldCell} (w : Whole config side held) (rd ipa max level g : ℕ) → IsEnd config side held w rd ipa max level g
+none-deeper : {config : Config} {side : Side} {held : List HeldCell} (w : Whole config side held) (rd ipa max level g : ℕ)
+    → IsEnd config side held w rd ipa max level g
     → (up : ℕ) → level ≤ up → suc up ≤ max → table_seen held rd (suc up) (table_number (suc up) ipa) ≡ None
 none-deeper {config} {side} {held} w rd ipa max level g end up under within =
     seen-below held rd up (table_number (suc up) ipa)
@@ -109,7 +102,8 @@ none-deeper {config} {side} {held} w rd ipa max level g end up under within =
     none : (state w).table rd (suc up) (table_number (suc up) ipa) ≡ None
     none = deepest (suc up) (omega (arith, under)) within
 
-    unlinked : (f : ℕ) → table_placed held rd up (table_number (suc up) ipa / 512) ≡ Some f → (o : Option ℕ) → table_placed held rd (suc up) (table_number (suc up) ipa) ≡ o
+    unlinked : (f : ℕ) → table_placed held rd up (table_number (suc up) ipa / 512) ≡ Some f → (o : Option ℕ)
+        → table_placed held rd (suc up) (table_number (suc up) ipa) ≡ o
         → linked_or (entry_held held rd up (table_number (suc up) ipa)) o ≡ None
     unlinked f placed o is =
         let e = entry-there w f rd up (table_number (suc up) ipa) placed in
@@ -124,38 +118,44 @@ none-deeper {config} {side} {held} w rd ipa max level g end up under within =
         of_leaf (Some child) link leaf =
             absurd (false≢true (sym leaf ∙ link-of_table (entry-there w f rd up (table_number (suc up) ipa) placed).entry child link))
 
-    by : (o : Option ℕ) → table_placed held rd (suc up) (table_number (suc up) ipa) ≡ o → (p : Option ℕ) → table_placed held rd up (table_number (suc up) ipa / 512) ≡ p
+    by : (o : Option ℕ) → table_placed held rd (suc up) (table_number (suc up) ipa) ≡ o → (p : Option ℕ)
+        → table_placed held rd up (table_number (suc up) ipa / 512) ≡ p
         → linked_or (entry_held held rd up (table_number (suc up) ipa)) o ≡ None
     by (Some f) is p placed = nothing_there none (placed-found w rd (suc up) (table_number (suc up) ipa) f is)
     by None is None placed = ap (λ x. linked_or x None) (unplaced-entry held rd up (table_number (suc up) ipa) placed)
     by None is (Some f) placed = unlinked f placed None is
 
 -- the end itself is told of
-end-seen : {config : Config} {side : Side} {held : List HeldCell} (w : Whole config side held) (rd ipa max g : ℕ) (level : ℕ) → IsEnd config side held w rd ipa max level g
+end-seen : {config : Config} {side : Side} {held : List HeldCell} (w : Whole config side held) (rd ipa max g : ℕ) (level : ℕ)
+    → IsEnd config side held w rd ipa max level g
     → is_some (table_seen held rd level (table_number level ipa)) ≡ true
 end-seen {config} {side} {held} w rd ipa max g zero end =
     ap (λ (o : Option ℕ). is_some o) (seen-first held rd (table_number 0 ipa) ∙ (end-placed w rd ipa max 0 g end).1)
 end-seen {config} {side} {held} w rd ipa max g (suc up) end =
-    ap (λ (o : Option ℕ). is_some o) (seen-below held rd up (table_number (suc up) ipa)) ∙ by (table_placed held rd up (table_number (suc up) ipa / 512)) refl
+    ap (λ (o : Option ℕ). is_some o) (seen-below held rd up (table_number (suc up) ipa))
+    ∙ by (table_placed held rd up (table_number (suc up) ipa / 512)) refl
   where
     placed : (f : ℕ) × (table_placed held rd (suc up) (table_number (suc up) ipa) ≡ Some f)
     placed = end-placed w rd ipa max (suc up) g end
 
     by : (p : Option ℕ) → table_placed held rd up (table_number (suc up) ipa / 512) ≡ p
         → is_some (linked_or (entry_held held rd up (table_number (suc up) ipa)) (table_placed held rd (suc up) (table_number (suc up) ipa))) ≡ true
-    by None is = ap is_some (ap (λ e. linked_or e (table_placed held rd (suc up) (table_number (suc up) ipa))) (unplaced-entry held rd up (table_number (suc up) ipa) is) ∙ placed.1)
+    by None is = ap is_some (ap (λ e. linked_or e (table_placed held rd (suc up) (table_number (suc up) ipa)))
+        (unplaced-entry held rd up (table_number (suc up) ipa) is) ∙ placed.1)
     by (Some f) is =
         let e = entry-there w f rd up (table_number (suc up) ipa) is in
         let link : e.entry ≡ Table g = sym e.whole ∙ entry-link (state w) (sound w) rd up (table_number (suc up) ipa) g end.found in
         ap (λ x. is_some (linked_or x (table_placed held rd (suc up) (table_number (suc up) ipa)))) e.found ∙ ap (λ x. is_some (link_of x)) link
 
 -- the tables of the state that is told of
-seen_table : (config : Config) (held : List HeldCell) (rd level number : ℕ) → (seen_state config held).table rd level number ≡ table_seen held rd level number
+seen_table : (config : Config) (held : List HeldCell) (rd level number : ℕ)
+    → (seen_state config held).table rd level number ≡ table_seen held rd level number
 unfolding seen_state
 seen_table config held rd level number = refl
 
 -- so the walk that the held cells tell of ends there
-end-reached : {config : Config} {side : Side} {held : List HeldCell} (w : Whole config side held) (rd ipa max level g : ℕ) → IsEnd config side held w rd ipa max level g
+end-reached : {config : Config} {side : Side} {held : List HeldCell} (w : Whole config side held) (rd ipa max level g : ℕ)
+    → IsEnd config side held w rd ipa max level g
     → reach (seen_state config held) rd ipa max ≡ level
 end-reached {config} {side} {held} w rd ipa max level g end =
     let t = seen_state config held in
@@ -164,9 +164,11 @@ end-reached {config} {side} {held} w rd ipa max level g end =
     let reached = reach-covers t rd ipa level max there within in
     by (cases_order level (reach t rd ipa max)) reached.0 reached.1
   where
-    by : (level ≡ reach (seen_state config held) rd ipa max) ⊎ ((level < reach (seen_state config held) rd ipa max) ⊎ (reach (seen_state config held) rd ipa max < level))
+    by : (level ≡ reach (seen_state config held) rd ipa max)
+        ⊎ ((level < reach (seen_state config held) rd ipa max) ⊎ (reach (seen_state config held) rd ipa max < level))
         → level ≤ reach (seen_state config held) rd ipa max
-        → is_some ((seen_state config held).table rd (reach (seen_state config held) rd ipa max) (table_number (reach (seen_state config held) rd ipa max) ipa)) ≡ true
+        → is_some ((seen_state config held).table rd (reach (seen_state config held) rd ipa max)
+        (table_number (reach (seen_state config held) rd ipa max) ipa)) ≡ true
         → reach (seen_state config held) rd ipa max ≡ level
     by (inl same) least there = sym same
     by (inr (inr more)) least there = absurd (omega (arith, more, least))
@@ -181,11 +183,12 @@ end-reached {config} {side} {held} w rd ipa max level g end =
 
 -- so the walk is held
 pub end-held : {config : Config} {side : Side} {held : List HeldCell} (w : Whole config side held) (way : Way) (g : ℕ) → way.max ≤ 3
-    → (state w).table way.rd (reach (state w) way.rd way.ipa way.max) (table_number (reach (state w) way.rd way.ipa way.max) way.ipa) ≡ Some g → IsTrue (is_held g held)
-    → is_walk_held config held way ≡ true
+    → (state w).table way.rd (reach (state w) way.rd way.ipa way.max) (table_number (reach (state w) way.rd way.ipa way.max) way.ipa) ≡ Some g
+    → IsTrue (is_held g held) → is_walk_held config held way ≡ true
 unfolding is_walk_held
 end-held {config} {side} {held} w way g last found has =
-    subst (λ l. (is_some (table_placed held way.rd l (table_number l way.ipa)) && (l == way.max || not (is_table (entry_for (seen_state config held) way.rd l way.ipa)))) ≡ true)
+    subst (λ l. (is_some (table_placed held way.rd l (table_number l way.ipa))
+    && (l == way.max || not (is_table (entry_for (seen_state config held) way.rd l way.ipa)))) ≡ true)
     (sym (end-reached w way.rd way.ipa way.max level g end))
     (and_from (is_some (table_placed held way.rd level (table_number level way.ipa)))
     (level == way.max || not (is_table (entry_for (seen_state config held) way.rd level way.ipa)))
@@ -269,14 +272,16 @@ placed-behind held rd level number f placed =
     ap (λ (o : Option ℕ). is_some o) found.1
 
 -- what is kept is told of
-kept-told : (keeps : Bool) (held : List HeldCell) (rd : ℕ) → is_some (table_behind held rd) ≡ true → (names : List Needed) → AllByRecursion (IsWayRealm rd) names
+kept-told : (keeps : Bool) (held : List HeldCell) (rd : ℕ) → is_some (table_behind held rd) ≡ true
+    → (names : List Needed) → AllByRecursion (IsWayRealm rd) names
     → list_all (λ (n : Needed). is_held n.granule held || (not keeps && tag_number n.tag == tag_number tag.Rd)) names ≡ true
     → list_all (is_told keeps held) names ≡ true
 kept-told keeps held rd behind [] realms kept = refl
 kept-told keeps held rd behind (n ∷ names) realms kept =
     let parts = and_parts (is_held n.granule held || (not keeps && tag_number n.tag == tag_number tag.Rd))
     (list_all (λ (m : Needed). is_held m.granule held || (not keeps && tag_number m.tag == tag_number tag.Rd)) names) kept in
-    and_from (is_told keeps held n) (list_all (is_told keeps held) names) (by (is_held n.granule held) parts.0) (kept-told keeps held rd behind names realms.1 parts.1)
+    and_from (is_told keeps held n) (list_all (is_told keeps held) names)
+    (by (is_held n.granule held) parts.0) (kept-told keeps held rd behind names realms.1 parts.1)
   where
     by : (b : Bool) → (b || (not keeps && tag_number n.tag == tag_number tag.Rd)) ≡ true
         → (b || (not keeps && tag_number n.tag == tag_number tag.Rd && is_some (table_behind held n.granule))) ≡ true
@@ -287,8 +292,10 @@ kept-told keeps held rd behind (n ∷ names) realms kept =
         (subst (λ x. is_some (table_behind held x) ≡ true) (sym (realms.0 own.1)) behind)
 
 -- what a command keeps to its commit settles it
-pub kept-settled : {config : Config} {side : Side} {held : List HeldCell} (w : Whole config side held) (c : Call) (way : Way) (g : ℕ) → way_of c ≡ Some way → way.max ≤ 3
-    → (state w).table way.rd (reach (state w) way.rd way.ipa way.max) (table_number (reach (state w) way.rd way.ipa way.max) way.ipa) ≡ Some g → IsTrue (is_held g held)
+pub kept-settled : {config : Config} {side : Side} {held : List HeldCell} (w : Whole config side held) (c : Call) (way : Way) (g : ℕ)
+    → way_of c ≡ Some way → way.max ≤ 3
+    → (state w).table way.rd (reach (state w) way.rd way.ipa way.max) (table_number (reach (state w) way.rd way.ipa way.max) way.ipa) ≡ Some g
+    → IsTrue (is_held g held)
     → is_kept c held ≡ true → is_part_held (part_below c (entry_for (state w) way.rd (reach (state w) way.rd way.ipa way.max) way.ipa)) held ≡ true
     → is_walk_settled config c held ≡ true
 unfolding is_walk_settled are_told is_kept
@@ -302,5 +309,6 @@ kept-settled {config} {side} {held} w c way g walks last found has kept part =
     let settled : is_way_settled config c held (way_of c) ≡ true =
     subst (λ o. is_way_settled config c held o ≡ true) (sym walks)
     (and_from (is_walk_held config held way) (is_part_held (part_below c (end_entry config held way)) held) ends below) in
-    and_from (list_all (is_told (keeps_realm c) held) (named c)) (is_refused_early (seen_answer config c held) || is_way_settled config c held (way_of c)) told
+    and_from (list_all (is_told (keeps_realm c) held) (named c))
+    (is_refused_early (seen_answer config c held) || is_way_settled config c held (way_of c)) told
     (or_right (is_refused_early (seen_answer config c held)) (is_way_settled config c held (way_of c)) settled)

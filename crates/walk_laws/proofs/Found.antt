@@ -1,25 +1,25 @@
 -- Searches: the first granule that is held and passes does pass, and one is found where some that is held passes.
-use Rattle.std.proofs.Common.{◌≡◌, ℕ, zero, suc, ◌<◌, Bool, true, false, ◌||◌, if◌then◌else◌, List, [], ◌∷◌, Option, Some, None, refl, sym, ap, ◌∙◌, arith}
+use Rattle.walk_laws.proofs.Common.{◌<◌, ◌||◌, ◌∙◌, ◌∷◌, ◌≡◌, Bool, HeldCell, HoldsTable, List, None, Option, Some, [], ap, arith, false, false≢true, if◌then◌else◌, refl, suc, sym, table_behind, table_held, table_placed, true, ℕ}
+use Rattle.std.proofs.Common.{zero}
 use Rattle.std.specs.Prelude.{Contains}
 use Rattle.std.specs.List.{fold}
-use Rattle.std.proofs.lemmas.Bool.{false≢true}
 use Rattle.std.proofs.lemmas.List.Folds.{fold_stays}
 use Rattle.std.proofs.lemmas.Option.{none-some, same_Some}
 use Rattle.rmm_spec.specs.Lookup.{any_below}
 use Rattle.rmm_spec.specs.Table.{TableRecord, place_number}
 use Rattle.rmm_spec.specs.Flat.{is_table_of}
-use Rattle.rmm_spec.specs.Shape.{HoldsTable}
-use Rattle.rmm_spec.specs.Local.{HeldCell, granules_held}
+use Rattle.rmm_spec.specs.Local.{granules_held}
 use Rattle.rmm_sound.proofs.Cases.{spot_hit}
 use Rattle.spec_lemmas.proofs.Members.{Contains-nil, Contains-other}
-use Rattle.walk_laws.specs.SeenState.{found_or, table_held, is_of_realm, table_behind, table_placed}
+use Rattle.walk_laws.specs.SeenState.{found_or, is_of_realm}
 
 -- what is found passes
 found-passes : (p : ℕ → Bool) (gs : List ℕ) (g : ℕ) → fold (found_or p) None gs ≡ Some g → p g ≡ true
 found-passes p [] g is = absurd (none-some g is)
 found-passes p (h ∷ gs) g is = by (p h) refl (found-passes p gs g) is
   where
-    by : (b : Bool) → p h ≡ b → (fold (found_or p) None gs ≡ Some g → p g ≡ true) → fold (found_or p) (if b then Some h else None) gs ≡ Some g → p g ≡ true
+    by : (b : Bool) → p h ≡ b → (fold (found_or p) None gs ≡ Some g → p g ≡ true)
+        → fold (found_or p) (if b then Some h else None) gs ≡ Some g → p g ≡ true
     by true passes rest found =
         let same = same_Some h g (sym (fold_stays (found_or p) (Some h) (λ x. refl) gs) ∙ found) in
         ap p (sym same) ∙ passes
@@ -38,7 +38,8 @@ found-some p (h ∷ gs) g has passes = by (p h) refl (λ there. found-some p gs 
 -- ---- tables
 
 -- a granule that passes holds the table of that place
-pub HoldsTable-test : (tables : ℕ → Option TableRecord) (g rd level number : ℕ) → is_table_of rd level number (tables g) ≡ true → HoldsTable tables g rd level number
+pub HoldsTable-test : (tables : ℕ → Option TableRecord) (g rd level number : ℕ)
+    → is_table_of rd level number (tables g) ≡ true → HoldsTable tables g rd level number
 HoldsTable-test tables g rd level number passes = by (tables g) refl passes
   where
     by : (o : Option TableRecord) → tables g ≡ o → is_table_of rd level number o ≡ true → HoldsTable tables g rd level number
@@ -48,14 +49,16 @@ HoldsTable-test tables g rd level number passes = by (tables g) refl passes
         (λ here at first. record { table = t; is_held = is; is_realm = here; is_level = at; is_number = first })
 
 -- the table that is found at a place is of that place
-pub placed-holds : (held : List HeldCell) (rd level number g : ℕ) → table_placed held rd level number ≡ Some g → HoldsTable (table_held held) g rd level number
+pub placed-holds : (held : List HeldCell) (rd level number g : ℕ)
+    → table_placed held rd level number ≡ Some g → HoldsTable (table_held held) g rd level number
 unfolding table_placed
 placed-holds held rd level number g is =
     HoldsTable-test (table_held held) g rd level number
     (found-passes (λ granule. is_table_of rd level number (table_held held granule)) (granules_held held) g is)
 
 -- where a held table is of the place, one is found
-pub placed-some : (held : List HeldCell) (rd level number g : ℕ) → Contains (granules_held held) g → is_table_of rd level number (table_held held g) ≡ true
+pub placed-some : (held : List HeldCell) (rd level number g : ℕ)
+    → Contains (granules_held held) g → is_table_of rd level number (table_held held g) ≡ true
     → (f : ℕ) × (table_placed held rd level number ≡ Some f)
 unfolding table_placed
 placed-some held rd level number g has passes =

@@ -1,3 +1,4 @@
+pub mod Common
 pub mod Wholes
 pub mod Found
 pub mod Tables

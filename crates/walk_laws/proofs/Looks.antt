@@ -1,12 +1,11 @@
 -- Two states that agree on what the rows of a command look up answer it alike; and where they agree on all but tables, one refuses
 -- before the walk what the other does.
-use Rattle.std.proofs.Common.{◌≡◌, ℕ, zero, suc, ◌-◌, Bool, true, false, ◌&&◌, ◌==◌, if◌then◌else◌, List, [], ◌∷◌, Option, Some, None, Result, Ok, Err, nat_lt, refl, sym, ap, ◌∙◌}
-use Rattle.std.specs.Prelude.{is_some, unwrap_or}
+use Rattle.walk_laws.proofs.Common.{◌&&◌, ◌-◌, ◌==◌, ◌∙◌, ◌∷◌, ◌≡◌, Bool, Call, List, None, Option, Some, State, Way, [], and_parts, ap, entry_at, entry_for, false, false≢true, if◌then◌else◌, is_some, is_table, named, reach, realm_at, refl, suc, sym, table_number, true, way_of, ℕ}
+use Rattle.std.proofs.Common.{zero, Result, Ok, Err, nat_lt}
+use Rattle.std.specs.Prelude.{unwrap_or}
 use Rattle.std.specs.List.{AllByRecursion, list_all}
-use Rattle.std.proofs.lemmas.Bool.{false≢true, and_parts}
 use Rattle.std.proofs.lemmas.Option.{none-some}
 use Rattle.rmm_spec.specs.declared.accepted.Accepted.{Accepted}
-use Rattle.rmm_spec.specs.declared.call.Call.{Call}
 use Rattle.rmm_spec.specs.declared.call.Call.TheVariants as call
 use Rattle.rmm_spec.specs.declared.call.Removal.{Removal}
 use Rattle.rmm_spec.specs.declared.call.Removal.TheVariants.{Destroy, Fold}
@@ -17,18 +16,17 @@ use Rattle.rmm_spec.specs.declared.tag.Ripas.{Ripas}
 use Rattle.rmm_spec.specs.declared.tag.Ripas.TheVariants.{Destroyed}
 use Rattle.rmm_spec.specs.declared.tag.Tag.{Tag}
 use Rattle.rmm_spec.specs.declared.tag.Tag.TheVariants as tag
-use Rattle.rmm_spec.specs.State.{State}
-use Rattle.rmm_spec.specs.Lookup.{has_tag, realm_at, rec_at, is_vmid_used, has_rec, rec_inside}
+use Rattle.rmm_spec.specs.Lookup.{has_tag, rec_at, is_vmid_used, has_rec, rec_inside}
 use Rattle.rmm_spec.specs.Rows.{Row, Needed, decided, input, done, rtt_row}
-use Rattle.rmm_spec.specs.Walk.{table_number, full, is_table, entry_address, entry_at, entry_for, reach, has_entry}
+use Rattle.rmm_spec.specs.Walk.{full, entry_address, has_entry}
 use Rattle.rmm_spec.specs.Step.{answer_of, commands}
 use Rattle.rmm_spec.specs.Step.Front.{with_front}
-use Rattle.rmm_spec.specs.Step.Terms.{words_of, named}
+use Rattle.rmm_spec.specs.Step.Terms.{words_of}
 use Rattle.rmm_spec.specs.Step.Table.{rtt_remove, entry_after_table, left_condition, ripas_left}
 use Rattle.rmm_spec.specs.Step.RealmCall.{ipa_state_get}
 use Rattle.spec_lemmas.proofs.Behind.{behind}
 use Rattle.walk_laws.specs.Same.{SameSpace, SameWalk}
-use Rattle.walk_laws.specs.Walking.{Way, way, way_of, keeps_realm, is_table_error}
+use Rattle.walk_laws.specs.Walking.{way, keeps_realm, is_table_error}
 
 -- ---- what is looked up
 
@@ -84,7 +82,8 @@ used-same : (s t : State) (removal : Removal) (rd ipa level : ℕ) → SameUse s
     → removed t removal rd ipa level (ripas_left removal s rd level (table_number level ipa)) ≡ rtt_remove t removal rd ipa level
 unfolding rtt_remove words_of named
 used-same s t removal rd ipa level used =
-    by (nat_lt (realm_at t rd).start_level level) refl (reach t rd ipa (level - 1) == level - 1) (is_table (entry_for t rd (reach t rd ipa (level - 1)) ipa)) refl refl
+    by (nat_lt (realm_at t rd).start_level level) refl (reach t rd ipa (level - 1) == level - 1)
+    (is_table (entry_for t rd (reach t rd ipa (level - 1)) ipa)) refl refl
   where
     rows : Option Ripas → Result Accepted Refusal
     rows left = removed t removal rd ipa level left
@@ -108,7 +107,8 @@ unfolding answer_of way_of keeps_realm named words_of commands
 answer-same s t cpu (call.RttCreate rd rtt ipa level) looks =
     rw (looks.front.names.0.0, looks.front.names.1.0.0, looks.front.space.width, looks.front.space.start, looks.walk.entry, looks.walk.level) refl
 answer-same s t cpu (call.RttRemove removal rd ipa level) looks =
-    rw (looks.front.names.0.0, looks.front.space.width, looks.front.space.start, looks.walk.entry, looks.walk.level) (used-same s t removal rd ipa level looks.used)
+    rw (looks.front.names.0.0, looks.front.space.width, looks.front.space.start, looks.walk.entry, looks.walk.level)
+    (used-same s t removal rd ipa level looks.used)
 answer-same s t cpu (call.RttReadEntry rd ipa level) looks =
     rw (looks.front.names.0.0, looks.front.space.width, looks.front.space.start, looks.walk.entry, looks.walk.level) refl
 answer-same s t cpu (call.DataCreate rd granule ipa source flags digest) looks =
@@ -178,7 +178,8 @@ tables-decided (first ∷ rows) a given all is =
     by false error same rest = ap is_table_error (sym (same_Err first.otherwise given (Err first.otherwise) refl same)) ∙ error
 
 -- and a refusal that is no ERROR_RTT is such a one
-decided-early : (rows : List Row) (a : Accepted) (given : Refusal) → tables_last rows ≡ true → decided rows a ≡ Err given → is_table_error given ≡ false
+decided-early : (rows : List Row) (a : Accepted) (given : Refusal)
+    → tables_last rows ≡ true → decided rows a ≡ Err given → is_table_error given ≡ false
     → early rows ≡ Some given
 decided-early [] a given last is plain = absurd (let bad : Ok a ≡ Err given = is in cc)
 decided-early (first ∷ rows) a given last is plain =
@@ -226,7 +227,8 @@ walk-tables s t w =
     record { level = same; entry = ap (λ l. entry_for t w.rd l w.ipa) same }
 
 -- and leaves the same of a table
-left-tables : (s t : State) (removal : Removal) (rd level number : ℕ) → ripas_left removal (with_tables_of s t) rd level number ≡ ripas_left removal t rd level number
+left-tables : (s t : State) (removal : Removal) (rd level number : ℕ)
+    → ripas_left removal (with_tables_of s t) rd level number ≡ ripas_left removal t rd level number
 unfolding ripas_left has_entry entry_at
 left-tables s t Destroy rd level number = refl
 left-tables s t Fold rd level number = refl

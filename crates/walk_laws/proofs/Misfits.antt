@@ -1,24 +1,20 @@
 -- Cells that a walk meets and no shaped whole has: there is no whole that agrees with them.
-use Rattle.std.proofs.Common.{◌≡◌, ℕ, suc, ◌+◌, ◌*◌, true, not, ◌&&◌, ◌||◌, ◌==◌, List, Option, Some, None, slice_get, inl, inr, refl, sym, ap, ◌∙◌, subst, eq-eqb}
-use Rattle.std.specs.Prelude.{is_some}
+use Rattle.walk_laws.proofs.Common.{◌&&◌, ◌==◌, ◌||◌, ◌∙◌, ◌≡◌, Cell, Config, Entry, HeldCell, HoldsTable, List, None, Option, Side, Some, Table, ap, false≢true, inl, inr, is_some, not, not-true, refl, subst, suc, sym, table_held, tables_of, true, ℕ}
+use Rattle.std.proofs.Common.{◌+◌, ◌*◌, slice_get, eq-eqb}
 use Rattle.std.specs.List.{list_any}
-use Rattle.std.proofs.lemmas.Bool.{false≢true, or_cases, not-true, and_from}
+use Rattle.std.proofs.lemmas.Bool.{or_cases, and_from}
 use Rattle.std.proofs.lemmas.Option.{same_Some}
-use Rattle.rmm_spec.specs.HistoryText.{Config}
-use Rattle.rmm_spec.specs.declared.entry.Entry.{Entry}
-use Rattle.rmm_spec.specs.declared.entry.Entry.TheVariants.{Unassigned, Assigned, Table}
+use Rattle.rmm_spec.specs.declared.entry.Entry.TheVariants.{Unassigned, Assigned}
 use Rattle.rmm_spec.specs.State.{RealmRecord}
 use Rattle.rmm_spec.specs.Lookup.{is_granule}
 use Rattle.rmm_spec.specs.Walk.{table_size}
 use Rattle.rmm_spec.specs.Table.{TableRecord, entry_index, place_number}
-use Rattle.rmm_spec.specs.Cell.{Cell, Undelegated, Delegated, Rd, Rec, RecAux, Data, Rtt, is_data, realm_in, table_in, tables_of, realms_of}
-use Rattle.rmm_spec.specs.Shape.{Side, HoldsTable}
-use Rattle.rmm_spec.specs.Local.{HeldCell, granules_held}
+use Rattle.rmm_spec.specs.Cell.{Undelegated, Delegated, Rd, Rec, RecAux, Data, Rtt, is_data, realm_in, table_in, realms_of}
+use Rattle.rmm_spec.specs.Local.{granules_held}
 use Rattle.spec_lemmas.proofs.Members.{passing_member}
 use Rattle.spec_lemmas.proofs.Placed.{cell_is_granule}
 use Rattle.shape_laws.proofs.Cells.{cell-table}
 use Rattle.walk_laws.specs.Held.{cell_in}
-use Rattle.walk_laws.specs.SeenState.{table_held}
 use Rattle.walk_laws.specs.Misfits.{is_place, is_other_table, is_other_page, is_misfit_part, is_misfit_table, is_misfit_root, is_misfit_walk}
 use Rattle.walk_laws.proofs.Wholes.{Whole, whole_cell, whole_table}
 
@@ -35,7 +31,8 @@ place-from rd level number width t first second third fourth =
 
 -- a table of the whole stands at the place that it is held for, with the width of its realm
 table-place : {config : Config} {side : Side} {held : List HeldCell} (w : Whole config side held) (g rd level number : ℕ) (realm : RealmRecord)
-    → realms_of w.cells rd ≡ Some realm → (holds : HoldsTable (tables_of w.cells) g rd level number) → is_place rd level number realm.width holds.table.place ≡ true
+    → realms_of w.cells rd ≡ Some realm → (holds : HoldsTable (tables_of w.cells) g rd level number)
+    → is_place rd level number realm.width holds.table.place ≡ true
 table-place {config} {side} {held} w g rd level number realm at holds =
     let own = w.shaped.tables.placed g holds.table holds.is_held in
     let one : own.0 ≡ realm = same_Some own.0 realm (sym own.1 ∙ (ap (realms_of w.cells) holds.is_realm ∙ at)) in
@@ -44,7 +41,8 @@ table-place {config} {side} {held} w g rd level number realm at holds =
     place-from rd level number realm.width holds.table holds.is_realm holds.is_level base (own.2.width ∙ ap (λ (r : RealmRecord). r.width) one)
 
 -- what isn't undelegated is at a granule
-granule-there : {config : Config} {side : Side} {held : List HeldCell} (w : Whole config side held) (g : ℕ) → (w.cells g ≡ Undelegated → ⊥) → not (is_granule config.granules g) ≡ true → ⊥
+granule-there : {config : Config} {side : Side} {held : List HeldCell} (w : Whole config side held) (g : ℕ)
+    → (w.cells g ≡ Undelegated → ⊥) → not (is_granule config.granules g) ≡ true → ⊥
 granule-there {config} {side} {held} w g there none =
     false≢true (sym (not-true (is_granule config.granules g) none) ∙ cell_is_granule config side w.places w.cells w.shaped g there)
 
@@ -97,12 +95,15 @@ page-none {config} {side} {held} w page is_one bad =
 -- ---- what a held table names
 
 -- what an entry of the whole names is no misfit
-part-none : {config : Config} {side : Side} {held : List HeldCell} (w : Whole config side held) (g : ℕ) (t : TableRecord) (index : ℕ) (o : Option Entry)
+part-none : {config : Config} {side : Side} {held : List HeldCell}
+    (w : Whole config side held) (g : ℕ) (t : TableRecord) (index : ℕ) (o : Option Entry)
     → tables_of w.cells g ≡ Some t → slice_get t.entries index ≡ o → is_misfit_part config held t index o ≡ true → ⊥
 part-none {config} {side} {held} w g t index (Some (Table child)) at entry bad =
     let own = w.shaped.tables.placed g t at in
-    other-none w child t.place.rd (suc t.place.level) (512 * place_number t.place + index) own.0 own.1 (w.shaped.tables.links g index child t at entry)
-    (subst (λ width. (not (is_granule config.granules child) || is_other_table t.place.rd (suc t.place.level) (512 * place_number t.place + index) width (cell_in child held)) ≡ true)
+    other-none w child t.place.rd (suc t.place.level)
+    (512 * place_number t.place + index) own.0 own.1 (w.shaped.tables.links g index child t at entry)
+    (subst (λ width. (not (is_granule config.granules child)
+    || is_other_table t.place.rd (suc t.place.level) (512 * place_number t.place + index) width (cell_in child held)) ≡ true)
     own.2.width bad)
 part-none {config} {side} {held} w g t index (Some (Assigned ripas page)) at entry bad =
     page-none w page (w.shaped.data_granules.named g index page t ripas at entry) bad
@@ -110,8 +111,8 @@ part-none {config} {side} {held} w g t index (Some (Unassigned ripas)) at entry 
 part-none {config} {side} {held} w g t index _ at entry bad = false≢true bad
 
 -- nor is what a held table names for the address
-table-none : {config : Config} {side : Side} {held : List HeldCell} (w : Whole config side held) (ipa g : ℕ) (o : Option TableRecord) → table_held held g ≡ o
-    → is_misfit_table config held ipa o ≡ true → ⊥
+table-none : {config : Config} {side : Side} {held : List HeldCell} (w : Whole config side held) (ipa g : ℕ) (o : Option TableRecord)
+    → table_held held g ≡ o → is_misfit_table config held ipa o ≡ true → ⊥
 table-none {config} {side} {held} w ipa g None found bad = false≢true bad
 table-none {config} {side} {held} w ipa g (Some t) found bad =
     let index = entry_index t.place.level ipa in
@@ -130,10 +131,12 @@ root-none {config} {side} {held} w rd _ found bad = false≢true bad
 -- ---- walks
 
 -- a walk meets no misfit in a whole
-pub misfit-none : {config : Config} {side : Side} {held : List HeldCell} (w : Whole config side held) (rd ipa : ℕ) → is_misfit_walk config held rd ipa ≡ true → ⊥
+pub misfit-none : {config : Config} {side : Side} {held : List HeldCell} (w : Whole config side held) (rd ipa : ℕ)
+    → is_misfit_walk config held rd ipa ≡ true → ⊥
 unfolding is_misfit_walk
 misfit-none {config} {side} {held} w rd ipa bad =
-    elim (or_cases (is_misfit_root config held rd (cell_in rd held)) (list_any (λ g. is_misfit_table config held ipa (table_held held g)) (granules_held held)) bad) [
+    elim (or_cases (is_misfit_root config held rd (cell_in rd held))
+    (list_any (λ g. is_misfit_table config held ipa (table_held held g)) (granules_held held)) bad) [
       | inl root ↦ root-none w rd (cell_in rd held) refl root
       | inr some ↦ (let at = passing_member (λ g. is_misfit_table config held ipa (table_held held g)) (granules_held held) some in
           table-none w ipa at.1 (table_held held at.1) refl at.3)

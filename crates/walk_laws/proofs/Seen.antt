@@ -1,36 +1,31 @@
 -- What the held cells tell of tags, realms, RECs and walks is what each whole has that agrees with them.
-use Rattle.std.proofs.Common.{◌≡◌, ℕ, ◌+◌, ◌*◌, ◌/◌, ◌≤◌, Bool, true, false, not, ◌&&◌, ◌||◌, ◌==◌, if◌then◌else◌, List, Option, Some, None, ◌⊎◌, inl, inr, refl, sym, ap, ◌∙◌, arith, eqb-true}
-use Rattle.std.specs.Prelude.{IsTrue, is_some, unwrap_or}
+use Rattle.walk_laws.proofs.Common.{◌&&◌, ◌/◌, ◌==◌, ◌||◌, ◌∙◌, ◌≡◌, ◌≤◌, ◌⊎◌, Bool, Cell, Config, HeldCell, HoldsTable, IsTrue, List, None, Option, Side, Some, State, Way, and_parts, ap, arith, entry_at, entry_for, entry_number, false, false≢true, flat_state, if◌then◌else◌, inl, inr, is_held, is_some, is_table, is_walk_held, not, not-true, reach, reach-le, realm_at, refl, seen_state, sym, table_behind, table_held, table_number, table_number-entry, table_placed, tables_of, true, ℕ}
+use Rattle.std.proofs.Common.{◌+◌, ◌*◌, eqb-true}
+use Rattle.std.specs.Prelude.{unwrap_or}
 use Rattle.std.specs.Option.{option_and_then}
-use Rattle.std.proofs.lemmas.Bool.{false≢true, and_parts, or_cases, not-true}
-use Rattle.rmm_spec.specs.HistoryText.{Config}
+use Rattle.std.proofs.lemmas.Bool.{or_cases}
 use Rattle.rmm_spec.specs.declared.call.Removal.{Removal}
 use Rattle.rmm_spec.specs.declared.call.Removal.TheVariants.{Destroy, Fold}
 use Rattle.rmm_spec.specs.declared.entry.EntryTest.{EntryTest}
 use Rattle.rmm_spec.specs.declared.entry.EntryTest.TheVariants.{Live, Unlike}
 use Rattle.rmm_spec.specs.declared.tag.Ripas.TheVariants.{Destroyed}
 use Rattle.rmm_spec.specs.declared.tag.Tag.{Tag}
-use Rattle.rmm_spec.specs.State.{State, RealmRecord}
-use Rattle.rmm_spec.specs.Lookup.{tag_number, is_granule, has_tag, realm_at, rec_at, no_realm, no_rec}
+use Rattle.rmm_spec.specs.State.{RealmRecord}
+use Rattle.rmm_spec.specs.Lookup.{tag_number, is_granule, has_tag, rec_at, no_realm, no_rec}
 use Rattle.rmm_spec.specs.Step.Terms.{is_space}
 use Rattle.rmm_spec.specs.Step.Table.{ripas_left}
 use Rattle.rmm_spec.specs.Table.{TableRecord}
-use Rattle.rmm_spec.specs.Walk.{is_table, passes, entry_at, entry_for, entry_ripas, entry_number, table_number, reach, has_entry}
-use Rattle.rmm_spec.specs.Cell.{Cell, Undelegated, Rd, tag_of, realm_in, rec_in, table_in, tables_of, realms_of}
-use Rattle.rmm_spec.specs.Flat.{flat_state, is_table_of}
-use Rattle.rmm_spec.specs.Shape.{Side, HoldsTable}
-use Rattle.rmm_spec.specs.Local.{HeldCell}
-use Rattle.spec_lemmas.proofs.WalkLaws.{reach-le}
+use Rattle.rmm_spec.specs.Walk.{passes, entry_ripas, has_entry}
+use Rattle.rmm_spec.specs.Cell.{Undelegated, Rd, tag_of, realm_in, rec_in, table_in, realms_of}
+use Rattle.rmm_spec.specs.Flat.{is_table_of}
 use Rattle.rmm_sound.proofs.Entries.{value_there}
 use Rattle.rmm_sound.proofs.Spaces.{space_cases}
-use Rattle.rmm_sound.proofs.Walked.{table_number-entry}
 use Rattle.spec_lemmas.proofs.Placed.{cell_is_granule}
 use Rattle.shape_laws.proofs.Cells.{cell-realm}
 use Rattle.shape_laws.proofs.Finds.{holds-is_table_of}
-use Rattle.walk_laws.specs.Held.{cell_in, is_held}
+use Rattle.walk_laws.specs.Held.{cell_in}
 use Rattle.walk_laws.specs.Same.{SameSpace, SameWalk}
-use Rattle.walk_laws.specs.SeenState.{table_held, is_of_realm, table_behind, start_of, blank_realm, realm_of_width, realm_behind, cell_or, cell_seen, table_placed, seen_state}
-use Rattle.walk_laws.specs.Walking.{Way, is_walk_held}
+use Rattle.walk_laws.specs.SeenState.{is_of_realm, start_of, blank_realm, realm_of_width, realm_behind, cell_or, cell_seen}
 use Rattle.walk_laws.proofs.Found.{behind-table, placed-some, any_below-same}
 use Rattle.walk_laws.proofs.Tables.{placed-found, entry-same, reach-end}
 use Rattle.walk_laws.proofs.Wholes.{Whole, state, sound, whole_cell, whole_table, held-contains}
@@ -38,7 +33,8 @@ use Rattle.walk_laws.proofs.Wholes.{Whole, state, sound, whole_cell, whole_table
 -- ---- granules that are held
 
 -- what is told of a granule that is held is the whole's
-cell-same : {config : Config} {side : Side} {held : List HeldCell} (w : Whole config side held) (g : ℕ) → IsTrue (is_held g held) → w.cells g ≡ cell_seen config held g
+cell-same : {config : Config} {side : Side} {held : List HeldCell} (w : Whole config side held) (g : ℕ)
+    → IsTrue (is_held g held) → w.cells g ≡ cell_seen config held g
 cell-same {config} {side} {held} w g has = by (is_granule config.granules g) refl
   where
     known : (o : Option Cell) → cell_in g held ≡ o → IsTrue (is_some o) → w.cells g ≡ cell_or o (realm_behind held g)
@@ -111,13 +107,14 @@ behind {config} {side} {held} w rd there =
     let g = value_there (table_behind held rd) there in
     by g.0 g.1 (table_held held g.0) refl (behind-table held rd g.0 g.1)
   where
-    by : (g : ℕ) → table_behind held rd ≡ Some g → (o : Option TableRecord) → table_held held g ≡ o → is_of_realm rd o ≡ true → IsBehind config.granules w.cells held rd
+    by : (g : ℕ) → table_behind held rd ≡ Some g → (o : Option TableRecord)
+        → table_held held g ≡ o → is_of_realm rd o ≡ true → IsBehind config.granules w.cells held rd
     by g found None table of_realm = absurd (false≢true of_realm)
     by g found (Some t) table of_realm = realm-there w rd g t found table (eqb-true t.place.rd rd of_realm)
 
 -- where its granule isn't held, the realm that is told of is made up
-behind-seen : (config : Config) (cells : ℕ → Cell) (held : List HeldCell) (rd : ℕ) (b : IsBehind config.granules cells held rd) → is_held rd held ≡ false
-    → cell_seen config held rd ≡ Rd (blank_realm b.realm.width)
+behind-seen : (config : Config) (cells : ℕ → Cell) (held : List HeldCell) (rd : ℕ) (b : IsBehind config.granules cells held rd)
+    → is_held rd held ≡ false → cell_seen config held rd ≡ Rd (blank_realm b.realm.width)
 behind-seen config cells held rd b free = rw (b.is_lock, b.told) (by (cell_in rd held) free)
   where
     by : (o : Option Cell) → is_some o ≡ false → cell_or o (Some (blank_realm b.realm.width)) ≡ Rd (blank_realm b.realm.width)
@@ -173,7 +170,8 @@ unfolding is_walk_held
 walk-end {config} {side} {held} w way is =
     let t = seen_state config held in
     let level = reach t way.rd way.ipa way.max in
-    let parts = and_parts (is_some (table_placed held way.rd level (table_number level way.ipa))) (level == way.max || not (is_table (entry_for t way.rd level way.ipa))) is in
+    let parts = and_parts (is_some (table_placed held way.rd level (table_number level way.ipa)))
+    (level == way.max || not (is_table (entry_for t way.rd level way.ipa))) is in
     let g = value_there (table_placed held way.rd level (table_number level way.ipa)) parts.0 in
     let found = placed-found w way.rd level (table_number level way.ipa) g.0 g.1 in
     let owner = (sound w).tables.owned way.rd level (table_number level way.ipa) g.0 found in
@@ -195,8 +193,8 @@ walk-end {config} {side} {held} w way is =
 -- ---- tables below
 
 -- a table of the whole that is held is found at its place
-pub held-placed : {config : Config} {side : Side} {held : List HeldCell} (w : Whole config side held) (g rd level number : ℕ) → IsTrue (is_held g held)
-    → HoldsTable (tables_of w.cells) g rd level number → (f : ℕ) × (table_placed held rd level number ≡ Some f)
+pub held-placed : {config : Config} {side : Side} {held : List HeldCell} (w : Whole config side held) (g rd level number : ℕ)
+    → IsTrue (is_held g held) → HoldsTable (tables_of w.cells) g rd level number → (f : ℕ) × (table_placed held rd level number ≡ Some f)
 held-placed {config} {side} {held} w g rd level number has holds =
     placed-some held rd level number g (held-contains held g has)
     (ap (is_table_of rd level number) (by (cell_in g held) refl has) ∙ holds-is_table_of (tables_of w.cells) g rd level number holds)
@@ -210,14 +208,16 @@ pub has_entry-same : {config : Config} {side : Side} {held : List HeldCell} (w :
     → table_placed held rd level number ≡ Some g → has_entry (state w) rd level number test ≡ has_entry (seen_state config held) rd level number test
 unfolding has_entry
 has_entry-same {config} {side} {held} w g rd level number test is =
-    any_below-same 512 (λ k. passes test (entry_at (state w) rd level (512 * number + k))) (λ k. passes test (entry_at (seen_state config held) rd level (512 * number + k)))
+    any_below-same 512 (λ k. passes test (entry_at (state w) rd level (512 * number + k)))
+    (λ k. passes test (entry_at (seen_state config held) rd level (512 * number + k)))
     (λ k within.
     let over : (512 * number + k) / 512 ≡ number = omega (arith, within) in
     ap (passes test) (entry-same w g rd level (512 * number + k) (ap (table_placed held rd level) over ∙ is)))
 
 -- so the same is left of it
 pub left-same : {config : Config} {side : Side} {held : List HeldCell} (w : Whole config side held) (removal : Removal) (g rd level number : ℕ)
-    → table_placed held rd level number ≡ Some g → ripas_left removal (state w) rd level number ≡ ripas_left removal (seen_state config held) rd level number
+    → table_placed held rd level number ≡ Some g
+    → ripas_left removal (state w) rd level number ≡ ripas_left removal (seen_state config held) rd level number
 unfolding ripas_left
 left-same {config} {side} {held} w Destroy g rd level number is =
     ap (λ (found : Bool). if found then None else Some Destroyed) (has_entry-same w g rd level number Live is)

@@ -1,45 +1,38 @@
 -- Where what is held settles a command that walks, what is answered is a local step.
-use Rattle.std.proofs.Common.{◌≡◌, ℕ, ◌+◌, ◌*◌, ◌/◌, ◌<◌, ◌≤◌, Bool, true, false, not, ◌&&◌, ◌||◌, if◌then◌else◌, List, [], ◌∷◌, Option, Some, None, Result, Ok, Err, nat_lt, inl, inr, refl, sym, ap, ◌∙◌, subst, arith}
-use Rattle.std.specs.Prelude.{IsTrue, is_some}
-use Rattle.std.proofs.lemmas.Bool.{false≢true, and_parts, or_cases, not-true}
-use Rattle.rmm_spec.specs.HistoryText.{Config}
+use Rattle.walk_laws.proofs.Common.{◌&&◌, ◌/◌, ◌<◌, ◌||◌, ◌∙◌, ◌∷◌, ◌≡◌, ◌≤◌, Bool, Call, Cell, Config, HeldCell, IsTrue, List, None, Option, Side, Some, State, Way, [], and_parts, ap, arith, entry_at, entry_number, false, false≢true, flat_state, if◌then◌else◌, inl, inr, is_held, is_some, is_walk_held, named, not, not-true, reach, reach-le, realm_at, refl, seen_state, subst, sym, table_behind, table_number, table_number-entry, table_placed, true, way_of, ℕ}
+use Rattle.std.proofs.Common.{◌+◌, ◌*◌, Result, Ok, Err, nat_lt}
+use Rattle.std.proofs.lemmas.Bool.{or_cases}
 use Rattle.rmm_spec.specs.declared.accepted.Accepted.{Accepted}
 use Rattle.rmm_spec.specs.declared.accepted.Accepted.TheVariants.{Done, Reaches}
 use Rattle.rmm_spec.specs.declared.accepted.Stretch.{Stretch}
 use Rattle.rmm_spec.specs.declared.accepted.StretchUse.TheVariants.{Init, Requested}
-use Rattle.rmm_spec.specs.declared.call.Call.{Call}
 use Rattle.rmm_spec.specs.declared.call.Call.TheVariants as call
 use Rattle.rmm_spec.specs.declared.change.Change.TheVariants.{Unchanged}
 use Rattle.rmm_spec.specs.declared.command.Command.{Command}
 use Rattle.rmm_spec.specs.declared.refusal.Refusal.{Refusal}
 use Rattle.rmm_spec.specs.declared.condition.Condition.TheVariants.{IpaBound}
 use Rattle.rmm_spec.specs.Call.{ByHost, call_of, class_of}
-use Rattle.rmm_spec.specs.State.{State}
-use Rattle.rmm_spec.specs.Lookup.{realm_at, rec_at, ripas_number}
+use Rattle.rmm_spec.specs.Lookup.{rec_at, ripas_number}
 use Rattle.rmm_spec.specs.Rows.{Row, decided, input, done, reply_of}
-use Rattle.rmm_spec.specs.Walk.{entry_size, table_size, entry_number, table_number, entry_at, reach, walk, half, entry_ripas}
+use Rattle.rmm_spec.specs.Walk.{entry_size, table_size, walk, half, entry_ripas}
 use Rattle.rmm_spec.specs.Step.{answer_by, answer_of, answer_to_host, outcome}
 use Rattle.rmm_spec.specs.Step.Front.{with_front}
-use Rattle.rmm_spec.specs.Step.Terms.{words_of, named, Terms, OfWalk, class_in, terms_of, walk_in}
+use Rattle.rmm_spec.specs.Step.Terms.{words_of, Terms, OfWalk, class_in, terms_of, walk_in}
 use Rattle.rmm_spec.specs.Step.RealmCall.{ipa_state_get}
 use Rattle.rmm_spec.specs.Step.Ripas.{can_be_set, IsReached}
-use Rattle.rmm_spec.specs.Cell.{Cell}
-use Rattle.rmm_spec.specs.Flat.{flat_state}
-use Rattle.rmm_spec.specs.Shape.{Side, CpuPlace, Outside, IsWellShaped}
-use Rattle.rmm_spec.specs.Local.{HeldCell, Hold, Agrees, LocalStep}
+use Rattle.rmm_spec.specs.Shape.{CpuPlace, Outside, IsWellShaped}
+use Rattle.rmm_spec.specs.Local.{Hold, Agrees, LocalStep}
 use Rattle.spec_lemmas.proofs.Behind.{behind}
-use Rattle.spec_lemmas.proofs.WalkLaws.{reach-le, walk_ends_unlinked, first_reached, table_size-entries}
+use Rattle.spec_lemmas.proofs.WalkLaws.{walk_ends_unlinked, first_reached, table_size-entries}
 use Rattle.rmm_sound.proofs.ByRows.{AllHold, decided-accepted}
 use Rattle.rmm_sound.proofs.Entries.{value_there}
 use Rattle.rmm_sound.proofs.Spaces.{entry_size-pos, unscaled_le}
-use Rattle.rmm_sound.proofs.Walked.{entry_starts, table_number-entry, unassigned_kind}
+use Rattle.rmm_sound.proofs.Walked.{entry_starts, unassigned_kind}
 use Rattle.world_laws.proofs.Locals.{unchanged-is_local}
 use Rattle.world_laws.proofs.Refusals.{Step-refused, outcome-host}
-use Rattle.walk_laws.specs.Held.{is_held}
 use Rattle.walk_laws.specs.Same.{SameSpace}
-use Rattle.walk_laws.specs.SeenState.{table_behind, table_placed, seen_state}
 use Rattle.walk_laws.specs.Settled.{IsLocalAnswer}
-use Rattle.walk_laws.specs.Walking.{Way, way, way_of, is_walk_held, are_told, is_table_error, is_refused_early, seen_answer, is_way_settled, is_walk_settled}
+use Rattle.walk_laws.specs.Walking.{way, are_told, is_table_error, is_refused_early, seen_answer, is_way_settled, is_walk_settled}
 use Rattle.walk_laws.proofs.Accepted.{IsSettledBy, settled-by, end-placed, accepted-held}
 use Rattle.walk_laws.proofs.Looks.{ipa_state_get-same}
 use Rattle.walk_laws.proofs.Seen.{rec-same, told-space, walk-end}
@@ -93,14 +86,16 @@ stretch-same {config} {side} {held} w s stretch top g last placed reached k belo
         omega (arith, most, above, below)
 
 -- what is reached in the state that is told of, and in a whole, is the same
-pub reached-told : {config : Config} {side : Side} {held : List HeldCell} (w : Whole config side held) (stretch : Stretch) (top g : ℕ) → stretch.level ≤ 3
+pub reached-told : {config : Config} {side : Side} {held : List HeldCell} (w : Whole config side held) (stretch : Stretch) (top g : ℕ)
+    → stretch.level ≤ 3
     → table_placed held stretch.rd stretch.level (table_number stretch.level stretch.base) ≡ Some g → IsReached (seen_state config held) stretch top
     → IsReached (state w) stretch top
 reached-told {config} {side} {held} w stretch top g last placed reached =
     reached-same (seen_state config held) (state w) stretch top reached
     (λ k below. sym (stretch-same w (seen_state config held) stretch top g last placed reached k below))
 
-pub reached-seen : {config : Config} {side : Side} {held : List HeldCell} (w : Whole config side held) (stretch : Stretch) (top g : ℕ) → stretch.level ≤ 3
+pub reached-seen : {config : Config} {side : Side} {held : List HeldCell} (w : Whole config side held) (stretch : Stretch) (top g : ℕ)
+    → stretch.level ≤ 3
     → table_placed held stretch.rd stretch.level (table_number stretch.level stretch.base) ≡ Some g → IsReached (state w) stretch top
     → IsReached (seen_state config held) stretch top
 reached-seen {config} {side} {held} w stretch top g last placed reached =
@@ -110,7 +105,8 @@ reached-seen {config} {side} {held} w stretch top g last placed reached =
 abbrev IsStretchOf : State → Option Way → Accepted → Type 0
 IsStretchOf t None a = Unit {0}
 IsStretchOf t (Some w) (Done words change) = Unit {0}
-IsStretchOf t (Some w) (Reaches stretch) = (stretch.rd ≡ w.rd) × (stretch.base ≡ w.ipa) × (stretch.level ≡ reach t w.rd w.ipa w.max) × (stretch.level ≤ 3)
+IsStretchOf t (Some w) (Reaches stretch) =
+    (stretch.rd ≡ w.rd) × (stretch.base ≡ w.ipa) × (stretch.level ≡ reach t w.rd w.ipa w.max) × (stretch.level ≤ 3)
 
 -- RTT_INIT_RIPAS and RTT_SET_RIPAS alone lead to one
 rows-stretch : (t : State) (cpu : ℕ) (c : Call) → IsStretchOf t (way_of c) (behind t cpu c).1
@@ -132,9 +128,10 @@ rows-first t cpu (call.RttInitRipas rd base top) (base_page, (top_page, (ordered
     let kind = unassigned_kind end.entry free in
     let can : IsTrue (can_be_set Init end.entry) = λ i. not (kind.1 i) && not (kind.0 i) in
     first_reached t (record { rd = rd; base = base; top = top; level = end.level; purpose = Init }) (reach-le t rd base 3) first ends can
-rows-first t cpu (call.RttSetRipas rd rec base top) (rd_tag, (rec_tag, (owned, (idle, (asked, (at_base, (bounded, (ordered, (paged, (first, (ends, _))))))))))) =
-    first_reached t (record { rd = rd; base = base; top = top; level = reach t rd base 3; purpose = Requested rec _ }) (reach-le t rd base 3) first ends
-    (ap not (walk_ends_unlinked t rd base))
+rows-first t cpu (call.RttSetRipas rd rec base top)
+    (rd_tag, (rec_tag, (owned, (idle, (asked, (at_base, (bounded, (ordered, (paged, (first, (ends, _))))))))))) =
+    first_reached t (record { rd = rd; base = base; top = top; level = reach t rd base 3; purpose = Requested rec _ })
+    (reach-le t rd base 3) first ends (ap not (walk_ends_unlinked t rd base))
 rows-first t cpu _ rows = tt
 
 -- so an end can be chosen wherever a stretch is answered
@@ -173,7 +170,8 @@ hosts c walks =
 
 -- each whole that agrees with a hold gives the outcome
 abbrev IsOutcome : Config → ℕ → Command → Hold → Result Accepted Refusal → Type 0
-IsOutcome config cpu command hold answer = (cells : ℕ → Cell) (places : ℕ → CpuPlace) → IsWellShaped config hold.side places cells → Agrees cells hold.cells
+IsOutcome config cpu command hold answer =
+    (cells : ℕ → Cell) (places : ℕ → CpuPlace) → IsWellShaped config hold.side places cells → Agrees cells hold.cells
     → places cpu ≡ hold.place → outcome (flat_state config cells) cpu (call_of command) ≡ answer
 
 -- a refusal of every whole changes nothing
@@ -184,7 +182,8 @@ refused-local config cpu command hold given each =
     Step-refused (flat_state config cells) cpu command given (each cells places shaped agrees placed))
 
 -- the table of a stretch is held
-pub stretch-placed : (config : Config) (cpu : ℕ) (c : Call) (held : List HeldCell) (stretch : Stretch) → is_way_settled config c held (way_of c) ≡ true
+pub stretch-placed : (config : Config) (cpu : ℕ) (c : Call) (held : List HeldCell) (stretch : Stretch)
+    → is_way_settled config c held (way_of c) ≡ true
     → answer_of (seen_state config held) cpu c ≡ Ok (Reaches stretch)
     → (stretch.level ≤ 3) × (is_some (table_placed held stretch.rd stretch.level (table_number stretch.level stretch.base)) ≡ true)
 stretch-placed config cpu c held stretch settled is =
@@ -203,13 +202,17 @@ stretch-placed config cpu c held stretch settled is =
         let placed = end-placed config held w ends.0 in (
           of.3,
           subst (λ l. is_some (table_placed held stretch.rd l (table_number l stretch.base)) ≡ true) (sym of.2)
-              (subst (λ x. is_some (table_placed held stretch.rd (reach t w.rd w.ipa w.max) (table_number (reach t w.rd w.ipa w.max) x)) ≡ true) (sym of.1)
-              (subst (λ x. is_some (table_placed held x (reach t w.rd w.ipa w.max) (table_number (reach t w.rd w.ipa w.max) w.ipa)) ≡ true) (sym of.0) placed)),
+              (subst (λ x. is_some (table_placed held stretch.rd (reach t w.rd w.ipa w.max) (table_number (reach t w.rd w.ipa w.max) x)) ≡ true)
+              (sym of.1)
+              (subst (λ x. is_some (table_placed held x (reach t w.rd w.ipa w.max) (table_number (reach t w.rd w.ipa w.max) w.ipa)) ≡ true)
+              (sym of.0) placed)),
         )
 
 -- what each whole answers as it is told is a local step
-answered-local : (config : Config) (cpu : ℕ) (command : Command) (hold : Hold) (a : Result Accepted Refusal) → are_told (call_of command) hold.cells ≡ true
-    → is_way_settled config (call_of command) hold.cells (way_of (call_of command)) ≡ true → answer_of (seen_state config hold.cells) cpu (call_of command) ≡ a
+answered-local : (config : Config) (cpu : ℕ) (command : Command) (hold : Hold) (a : Result Accepted Refusal)
+    → are_told (call_of command) hold.cells ≡ true
+    → is_way_settled config (call_of command) hold.cells (way_of (call_of command)) ≡ true
+    → answer_of (seen_state config hold.cells) cpu (call_of command) ≡ a
     → IsOutcome config cpu command hold a → IsLocalAnswer config cpu command hold a
 answered-local config cpu command hold (Err given) told settled is each = refused-local config cpu command hold given each
 answered-local config cpu command hold (Ok (Done words change)) told settled is each =
@@ -232,7 +235,8 @@ early-error (Err given) early = (given, refl, not-true (is_table_error given) ea
 
 -- any command that walks
 pub settled-local : (config : Config) (cpu : ℕ) (command : Command) (hold : Hold) → is_some (way_of (call_of command)) ≡ true → hold.place ≡ Outside
-    → is_walk_settled config (call_of command) hold.cells ≡ true → IsLocalAnswer config cpu command hold (seen_answer config (call_of command) hold.cells)
+    → is_walk_settled config (call_of command) hold.cells ≡ true
+    → IsLocalAnswer config cpu command hold (seen_answer config (call_of command) hold.cells)
 unfolding is_walk_settled
 settled-local config cpu command hold walks place settled =
     elim (or_cases (is_refused_early (seen_answer config c hold.cells)) (is_way_settled config c hold.cells (way_of c)) parts.1) [
@@ -250,8 +254,10 @@ settled-local config cpu command hold walks place settled =
     t : State
     t = seen_state config hold.cells
 
-    parts : (are_told c hold.cells ≡ true) × ((is_refused_early (seen_answer config c hold.cells) || is_way_settled config c hold.cells (way_of c)) ≡ true)
-    parts = and_parts (are_told c hold.cells) (is_refused_early (seen_answer config c hold.cells) || is_way_settled config c hold.cells (way_of c)) settled
+    parts : (are_told c hold.cells ≡ true)
+        × ((is_refused_early (seen_answer config c hold.cells) || is_way_settled config c hold.cells (way_of c)) ≡ true)
+    parts = and_parts (are_told c hold.cells)
+        (is_refused_early (seen_answer config c hold.cells) || is_way_settled config c hold.cells (way_of c)) settled
 
     refused : (given : Refusal) × (seen_answer config c hold.cells ≡ Err given) × (is_table_error given ≡ false)
         → IsLocalAnswer config cpu command hold (seen_answer config c hold.cells)
@@ -269,7 +275,8 @@ refused-rows : (rows : List Row) (a b : Accepted) (given : Refusal) → decided 
 refused-rows [] a b given is = absurd (let bad : Ok a ≡ Err given = is in cc)
 refused-rows (first ∷ rows) a b given is = by first.holds is (refused-rows rows a b given)
   where
-    by : (holds : Bool) → (if holds then decided rows a else Err first.otherwise) ≡ Err given → (decided rows a ≡ Err given → decided rows b ≡ Err given)
+    by : (holds : Bool) → (if holds then decided rows a else Err first.otherwise) ≡ Err given
+        → (decided rows a ≡ Err given → decided rows b ≡ Err given)
         → (if holds then decided rows b else Err first.otherwise) ≡ Err given
     by true same rest = rest same
     by false same rest = same

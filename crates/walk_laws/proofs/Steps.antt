@@ -1,10 +1,9 @@
 -- What a change of tables makes of the cells that are held is what it makes of each whole that agrees: so it is a local step.
-use Rattle.std.proofs.Common.{◌≡◌, ℕ, ◌-◌, ◌/◌, ◌%◌, true, false, ◌&&◌, ◌==◌, List, [], ◌∷◌, ◌++◌, Option, Some, None, Ok, ◌⊎◌, inl, inr, refl, sym, ap, ◌∙◌, subst}
-use Rattle.std.specs.Prelude.{IsTrue, is_some, slice_set}
+use Rattle.walk_laws.proofs.Common.{◌&&◌, ◌-◌, ◌/◌, ◌==◌, ◌∙◌, ◌∷◌, ◌≡◌, ◌⊎◌, Cell, Config, Entry, HeldCell, IsTrue, List, None, Option, Side, Some, Table, [], and_parts, ap, false, false≢true, flat_state, inl, inr, is_held, is_some, refl, subst, sym, table_placed, tables_of, true, ℕ}
+use Rattle.std.proofs.Common.{◌%◌, ◌++◌, Ok}
+use Rattle.std.specs.Prelude.{slice_set}
 use Rattle.std.specs.List.{AllByRecursion}
-use Rattle.std.proofs.lemmas.Bool.{false≢true, and_parts}
 use Rattle.std.proofs.lemmas.List.Elements.{All-contains, All-from_recursion}
-use Rattle.rmm_spec.specs.HistoryText.{Config}
 use Rattle.rmm_spec.specs.declared.accepted.Accepted.TheVariants.{Reaches}
 use Rattle.rmm_spec.specs.declared.accepted.Stretch.{Stretch}
 use Rattle.rmm_spec.specs.declared.change.Change.{Change}
@@ -17,8 +16,6 @@ use Rattle.rmm_spec.specs.declared.change.RecUpdate.{RecUpdate}
 use Rattle.rmm_spec.specs.declared.change.RecUpdate.TheVariants as update
 use Rattle.rmm_spec.specs.declared.change.TagChange.{TagChange}
 use Rattle.rmm_spec.specs.declared.command.Command.{Command}
-use Rattle.rmm_spec.specs.declared.entry.Entry.{Entry}
-use Rattle.rmm_spec.specs.declared.entry.Entry.TheVariants.{Table}
 use Rattle.rmm_spec.specs.declared.reply.Reply.{Reply}
 use Rattle.rmm_spec.specs.declared.tag.Tag.{Tag}
 use Rattle.rmm_spec.specs.declared.tag.Tag.TheVariants as tag
@@ -28,10 +25,10 @@ use Rattle.rmm_spec.specs.Lookup.{tag_number}
 use Rattle.rmm_spec.specs.Rows.{ok, done}
 use Rattle.rmm_spec.specs.Step.{Step, outcome}
 use Rattle.rmm_spec.specs.Step.Ripas.{IsReached, reached_change}
-use Rattle.rmm_spec.specs.Cell.{Cell, Delegated, Rtt, put, tag_of, tables_of}
-use Rattle.rmm_spec.specs.Flat.{flat_state, table_granule}
-use Rattle.rmm_spec.specs.Shape.{Side, CpuPlace, IsWellShaped}
-use Rattle.rmm_spec.specs.Local.{HeldCell, Hold, Agrees, put_all, LocalStep}
+use Rattle.rmm_spec.specs.Cell.{Delegated, Rtt, put, tag_of}
+use Rattle.rmm_spec.specs.Flat.{table_granule}
+use Rattle.rmm_spec.specs.Shape.{CpuPlace, IsWellShaped}
+use Rattle.rmm_spec.specs.Local.{Hold, Agrees, put_all, LocalStep}
 use Rattle.rmm_sound.proofs.Entries.{leaf_there}
 use Rattle.rmm_sound.proofs.Runs.{done_applies, reached_applies}
 use Rattle.world_laws.specs.Replaced.{held_at}
@@ -40,8 +37,7 @@ use Rattle.world_laws.proofs.Locals.{step-is_local}
 use Rattle.shape_laws.specs.Whole.{cell_with_tag, cell_with_realm, cell_with_rec, cell_with_entries, width_in, copied_table, cells_with_entries, cells_with_table, table_changed, entries_changed, cells_with_tag_change, cells_with_realm_change, cells_with_rec_change, cells_changed, side_changed, places_changed, places_of_rec, places_with_rec_change, whole_changed, IsShaped}
 use Rattle.shape_laws.proofs.Accepted.{done-keeps_shape, reached-keeps_shape}
 use Rattle.shape_laws.proofs.Cells.{tag-cell, cell-table}
-use Rattle.walk_laws.specs.Held.{is_held, known_cell}
-use Rattle.walk_laws.specs.SeenState.{table_placed}
+use Rattle.walk_laws.specs.Held.{known_cell}
 use Rattle.walk_laws.specs.TableCells.{tag_cells, realm_cells, rec_cells, entry_cells, made_cells, table_cells, tables_changed, holds_page, holds_realm, is_moved, holds_rec, holds_change}
 use Rattle.walk_laws.proofs.Found.{placed-holds}
 use Rattle.walk_laws.proofs.Tables.{whole_holds, placed-found}
@@ -83,7 +79,8 @@ table-tag {config} {side} {held} w rd level number g is =
     ap tag_of (cell-table (w.cells g) holds.table holds.is_held)
 
 -- a table is put in
-made-changed : {config : Config} {side : Side} {held : List HeldCell} (w : Whole config side held) (rd level number rtt : ℕ) (entry : Entry) (o : Option ℕ)
+made-changed : {config : Config} {side : Side} {held : List HeldCell}
+    (w : Whole config side held) (rd level number rtt : ℕ) (entry : Entry) (o : Option ℕ)
     → table_placed held rd (level - 1) (number / 512) ≡ o → is_some o ≡ true
     → cells_changed config w.cells (TableMade rd level number rtt entry) ≡ put_all w.cells (made_cells held rd level number rtt entry o)
 unfolding cells_changed
@@ -95,7 +92,8 @@ made-changed {config} {side} {held} w rd level number rtt entry (Some above) is 
     (same_at w above (placed-is_held held rd (level - 1) (number / 512) above is))
 
 -- a table is taken out
-destroyed-changed : {config : Config} {side : Side} {held : List HeldCell} (w : Whole config side held) (rd level number rtt : ℕ) (entry : Entry) (o : Option ℕ)
+destroyed-changed : {config : Config} {side : Side} {held : List HeldCell}
+    (w : Whole config side held) (rd level number rtt : ℕ) (entry : Entry) (o : Option ℕ)
     → table_placed held rd (level - 1) (number / 512) ≡ o → is_some o ≡ true
     → cells_changed config w.cells (TableDestroyed rd level number rtt entry)
     ≡ put_all w.cells (entry_cells held (λ entries. slice_set entries (number % 512) entry) o ++ held_at rtt Delegated ∷ [])
@@ -110,7 +108,8 @@ destroyed-changed {config} {side} {held} w rd level number rtt entry (Some above
 -- ---- what goes with changed entries
 
 -- two tags are of two granules
-tags-apart : (cells : ℕ → Cell) (g h : ℕ) (t u : Tag) → tag_of (cells g) ≡ t → tag_of (cells h) ≡ u → (tag_number t == tag_number u) ≡ false → g ≡ h → ⊥
+tags-apart : (cells : ℕ → Cell) (g h : ℕ) (t u : Tag)
+    → tag_of (cells g) ≡ t → tag_of (cells h) ≡ u → (tag_number t == tag_number u) ≡ false → g ≡ h → ⊥
 tags-apart cells g h t u first second apart same =
     let one : t ≡ u = sym first ∙ (ap (λ x. tag_of (cells x)) same ∙ second) in
     false≢true (sym apart ∙ subst (λ (x : Tag). (tag_number t == tag_number x) ≡ true) one (itself t))
@@ -125,7 +124,8 @@ IsPage cells None = Unit {0}
 IsPage cells (Some change) = (tag_of (cells change.granule) ≡ tag.Delegated) ⊎ (tag_of (cells change.granule) ≡ tag.Data)
 
 -- by what the change requires of the page
-page-tag : {config : Config} {side : Side} {held : List HeldCell} (w : Whole config side held) (rd level : ℕ) (entries : EntryChange) (page : Option TagChange)
+page-tag : {config : Config} {side : Side} {held : List HeldCell} (w : Whole config side held)
+    (rd level : ℕ) (entries : EntryChange) (page : Option TagChange)
     → CanChangeEntries (state w) rd level entries page → IsPage w.cells page
 page-tag {config} {side} {held} w rd level entries None can = tt
 page-tag {config} {side} {held} w rd level (RipasSet first last ripas) (Some change) can = absurd (let bad : Some change ≡ None = can.1 in cc)
@@ -138,7 +138,8 @@ page-tag {config} {side} {held} w rd level (Replaced number entry) (Some change)
 
 -- a cell with another tag isn't the page's
 page-kept : (cells : ℕ → Cell) (page : Option TagChange) (g : ℕ) (t : Tag) → IsPage cells page → tag_of (cells g) ≡ t
-    → (tag_number t == tag_number tag.Delegated) ≡ false → (tag_number t == tag_number tag.Data) ≡ false → cells_with_tag_change cells page g ≡ cells g
+    → (tag_number t == tag_number tag.Delegated) ≡ false
+    → (tag_number t == tag_number tag.Data) ≡ false → cells_with_tag_change cells page g ≡ cells g
 page-kept cells None g t is tagged first second = refl
 page-kept cells (Some change) g t is tagged first second =
     put-other cells change.granule (cell_with_tag change.tag (cells change.granule)) g (elim is [
@@ -167,44 +168,53 @@ page-put {config} {side} {held} w None has = refl
 page-put {config} {side} {held} w (Some change) has = ap (λ c. put w.cells change.granule (cell_with_tag change.tag c)) (same_at w change.granule has)
 
 -- the realm's cell
-realm-put : (cells : ℕ → Cell) (held : List HeldCell) (realm : Option RealmChange) → ((change : RealmChange) → realm ≡ Some change → cells change.rd ≡ known_cell held change.rd)
+realm-put : (cells : ℕ → Cell) (held : List HeldCell) (realm : Option RealmChange)
+    → ((change : RealmChange) → realm ≡ Some change → cells change.rd ≡ known_cell held change.rd)
     → cells_with_realm_change cells realm ≡ put_all cells (realm_cells held realm)
 realm-put cells held None same = refl
 realm-put cells held (Some change) same = ap (λ c. put cells change.rd (cell_with_realm change.update c)) (same change refl)
 
 -- the REC's cell
-rec-put : (cells : ℕ → Cell) (held : List HeldCell) (rec : Option RecChange) → ((change : RecChange) → rec ≡ Some change → cells change.rec ≡ known_cell held change.rec)
+rec-put : (cells : ℕ → Cell) (held : List HeldCell) (rec : Option RecChange)
+    → ((change : RecChange) → rec ≡ Some change → cells change.rec ≡ known_cell held change.rec)
     → cells_with_rec_change cells rec ≡ put_all cells (rec_cells held rec)
 rec-put cells held None same = refl
 rec-put cells held (Some change) same = ap (λ c. put cells change.rec (cell_with_rec change.update c)) (same change refl)
 
 -- the tags of the realm and the REC
-realm-tag : {config : Config} {side : Side} {held : List HeldCell} (w : Whole config side held) (realm : Option RealmChange) → CanChangeRealm (state w) realm
+realm-tag : {config : Config} {side : Side} {held : List HeldCell} (w : Whole config side held) (realm : Option RealmChange)
+    → CanChangeRealm (state w) realm
     → (change : RealmChange) → realm ≡ Some change → tag_of (w.cells change.rd) ≡ tag.Rd
 realm-tag {config} {side} {held} w None can change is = absurd cc
 realm-tag {config} {side} {held} w (Some other) can change is =
-    subst (λ (c : RealmChange). tag_of (w.cells c.rd) ≡ tag.Rd) (let same : other ≡ change = cc in same) (tag-cell config w.cells other.rd tag.Rd can.0)
+    subst (λ (c : RealmChange). tag_of (w.cells c.rd) ≡ tag.Rd)
+    (let same : other ≡ change = cc in same) (tag-cell config w.cells other.rd tag.Rd can.0)
 
 -- and of the REC
 rec-tag : {config : Config} {side : Side} {held : List HeldCell} (w : Whole config side held) (rec : Option RecChange) → CanChangeRec (state w) rec
     → (change : RecChange) → rec ≡ Some change → tag_of (w.cells change.rec) ≡ tag.Rec
 rec-tag {config} {side} {held} w None can change is = absurd cc
 rec-tag {config} {side} {held} w (Some other) can change is =
-    subst (λ (c : RecChange). tag_of (w.cells c.rec) ≡ tag.Rec) (let same : other ≡ change = cc in same) (tag-cell config w.cells other.rec tag.Rec can.0)
+    subst (λ (c : RecChange). tag_of (w.cells c.rec) ≡ tag.Rec)
+    (let same : other ≡ change = cc in same) (tag-cell config w.cells other.rec tag.Rec can.0)
 
 -- the realm is held
-realm-held : (held : List HeldCell) (realm : Option RealmChange) → holds_realm held realm ≡ true → (change : RealmChange) → realm ≡ Some change → is_held change.rd held ≡ true
+realm-held : (held : List HeldCell) (realm : Option RealmChange) → holds_realm held realm ≡ true → (change : RealmChange)
+    → realm ≡ Some change → is_held change.rd held ≡ true
 realm-held held None has change is = absurd cc
 realm-held held (Some other) has change is = subst (λ (c : RealmChange). is_held c.rd held ≡ true) (let same : other ≡ change = cc in same) has
 
 -- the REC is held
-rec-held : (held : List HeldCell) (rec : Option RecChange) → holds_rec held rec ≡ true → (change : RecChange) → rec ≡ Some change → is_held change.rec held ≡ true
+rec-held : (held : List HeldCell) (rec : Option RecChange) → holds_rec held rec ≡ true → (change : RecChange)
+    → rec ≡ Some change → is_held change.rec held ≡ true
 rec-held held None has change is = absurd cc
 rec-held held (Some other) has change is =
-    subst (λ (c : RecChange). is_held c.rec held ≡ true) (let same : other ≡ change = cc in same) (and_parts (is_held other.rec held) (is_moved other.update) has).0
+    subst (λ (c : RecChange). is_held c.rec held ≡ true) (let same : other ≡ change = cc in same)
+    (and_parts (is_held other.rec held) (is_moved other.update) has).0
 
 -- what has to be held of changed entries
-record HoldsParts (held : List HeldCell) (page : Option TagChange) (realm : Option RealmChange) (rec : Option RecChange) (table : Option ℕ) : Type 0 where
+record HoldsParts (held : List HeldCell) (page : Option TagChange)
+    (realm : Option RealmChange) (rec : Option RecChange) (table : Option ℕ) : Type 0 where
   of_page : holds_page held page ≡ true
   of_realm : holds_realm held realm ≡ true
   of_rec : holds_rec held rec ≡ true
@@ -221,7 +231,8 @@ held-parts held page realm rec table holds =
 
 -- entries are changed, with what goes with them
 entries-put : {config : Config} {side : Side} {held : List HeldCell} (w : Whole config side held) (rd level : ℕ) (entries : EntryChange)
-    (page : Option TagChange) (realm : Option RealmChange) (rec : Option RecChange) → CanApply (state w) (EntriesChanged rd level entries page realm rec)
+    (page : Option TagChange) (realm : Option RealmChange) (rec : Option RecChange)
+    → CanApply (state w) (EntriesChanged rd level entries page realm rec)
     → (o : Option ℕ) → table_placed held rd level (table_changed entries) ≡ o → HoldsParts held page realm rec o
     → cells_changed config w.cells (EntriesChanged rd level entries page realm rec)
     ≡ put_all w.cells (tag_cells held page ++ (realm_cells held realm ++ (rec_cells held rec ++ entry_cells held (entries_changed entries) o)))
@@ -230,7 +241,8 @@ entries-put {config} {side} {held} w rd level entries page realm rec can None is
 entries-put {config} {side} {held} w rd level entries page realm rec can (Some g) is parts =
     ap (cells_with_entries third (entries_changed entries)) (table-found w rd level (table_changed entries) g is)
     ∙ (ap (λ c. put third g (cell_with_entries (entries_changed entries) c)) table_cell
-    ∙ (ap (λ cells. put_all cells last) (rec-put second held rec rec_cell ∙ ap (λ cells. put_all cells (rec_cells held rec)) (realm-put first held realm realm_cell
+    ∙ (ap (λ cells. put_all cells last)
+    (rec-put second held rec rec_cell ∙ ap (λ cells. put_all cells (rec_cells held rec)) (realm-put first held realm realm_cell
     ∙ ap (λ cells. put_all cells (realm_cells held realm)) (page-put w page parts.of_page)))
     ∙ sym (put_all-append (tag_cells held page) (realm_cells held realm ++ (rec_cells held rec ++ last)) w.cells
     ∙ (put_all-append (realm_cells held realm) (rec_cells held rec ++ last) (put_all w.cells (tag_cells held page))
@@ -268,7 +280,8 @@ entries-put {config} {side} {held} w rd level entries page realm rec can (Some g
     table_cell =
         let tagged = table-tag w rd level (table_changed entries) g is in
         rec-kept second w.cells rec g (λ other here. tags-apart w.cells g other.rec tag.Rtt tag.Rec tagged (rec-tag w rec can.3 other here) refl)
-        (realm-kept first w.cells realm g (λ other here. tags-apart w.cells g other.rd tag.Rtt tag.Rd tagged (realm-tag w realm can.2 other here) refl)
+        (realm-kept first w.cells realm g
+        (λ other here. tags-apart w.cells g other.rd tag.Rtt tag.Rd tagged (realm-tag w realm can.2 other here) refl)
         (page-kept w.cells page g tag.Rtt is_page tagged refl refl))
         ∙ same_at w g (placed-is_held held rd level (table_changed entries) g is)
 
@@ -309,8 +322,10 @@ cells-held held (TableMade rd level number rtt entry) holds =
     made-held held rd level number rtt entry (table_placed held rd (level - 1) (number / 512)) refl
     (and_parts (is_held rtt held) (is_some (table_placed held rd (level - 1) (number / 512))) holds).0
 cells-held held (TableDestroyed rd level number rtt entry) holds =
-    AreHeld-append held (entry_cells held (λ entries. slice_set entries (number % 512) entry) (table_placed held rd (level - 1) (number / 512))) (held_at rtt Delegated ∷ [])
-    (entry-held held (λ entries. slice_set entries (number % 512) entry) rd (level - 1) (number / 512) (table_placed held rd (level - 1) (number / 512)) refl)
+    AreHeld-append held (entry_cells held (λ entries. slice_set entries (number % 512) entry)
+    (table_placed held rd (level - 1) (number / 512))) (held_at rtt Delegated ∷ [])
+    (entry-held held (λ entries. slice_set entries (number % 512) entry) rd
+    (level - 1) (number / 512) (table_placed held rd (level - 1) (number / 512)) refl)
     ((and_parts (is_held rtt held) (is_some (table_placed held rd (level - 1) (number / 512))) holds).0, tt)
 cells-held held (EntriesChanged rd level entries page realm rec) holds =
     let parts = held-parts held page realm rec (table_placed held rd level (table_changed entries)) holds in
@@ -335,7 +350,8 @@ cells-held held _ holds = tt
 -- ---- beside the cells
 
 -- the side table stays
-side-kept : (held : List HeldCell) (cells : ℕ → Cell) (side : Side) (change : Change) → holds_change held change ≡ true → side_changed cells side change ≡ side
+side-kept : (held : List HeldCell) (cells : ℕ → Cell) (side : Side) (change : Change)
+    → holds_change held change ≡ true → side_changed cells side change ≡ side
 unfolding side_changed holds_change
 side-kept held cells side Unchanged holds = refl
 side-kept held cells side (TableMade rd level number rtt entry) holds = refl
@@ -377,7 +393,8 @@ change-local config cpu command given hold change holds each =
     step-is_local config cpu command given hold (table_cells hold.cells change) hold.side hold.place
     (λ h has. held-contains hold.cells h.granule
     (All-contains (λ (x : HeldCell). IsTrue (is_held x.granule hold.cells)) (table_cells hold.cells change) h
-    (All-from_recursion (λ (x : HeldCell). IsTrue (is_held x.granule hold.cells)) (table_cells hold.cells change) (cells-held hold.cells change holds)) has))
+    (All-from_recursion (λ (x : HeldCell). IsTrue (is_held x.granule hold.cells))
+    (table_cells hold.cells change) (cells-held hold.cells change holds)) has))
     (λ cells places shaped agrees placed.
     let w : Whole config hold.side hold.cells = record { cells = cells; places = places; shaped = shaped; agrees = agrees } in
     let s = flat_state config cells in
@@ -392,7 +409,8 @@ change-local config cpu command given hold change holds each =
     ))
 
 -- what is done
-pub done-local : (config : Config) (cpu : ℕ) (command : Command) (words : List ℕ) (hold : Hold) (change : Change) → holds_change hold.cells change ≡ true
+pub done-local : (config : Config) (cpu : ℕ) (command : Command) (words : List ℕ) (hold : Hold) (change : Change)
+    → holds_change hold.cells change ≡ true
     → ((cells : ℕ → Cell) (places : ℕ → CpuPlace) → IsWellShaped config hold.side places cells → Agrees cells hold.cells → places cpu ≡ hold.place
     → outcome (flat_state config cells) cpu (call_of command) ≡ Ok (done words change))
     → LocalStep config cpu command (ok words) hold (tables_changed hold change)
@@ -404,7 +422,8 @@ done-local config cpu command words hold change holds each =
     (done_applies (flat_state config cells) cpu command words change (sound w) is, kept.0, kept.1))
 
 -- an end of a stretch that is chosen
-pub reached-local : (config : Config) (cpu : ℕ) (command : Command) (stretch : Stretch) (top : ℕ) (hold : Hold) → holds_change hold.cells (reached_change stretch top) ≡ true
+pub reached-local : (config : Config) (cpu : ℕ) (command : Command) (stretch : Stretch) (top : ℕ) (hold : Hold)
+    → holds_change hold.cells (reached_change stretch top) ≡ true
     → ((cells : ℕ → Cell) (places : ℕ → CpuPlace) → IsWellShaped config hold.side places cells → Agrees cells hold.cells → places cpu ≡ hold.place
     → (outcome (flat_state config cells) cpu (call_of command) ≡ Ok (Reaches stretch)) × IsReached (flat_state config cells) stretch top)
     → LocalStep config cpu command (ok (top ∷ [])) hold (tables_changed hold (reached_change stretch top))

@@ -1,26 +1,20 @@
 -- What a held table tells of entries and walks is what each whole has that agrees with it.
-use Rattle.std.proofs.Common.{◌≡◌, ℕ, zero, suc, ◌+◌, ◌-◌, ◌*◌, ◌/◌, ◌%◌, ◌<◌, ◌≤◌, Bool, true, false, ◌==◌, if◌then◌else◌, List, Option, Some, None, slice_get, nat_lt, ◌⊎◌, inl, inr, refl, sym, ap, ◌∙◌, subst, arith}
-use Rattle.std.specs.Prelude.{IsTrue, is_some}
+use Rattle.walk_laws.proofs.Common.{◌-◌, ◌/◌, ◌<◌, ◌==◌, ◌∙◌, ◌≡◌, ◌≤◌, ◌⊎◌, Bool, Cell, Config, Entry, HeldCell, HoldsTable, IsTrue, List, None, Option, Side, Some, State, Table, ap, arith, entry_at, entry_for, entry_number, false, false≢true, flat_state, if◌then◌else◌, inl, inr, is_some, is_table, reach, reach-le, refl, seen_state, subst, suc, sym, table_held, table_number, table_number-entry, table_placed, tables_of, true, ℕ}
+use Rattle.std.proofs.Common.{zero, ◌+◌, ◌*◌, ◌%◌, slice_get, nat_lt}
 use Rattle.std.specs.Option.{option_and_then}
-use Rattle.std.proofs.lemmas.Bool.{false≢true, cases_order}
+use Rattle.std.proofs.lemmas.Bool.{cases_order}
 use Rattle.std.proofs.lemmas.Bool.Decides.{nat_tests}
-use Rattle.rmm_spec.specs.HistoryText.{Config}
-use Rattle.rmm_spec.specs.declared.entry.Entry.{Entry}
-use Rattle.rmm_spec.specs.declared.entry.Entry.TheVariants.{Unassigned, Table}
-use Rattle.rmm_spec.specs.State.{State, RealmRecord}
+use Rattle.rmm_spec.specs.declared.entry.Entry.TheVariants.{Unassigned}
+use Rattle.rmm_spec.specs.State.{RealmRecord}
 use Rattle.rmm_spec.specs.TableCells.{leaf_of}
-use Rattle.rmm_spec.specs.Walk.{is_table, linked_entry, entry_at, entry_for, entry_number, table_number, reach}
+use Rattle.rmm_spec.specs.Walk.{linked_entry}
 use Rattle.rmm_spec.specs.Sound.{IsSound}
-use Rattle.rmm_spec.specs.Cell.{Cell, tables_of}
-use Rattle.rmm_spec.specs.Flat.{flat_state, table_granule}
-use Rattle.rmm_spec.specs.Shape.{Side, HoldsTable}
-use Rattle.rmm_spec.specs.Local.{HeldCell}
-use Rattle.spec_lemmas.proofs.WalkLaws.{table_number-suc, reach-covers, reach-le}
+use Rattle.rmm_spec.specs.Flat.{table_granule}
+use Rattle.spec_lemmas.proofs.WalkLaws.{table_number-suc, reach-covers}
 use Rattle.rmm_sound.proofs.Entries.{value_there, entry-leaf, entry-link}
-use Rattle.rmm_sound.proofs.Walked.{table_number-entry}
 use Rattle.shape_laws.proofs.Finds.{holds-found}
 use Rattle.shape_laws.proofs.Ties.{entry_leaf-some, leaf-found, link_or_leaf, entry_there, number-again, at_place, IsTied-shaped}
-use Rattle.walk_laws.specs.SeenState.{table_held, table_placed, entry_in, entry_held, link_of, table_seen, leaf_seen, seen_state}
+use Rattle.walk_laws.specs.SeenState.{entry_in, entry_held, link_of, table_seen, leaf_seen}
 use Rattle.walk_laws.proofs.Found.{placed-holds}
 use Rattle.walk_laws.proofs.Wholes.{Whole, state, sound, whole_table}
 use Rattle.lemmas.proofs.Tests.{both_ways}
@@ -101,7 +95,8 @@ entry-seen config held rd level number e is last = by (nat_lt level 3) refl
 
 -- no link stands at the last level
 last-unlinked : {config : Config} {side : Side} {held : List HeldCell} (w : Whole config side held) (g i rd level number : ℕ) (e : Entry)
-    → (holds : HoldsTable (tables_of w.cells) g rd level number) → slice_get holds.table.entries i ≡ Some e → nat_lt level 3 ≡ false → is_table e ≡ false
+    → (holds : HoldsTable (tables_of w.cells) g rd level number)
+    → slice_get holds.table.entries i ≡ Some e → nat_lt level 3 ≡ false → is_table e ≡ false
 last-unlinked {config} {side} {held} w g i rd level number (Table child) holds at end =
     let owner = w.shaped.tables.placed g holds.table holds.is_held in
     let less : holds.table.place.level < 3 = w.shaped.tables.kinds g i holds.table owner.0 (Table child) holds.is_held owner.1 at in
@@ -161,7 +156,8 @@ climb s ok rd ipa level r realm under (suc k) deep same there =
     let last : up ≤ 3 = omega (arith, owner.2.last, same) in
     let at : s.table rd (suc up) (table_number (suc up) ipa) ≡ Some t.0 = subst (λ d. s.table rd d (table_number d ipa) ≡ Some t.0) down t.1 in
     let above = ok.tables.below rd up (table_number (suc up) ipa) t.0 r at realm (omega arith) in
-    let number : table_number (suc up) ipa / 512 ≡ table_number up ipa = ap (λ n. n / 512) (table_number-suc up ipa) ∙ sym (table_number-entry up ipa last) in
+    let number : table_number (suc up) ipa / 512 ≡ table_number up ipa =
+    ap (λ n. n / 512) (table_number-suc up ipa) ∙ sym (table_number-entry up ipa last) in
     climb s ok rd ipa level r realm under k up refl (subst (λ n. IsTrue (is_some (s.table rd up n))) number above)
 
 -- the walk ends at a table that covers the address, where its level is the last or its entry no link

@@ -1,34 +1,22 @@
 -- What is held settles a command that walks: each whole that agrees answers it as the state does that the held cells tell of.
-use Rattle.std.proofs.Common.{◌≡◌, ℕ, suc, ◌-◌, ◌/◌, ◌<◌, ◌≤◌, Bool, true, false, not, ◌&&◌, ◌||◌, ◌==◌, List, [], ◌∷◌, Option, Some, None, Err, ◌⊎◌, inl, inr, refl, sym, ap, ◌∙◌, subst, arith, eqb-true}
-use Rattle.std.specs.Prelude.{IsTrue, is_some}
+use Rattle.walk_laws.proofs.Common.{◌&&◌, ◌-◌, ◌/◌, ◌<◌, ◌==◌, ◌||◌, ◌∙◌, ◌∷◌, ◌≡◌, ◌≤◌, ◌⊎◌, Bool, Call, Config, Entry, HeldCell, HoldsTable, IsTrue, List, None, Option, Side, Some, Table, Way, [], and_parts, ap, arith, entry_for, entry_number, false, false≢true, flat_state, inl, inr, is_held, is_some, is_table, is_walk_held, named, not, not-true, reach, realm_at, refl, seen_state, subst, suc, sym, table_behind, table_number, table_number-entry, tables_of, true, way_of, ℕ}
+use Rattle.std.proofs.Common.{Err, eqb-true}
 use Rattle.std.specs.List.{AllByRecursion, list_all}
-use Rattle.std.proofs.lemmas.Bool.{false≢true, and_parts, not-true, ltb-true}
+use Rattle.std.proofs.lemmas.Bool.{ltb-true}
 use Rattle.std.proofs.lemmas.Option.{same_Some}
-use Rattle.rmm_spec.specs.HistoryText.{Config}
-use Rattle.rmm_spec.specs.declared.call.Call.{Call}
 use Rattle.rmm_spec.specs.declared.call.Call.TheVariants as call
 use Rattle.rmm_spec.specs.declared.call.Removal.{Removal}
-use Rattle.rmm_spec.specs.declared.entry.Entry.{Entry}
-use Rattle.rmm_spec.specs.declared.entry.Entry.TheVariants.{Table}
 use Rattle.rmm_spec.specs.declared.refusal.Refusal.{Refusal}
 use Rattle.rmm_spec.specs.declared.tag.Tag.{Tag}
 use Rattle.rmm_spec.specs.declared.tag.Tag.TheVariants as tag
-use Rattle.rmm_spec.specs.Lookup.{tag_number, realm_at}
+use Rattle.rmm_spec.specs.Lookup.{tag_number}
 use Rattle.rmm_spec.specs.Rows.{Needed}
-use Rattle.rmm_spec.specs.Walk.{is_table, entry_for, entry_number, table_number, reach}
-use Rattle.rmm_spec.specs.Cell.{tables_of}
-use Rattle.rmm_spec.specs.Flat.{flat_state}
-use Rattle.rmm_spec.specs.Shape.{Side, HoldsTable}
 use Rattle.rmm_spec.specs.Step.{answer_of}
-use Rattle.rmm_spec.specs.Step.Terms.{needed, named, Terms, OfWalk, terms_of, names_in, walk_in}
-use Rattle.rmm_spec.specs.Local.{HeldCell}
+use Rattle.rmm_spec.specs.Step.Terms.{needed, Terms, OfWalk, terms_of, names_in, walk_in}
 use Rattle.spec_lemmas.proofs.WalkLaws.{table_number-suc}
 use Rattle.rmm_sound.proofs.Entries.{link_there}
-use Rattle.rmm_sound.proofs.Walked.{table_number-entry}
 use Rattle.shape_laws.proofs.Finds.{table_granule-holds}
-use Rattle.walk_laws.specs.Held.{is_held}
-use Rattle.walk_laws.specs.SeenState.{table_behind, seen_state}
-use Rattle.walk_laws.specs.Walking.{Way, way, way_of, keeps_realm, part_below, is_walk_held, end_entry, is_part_held, is_told, are_told, is_table_error, is_way_settled}
+use Rattle.walk_laws.specs.Walking.{way, keeps_realm, part_below, end_entry, is_part_held, is_told, are_told, is_table_error, is_way_settled}
 use Rattle.walk_laws.proofs.Looks.{SameRec, SameNamed, SameFront, SameUse, FrontsAlike, LooksAlike, answer-same, refused-same}
 use Rattle.walk_laws.proofs.Seen.{WalkEnd, realm-same, rec-same, told-tag, told-space, walk-end, held-placed, left-same}
 use Rattle.walk_laws.proofs.Tables.{placed-found}
@@ -43,7 +31,8 @@ told-cases : (keeps : Bool) (held : List HeldCell) (n : Needed) → is_told keep
     ⊎ ((keeps ≡ false) × ((tag_number n.tag == tag_number tag.Rd) ≡ true) × (is_some (table_behind held n.granule) ≡ true))
 told-cases keeps held n told = by (is_held n.granule held) refl told
   where
-    by : (b : Bool) → is_held n.granule held ≡ b → (b || (not keeps && tag_number n.tag == tag_number tag.Rd && is_some (table_behind held n.granule))) ≡ true
+    by : (b : Bool) → is_held n.granule held ≡ b
+        → (b || (not keeps && tag_number n.tag == tag_number tag.Rd && is_some (table_behind held n.granule))) ≡ true
         → (is_held n.granule held ≡ true)
         ⊎ ((keeps ≡ false) × ((tag_number n.tag == tag_number tag.Rd) ≡ true) × (is_some (table_behind held n.granule) ≡ true))
     by true has is = inl has
@@ -53,7 +42,8 @@ told-cases keeps held n told = by (is_held n.granule held) refl told
         inr (not-true keeps front.0, front.1, parts.1)
 
 -- what is told of and is no realm is held
-pub told-held : (keeps : Bool) (held : List HeldCell) (n : Needed) → (tag_number n.tag == tag_number tag.Rd) ≡ false → is_told keeps held n ≡ true → is_held n.granule held ≡ true
+pub told-held : (keeps : Bool) (held : List HeldCell) (n : Needed)
+    → (tag_number n.tag == tag_number tag.Rd) ≡ false → is_told keeps held n ≡ true → is_held n.granule held ≡ true
 told-held keeps held n other told = elim (told-cases keeps held n told) [
   | inl has ↦ has
   | inr behind ↦ absurd (false≢true (sym other ∙ behind.1))
@@ -79,9 +69,10 @@ told-either keeps held n told = elim (told-cases keeps held n told) [
     by false there = there
 
 -- a named granule that is told of is the same in each whole
-named-same : {config : Config} {side : Side} {held : List HeldCell} (w : Whole config side held) (keeps : Bool) (n : Needed) → is_told keeps held n ≡ true
-    → SameNamed (state w) (seen_state config held) n
-named-same {config} {side} {held} w keeps n told = (told-tag w n.granule n.tag (told-either keeps held n told), by n.tag (λ other. told-held keeps held n other told))
+named-same : {config : Config} {side : Side} {held : List HeldCell} (w : Whole config side held) (keeps : Bool) (n : Needed)
+    → is_told keeps held n ≡ true → SameNamed (state w) (seen_state config held) n
+named-same {config} {side} {held} w keeps n told =
+    (told-tag w n.granule n.tag (told-either keeps held n told), by n.tag (λ other. told-held keeps held n other told))
   where
     by : (asked : Tag) → ((tag_number asked == tag_number tag.Rd) ≡ false → is_held n.granule held ≡ true)
         → SameRec (state w) (seen_state config held) n.granule asked
@@ -89,7 +80,8 @@ named-same {config} {side} {held} w keeps n told = (told-tag w n.granule n.tag (
     by _ has = tt
 
 -- all of them
-names-same : {config : Config} {side : Side} {held : List HeldCell} (w : Whole config side held) (keeps : Bool) (names : List Needed) → list_all (is_told keeps held) names ≡ true
+names-same : {config : Config} {side : Side} {held : List HeldCell} (w : Whole config side held) (keeps : Bool) (names : List Needed)
+    → list_all (is_told keeps held) names ≡ true
     → AllByRecursion (SameNamed (state w) (seen_state config held)) names
 names-same {config} {side} {held} w keeps [] told = tt
 names-same {config} {side} {held} w keeps (n ∷ names) told =
@@ -147,7 +139,8 @@ front-same {config} {side} {held} w c route told realm = record {
 -- ---- a table below
 
 -- the child below a link
-link_below : (removal : Removal) (rd ipa level child : ℕ) (e : Entry) → e ≡ Table child → part_below (call.RttRemove removal rd ipa level) e ≡ Some child
+link_below : (removal : Removal) (rd ipa level child : ℕ) (e : Entry)
+    → e ≡ Table child → part_below (call.RttRemove removal rd ipa level) e ≡ Some child
 unfolding part_below
 link_below removal rd ipa level child e is = ap (λ (x : Entry). part_below (call.RttRemove removal rd ipa level) x) is
 
@@ -175,7 +168,8 @@ used-told {config} {side} {held} w removal rd ipa level end part above linked =
     let link = link_there (state w) (sound w) rd up (entry_number up ipa) table (ap is_table seen ∙ parts.1) in
     let child : end_entry config held (way rd ipa up) ≡ Table link.0 = sym seen ∙ link.2 in
     let has : is_held link.0 held ≡ true =
-    subst (λ (o : Option ℕ). is_part_held o held ≡ true) (link_below removal rd ipa level link.0 (end_entry config held (way rd ipa up)) child) part in
+    subst (λ (o : Option ℕ). is_part_held o held ≡ true)
+    (link_below removal rd ipa level link.0 (end_entry config held (way rd ipa up)) child) part in
     let holds = table_granule-holds config.granules (tables_of w.cells) rd (suc up) (entry_number up ipa) link.0 link.1 in
     let placed = held-placed w link.0 rd level (table_number level ipa) has
     (subst (λ l. HoldsTable (tables_of w.cells) link.0 rd l (table_number l ipa)) deep
@@ -183,10 +177,12 @@ used-told {config} {side} {held} w removal rd ipa level end part above linked =
     left-same w removal placed.0 rd level (table_number level ipa) placed.1
 
 use-told : {config : Config} {side : Side} {held : List HeldCell} (w : Whole config side held) (c : Call)
-    → ((route : Way) → way_of c ≡ Some route → WalkEnd (state w) (seen_state config held) held route × (is_part_held (part_below c (end_entry config held route)) held ≡ true))
+    → ((route : Way) → way_of c ≡ Some route
+    → WalkEnd (state w) (seen_state config held) held route × (is_part_held (part_below c (end_entry config held route)) held ≡ true))
     → SameUse (state w) (seen_state config held) c
 unfolding way_of
-use-told {config} {side} {held} w (call.RttRemove removal rd ipa level) ends = let end = ends (way rd ipa (level - 1)) refl in used-told w removal rd ipa level end.0 end.1
+use-told {config} {side} {held} w (call.RttRemove removal rd ipa level) ends =
+    let end = ends (way rd ipa (level - 1)) refl in used-told w removal rd ipa level end.0 end.1
 use-told {config} {side} {held} w _ ends = tt
 
 -- ---- answers
@@ -196,7 +192,8 @@ looks-told : {config : Config} {side : Side} {held : List HeldCell} (w : Whole c
     → is_way_settled config c held (way_of c) ≡ true → LooksAlike (state w) (seen_state config held) c (way_of c)
 looks-told {config} {side} {held} w c told settled = by (way_of c) refl settled (way-told c held told)
   where
-    by : (o : Option Way) → way_of c ≡ o → is_way_settled config c held o ≡ true → IsWayTold c held o → LooksAlike (state w) (seen_state config held) c o
+    by : (o : Option Way) → way_of c ≡ o → is_way_settled config c held o ≡ true
+        → IsWayTold c held o → LooksAlike (state w) (seen_state config held) c o
     by None walks is of_rd = absurd (false≢true is)
     by (Some route) walks is of_rd =
         let parts = and_parts (is_walk_held config held route) (is_part_held (part_below c (end_entry config held route)) held) is in
@@ -206,7 +203,8 @@ looks-told {config} {side} {held} w c told settled = by (way_of c) refl settled 
           walk = end.same;
           used = use-told w c (λ other is_other.
               let same : route ≡ other = same_Some route other (sym walks ∙ is_other) in
-              subst (λ (r : Way). WalkEnd (state w) (seen_state config held) held r × (is_part_held (part_below c (end_entry config held r)) held ≡ true)) same (end, parts.1));
+              subst (λ (r : Way). WalkEnd (state w) (seen_state config held) held r
+              × (is_part_held (part_below c (end_entry config held r)) held ≡ true)) same (end, parts.1));
         }
 
 -- a settled walk is answered by each whole as it is told
@@ -215,8 +213,10 @@ pub walk-told : {config : Config} {side : Side} {held : List HeldCell} (w : Whol
 walk-told {config} {side} {held} w cpu c told settled = answer-same (state w) (seen_state config held) cpu c (looks-told w c told settled)
 
 -- and so is a refusal before the walk
-pub early-told : {config : Config} {side : Side} {held : List HeldCell} (w : Whole config side held) (cpu : ℕ) (c : Call) (given : Refusal) → are_told c held ≡ true
-    → is_some (way_of c) ≡ true → answer_of (seen_state config held) cpu c ≡ Err given → is_table_error given ≡ false → answer_of (state w) cpu c ≡ Err given
+pub early-told : {config : Config} {side : Side} {held : List HeldCell} (w : Whole config side held) (cpu : ℕ) (c : Call) (given : Refusal)
+    → are_told c held ≡ true
+    → is_some (way_of c) ≡ true → answer_of (seen_state config held) cpu c ≡ Err given
+    → is_table_error given ≡ false → answer_of (state w) cpu c ≡ Err given
 early-told {config} {side} {held} w cpu c given told walks is plain =
     refused-same (state w) (seen_state config held) cpu c given (by (way_of c) walks (way-told c held told)) is plain
   where

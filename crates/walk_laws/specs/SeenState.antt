@@ -84,7 +84,8 @@ entry_in place (Some table) = slice_get table.entries place
 
 -- the entry of that number, where its table is held
 unfoldable pub entry_held : List HeldCell → ℕ → ℕ → ℕ → Option Entry
-entry_held held rd level number = option_and_then (λ granule. entry_in (number % 512) (table_held held granule)) (table_placed held rd level (number / 512))
+entry_held held rd level number =
+    option_and_then (λ granule. entry_in (number % 512) (table_held held granule)) (table_placed held rd level (number / 512))
 
 abbrev pub link_of : Entry → Option ℕ
 link_of (Table granule) = Some granule

@@ -30,8 +30,8 @@ plain_table tables address place found aligned is_place within is_found =
     ∙ ap (λ (x : Option (Option TableRecord)). table_or_none x) (slice_get_read tables (length tables) place found refl within is_found))
 
 -- a table that is held lies in one of the granules
-held_in_granule-by : (k : ℕ) (table : TableRecord) (tables : List (Option TableRecord)) (address : ℕ) (t : TableRecord) (b : Bool) → (k * 4096 == address) ≡ b
-    → table_in (record { granule = k * 4096; table = table } ∷ cells_from (suc k) tables) address ≡ Some t
+held_in_granule-by : (k : ℕ) (table : TableRecord) (tables : List (Option TableRecord)) (address : ℕ) (t : TableRecord) (b : Bool)
+    → (k * 4096 == address) ≡ b → table_in (record { granule = k * 4096; table = table } ∷ cells_from (suc k) tables) address ≡ Some t
     → (table_in (cells_from (suc k) tables) address ≡ Some t → (i : ℕ) × (i < length tables) × (address ≡ (suc k + i) * 4096))
     → (i : ℕ) × (i < suc (length tables)) × (address ≡ (k + i) * 4096)
 held_in_granule-by k table tables address t true here held later =

@@ -1,7 +1,6 @@
 -- A CPU's program: what is left of it.
-use Rattle.std.proofs.Common.{◌≡◌, ℕ, zero, suc, List, [], ◌∷◌, drop, Some, None, slice_get, inr, refl, sym, ap}
-use Rattle.std.proofs.lemmas.Option.{none-some, same_Some}
-use Rattle.rmm_spec.specs.World.{World, Between}
+use Rattle.world.proofs.Common.{◌∷◌, ◌≡◌, List, None, Some, World, [], ap, drop, inr, none-some, refl, same_Some, slice_get, suc, sym, zero, ℕ}
+use Rattle.rmm_spec.specs.World.{Between}
 use Rattle.rmm_spec.specs.declared.turn.Will.TheVariants.{Go}
 use Rattle.rmm_spec.specs.Waits.{IsIdle}
 

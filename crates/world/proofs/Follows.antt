@@ -1,22 +1,18 @@
 -- What is recorded next can be, wherever turns lead.
-use Rattle.std.proofs.Common.{◌≡◌, ℕ, zero, suc, ◌+◌, ◌<◌, ◌≤◌, false, true, List, [], ◌∷◌, ◌++◌, length, Option, Some, slice_get, refl, subst, arith}
+use Rattle.world.proofs.Common.{◌++◌, ◌+◌, ◌<◌, ◌∷◌, ◌≡◌, Command, Config, Decided, IsReached, List, Option, Reply, Some, World, [], arith, false, false≢true, length, refl, slice_get, subst, suc, true, views_of, world_from, world_with, zero, ℕ}
+use Rattle.std.proofs.Common.{◌≤◌}
 use Rattle.std.specs.List.{AllByRecursion}
 use Rattle.std.proofs.Math.Logic.{∥∥₁_elim}
 use Rattle.std.proofs.Props.{props}
-use Rattle.std.proofs.lemmas.Bool.{false≢true}
 use Rattle.std.proofs.lemmas.List.{length_push}
-use Rattle.rmm_spec.specs.declared.command.Command.{Command}
 use Rattle.rmm_spec.specs.declared.event.Event.{Event}
 use Rattle.rmm_spec.specs.declared.event.Event.TheVariants.{Called, Returned}
-use Rattle.rmm_spec.specs.declared.reply.Reply.{Reply}
 use Rattle.rmm_spec.specs.declared.reply.Reply.TheVariants.{Ok, Err, Misplaced}
 use Rattle.rmm_spec.specs.CommandText.{IsReply}
-use Rattle.rmm_spec.specs.HistoryText.{Config, IsConfig, IsEvent, IsRecord, CanFollow, cpu_of, subhistory_of}
-use Rattle.rmm_spec.specs.World.{World, Between, Decided}
+use Rattle.rmm_spec.specs.HistoryText.{IsConfig, IsEvent, IsRecord, CanFollow, cpu_of, subhistory_of}
+use Rattle.rmm_spec.specs.World.{Between}
 use Rattle.world.specs.declared.world.World as own
-use Rattle.world.specs.Cpus.{views_of}
-use Rattle.world.specs.Kept.{IsFit, IsReached}
-use Rattle.world.specs.Whole.{world_with, world_from}
+use Rattle.world.specs.Kept.{IsFit}
 use Rattle.world.proofs.Moves.{called, with_call, returned, with_return}
 use Rattle.world.proofs.Reached.{written-reached}
 
@@ -31,7 +27,8 @@ pub follows-reached : (config : Config) (events : List Event) (event : Event) (n
     → ∥ IsReached config next waits ∥₁ → CanFollow (record { config = config; events = events }) event × (length events + 1 < 1000000)
 follows-reached config events event next waits is_config same recorded single reached = ∥∥₁_elim reached single (λ r.
     let written = (written-reached config next waits is_config r).0 in
-    let all = subst (AllByRecursion (IsEvent config.cpus)) recorded (subst (λ (c : Config). AllByRecursion (IsEvent c.cpus) next.events) same written.events) in (
+    let all = subst (AllByRecursion (IsEvent config.cpus)) recorded
+    (subst (λ (c : Config). AllByRecursion (IsEvent c.cpus) next.events) same written.events) in (
       record {
         is_event = last-event config.cpus events event all;
         record_goes_on = subst (λ es. IsRecord (subhistory_of (cpu_of event) es)) recorded (written.records (cpu_of event));
@@ -57,7 +54,8 @@ module _ (s : own.World) (cpu number : ℕ) (is_config : IsConfig s.history.reco
       (hlevel props) (called s cpu within number command between first).kept.reached
 
   -- and a return
-  pub return-follows : (command : Command) (given : Reply) → (views_of s.cpus).phase cpu ≡ Decided number command given → (views_of s.cpus).taken cpu ≡ []
+  pub return-follows : (command : Command) (given : Reply)
+      → (views_of s.cpus).phase cpu ≡ Decided number command given → (views_of s.cpus).taken cpu ≡ []
       → CanFollow s.history.recorded (Returned cpu number given) × (length s.history.recorded.events + 1 < 1000000)
   return-follows command given decided none =
       let f = with_return s cpu within number given in

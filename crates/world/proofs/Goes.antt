@@ -1,29 +1,21 @@
 -- What a CPU's go reports, by how far it has come.
-use Rattle.std.proofs.Common.{◌≡◌, ℕ, zero, suc, ◌<◌, Bool, true, false, ◌==◌, if◌then◌else◌, List, [], ◌∷◌, length, vec_len, Some, None, slice_get, refl, sym, ap, ◌∙◌, subst, arith, eq-eqb}
-use Rattle.std.specs.Prelude.{Contains, nat_lt}
+use Rattle.world.proofs.Common.{◌<◌, ◌==◌, ◌∙◌, ◌∷◌, ◌≡◌, Bool, Command, Contains, Cpu, Decided, Deciding, Did, IsGoing, IsNext, List, None, Reply, Some, Take, World, [], ap, arith, call_of, eq-eqb, false, false≢true, held_cells, holder_of, if◌then◌else◌, length, none-some, refl, same_Some, slice_get, subst, suc, sym, true, vec_len, views_of, world_from, world_of, zero, ℕ}
+use Rattle.std.specs.Prelude.{nat_lt}
 use Rattle.std.specs.List.{list_any}
-use Rattle.std.proofs.lemmas.Bool.{false≢true, ltb-true, ltb-false}
-use Rattle.std.proofs.lemmas.Option.{none-some, same_Some, slice_get_past}
-use Rattle.rmm_spec.specs.declared.command.Command.{Command}
-use Rattle.rmm_spec.specs.declared.reply.Reply.{Reply}
-use Rattle.rmm_spec.specs.Call.{call_of}
+use Rattle.std.proofs.lemmas.Bool.{ltb-true, ltb-false}
+use Rattle.std.proofs.lemmas.Option.{slice_get_past}
 use Rattle.rmm_spec.specs.Lookup.{any_below, is_cpu}
-use Rattle.rmm_spec.specs.World.{World, Phase, Between, Deciding, Decided, GivenUp, Stopped, IsGoing, held_cells}
-use Rattle.rmm_spec.specs.Waits.{Did, Blocked, Idle}
+use Rattle.rmm_spec.specs.World.{Phase, Between, GivenUp, Stopped}
+use Rattle.rmm_spec.specs.Waits.{Blocked, Idle}
 use Rattle.rmm_spec.specs.Waits as turn
 use Rattle.spec_lemmas.proofs.Members.{Contains-nil}
 use Rattle.spec_lemmas.proofs.Placed.{any_below-from}
 use Rattle.command_core.specs.declared.next.Next.{Next}
-use Rattle.command_core.specs.declared.next.Next.TheVariants.{Take}
 use Rattle.command_core.specs.Next as plan
-use Rattle.world.specs.declared.cpus.Cpu.{Cpu}
 use Rattle.world.specs.declared.cpus.Cpus.{Cpus}
 use Rattle.world.specs.declared.world.World as own
-use Rattle.world.specs.Cpus.{views_of, is_decided, told}
-use Rattle.world.specs.Granules.{holder_of}
-use Rattle.world.specs.Next.{IsNext, next_in, next_for, is_taken, next_report, call_report, return_report, report_in, go_report}
-use Rattle.world.specs.Whole.{world_from}
-use Rattle.world.specs.World.{world_of}
+use Rattle.world.specs.Cpus.{is_decided, told}
+use Rattle.world.specs.Next.{next_in, next_for, is_taken, next_report, call_report, return_report, report_in, go_report}
 use Rattle.world.proofs.Calls.{no_first, first-and_others}
 use Rattle.world.proofs.Locked.{taken-contains, contains-taken}
 
@@ -114,7 +106,8 @@ taken-held s cpu granule held =
 -- ---- waits
 
 -- what a lock that comes next leads to
-pub take-report : (w : World) (granule : ℕ) (b : Bool) → is_taken w granule ≡ b → next_report w (Take granule) ≡ (if b then Blocked granule else Did turn.Take)
+pub take-report : (w : World) (granule : ℕ) (b : Bool)
+    → is_taken w granule ≡ b → next_report w (Take granule) ≡ (if b then Blocked granule else Did turn.Take)
 take-report w granule b is = ap (λ taken. if taken then Blocked granule else Did turn.Take) is
 
 -- where a plan is known, its report is
@@ -124,7 +117,8 @@ planned-report w cpu n is = by (w.phase cpu) is
   where
     by : (p : Phase) → next_in w.config (w.place cpu) (held_cells w cpu) p ≡ Some n → report_in w cpu p ≡ next_report w n
     by (Between number) next = absurd (none-some n next)
-    by (Deciding number command learnt) next = ap (next_report w) (same_Some (plan.next w.config (call_of command) (w.place cpu) learnt (held_cells w cpu)) n next)
+    by (Deciding number command learnt) next =
+        ap (next_report w) (same_Some (plan.next w.config (call_of command) (w.place cpu) learnt (held_cells w cpu)) n next)
     by (Decided number command given) next = absurd (none-some n next)
     by GivenUp next = absurd (none-some n next)
     by Stopped next = absurd (none-some n next)

@@ -1,24 +1,22 @@
 -- One cell more is lent, the others are as they were; and what is lent is given back.
-use Rattle.std.proofs.Common.{◌≡◌, ℕ, zero, suc, ◌+◌, ◌<◌, Bool, true, false, not, ◌==◌, if◌then◌else◌, List, [], ◌∷◌, ◌++◌, take, length, get_or, refl, sym, ap, ◌∙◌, subst, arith, slice_set, eq-eqb, eqb-true}
-use Rattle.std.specs.Prelude.{IsTrue, Contains}
+use Rattle.world.proofs.Common.{◌++◌, ◌+◌, ◌<◌, ◌==◌, ◌∙◌, ◌∷◌, ◌≡◌, Bool, Contains, IsTrue, List, [], ap, are_distinct, arith, cells_at, eq-eqb, false, get_or, if◌then◌else◌, length, put, put_all, refl, subst, suc, sym, take, true, zero, ℕ}
+use Rattle.std.proofs.Common.{not}
 use Rattle.std.specs.List.{list_any}
 use Rattle.std.proofs.lemmas.Bool.{and_parts, not-true}
-use Rattle.std.proofs.lemmas.List.{get_or-set_same, get_or-set_other, take_more}
+use Rattle.std.proofs.lemmas.List.{take_more}
 use Rattle.std.proofs.lemmas.List.Elements.{Contains-append_left, Contains-push}
 use Rattle.std.proofs.lemmas.List.Folds.{list_any_at}
 use Rattle.rmm_spec.specs.Cell as whole
-use Rattle.rmm_spec.specs.Cell.{put}
 use Rattle.lemmas.proofs.Elements.{map-push}
 use Rattle.lemmas.proofs.Tests.{both_ways}
-use Rattle.rmm_spec.specs.Local.{HeldCell, granules_held, put_all}
+use Rattle.rmm_spec.specs.Local.{HeldCell, granules_held}
 use Rattle.spec_lemmas.proofs.Maps.{put-other}
 use Rattle.world_laws.proofs.Locals.{put_all-agrees}
 use Rattle.spec_lemmas.proofs.Members.{Contains-nil, Contains-other, granules_held-cells_at}
 use Rattle.world_laws.proofs.Recorded.{Agrees-own}
 use Rattle.world_laws.specs.Replaced.{held_at}
-use Rattle.command_core.specs.Seen.{is_held, are_distinct}
+use Rattle.command_core.specs.Seen.{is_held}
 use Rattle.command_core.proofs.SeenCells.{held-contains}
-use Rattle.world.specs.Lent.{cells_at}
 
 -- a granule of a list without doubles isn't among those before it
 pub distinct-before : (gs : List ℕ) (i : ℕ) → i < length gs → IsTrue (are_distinct gs) → Contains (take i gs) (get_or gs i 0) → ⊥
@@ -37,9 +35,11 @@ pub kept-next : (gs : List ℕ) (i : ℕ) (start now : ℕ → whole.Cell) (cell
     → (x : ℕ) → (Contains (take (i + 1) gs) x → ⊥) → put now (get_or gs i 0) cell x ≡ start x
 kept-next gs i start now cell within kept x apart =
     let more = take_more gs i 0 within in
-    let others : Contains (take i gs) x → ⊥ = λ has. apart (subst (λ xs. Contains xs x) (sym more) (Contains-append_left (take i gs) (get_or gs i 0 ∷ []) x has)) in
+    let others : Contains (take i gs) x → ⊥ =
+    λ has. apart (subst (λ xs. Contains xs x) (sym more) (Contains-append_left (take i gs) (get_or gs i 0 ∷ []) x has)) in
     put-other now (get_or gs i 0) cell x
-    (λ same. apart (subst (λ xs. Contains xs x) (sym more) (subst (Contains (take i gs ++ get_or gs i 0 ∷ [])) (sym same) (Contains-push (take i gs) (get_or gs i 0)))))
+    (λ same. apart (subst (λ xs. Contains xs x) (sym more)
+    (subst (Contains (take i gs ++ get_or gs i 0 ∷ [])) (sym same) (Contains-push (take i gs) (get_or gs i 0)))))
     ∙ kept x others
 
 -- the cells lent so far, with that of the next granule
@@ -76,5 +76,6 @@ put_all-lent (h ∷ held) start now kept =
 pub put_all-given_back : (gs : List ℕ) (start now : ℕ → whole.Cell) → ((x : ℕ) → (Contains gs x → ⊥) → now x ≡ start x)
     → put_all now (cells_at start gs) ≡ start
 put_all-given_back gs start now kept =
-    put_all-lent (cells_at start gs) start now (subst (λ held. (x : ℕ) → (Contains held x → ⊥) → now x ≡ start x) (sym (granules_held-cells_at start gs)) kept)
+    put_all-lent (cells_at start gs) start now
+    (subst (λ held. (x : ℕ) → (Contains held x → ⊥) → now x ≡ start x) (sym (granules_held-cells_at start gs)) kept)
     ∙ put_all-agrees (cells_at start gs) start (Agrees-own start gs)

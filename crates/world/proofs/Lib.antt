@@ -1,3 +1,4 @@
+pub mod Common
 pub mod Listed
 pub mod Views
 pub mod Lending

@@ -1,22 +1,20 @@
 -- The journal as a certificate: the line of each commit, and that a certificate has room for it.
-use Rattle.std.proofs.Common.{◌≡◌, ℕ, zero, suc, ◌<◌, List, [], ◌∷◌, length, Option, Some, slice_get, map, take, ap, subst, arith}
+use Rattle.world.proofs.Common.{◌<◌, ◌∷◌, ◌≡◌, Config, IsReached, List, Option, Reply, Some, World, [], ap, arith, length, none-some, opening_world, same_Some, slice_get, subst, suc, take, zero, ℕ}
+use Rattle.std.proofs.Common.{map}
 use Rattle.std.specs.List.{AllByRecursion}
 use Rattle.std.proofs.Math.Logic.{∥∥₁_elim}
 use Rattle.std.proofs.Props.{props}
 use Rattle.std.proofs.lemmas.List.{length-map, length-take-le}
-use Rattle.std.proofs.lemmas.Option.{none-some, same_Some}
 use Rattle.rmm_spec.specs.declared.line.Line.{Line}
 use Rattle.rmm_spec.specs.declared.line.Line.TheVariants.{Keep, Unfinished}
-use Rattle.rmm_spec.specs.declared.reply.Reply.{Reply}
 use Rattle.rmm_spec.specs.declared.reply.Reply.TheVariants as reply
 use Rattle.rmm_spec.specs.CommandText.{IsReply}
-use Rattle.rmm_spec.specs.HistoryText.{Config, IsConfig}
+use Rattle.rmm_spec.specs.HistoryText.{IsConfig}
 use Rattle.rmm_spec.specs.CertificateText.{IsLine, IsCertificate}
 use Rattle.rmm_spec.specs.Linearization.{IsKnown}
-use Rattle.rmm_spec.specs.World.{World, Commitment, line_for, certificate_of, opening_world}
+use Rattle.rmm_spec.specs.World.{Commitment, line_for, certificate_of}
 use Rattle.world_laws.proofs.Turned.{moves_of_turns}
 use Rattle.world_laws.proofs.Recorded.{IsAccounted-HappenAll, IsAccounted-opening}
-use Rattle.world.specs.Kept.{IsReached}
 use Rattle.world.proofs.Reached.{written-reached}
 use Rattle.lemmas.proofs.Elements.{slice_get-map_to}
 
@@ -55,7 +53,8 @@ module _ (config : Config) (w : World) (waits : ℕ → Option ℕ) (reached : �
       (slice_get-map_to (line_for w.events) w.journal place c at)
 
   -- and the lines of the commits before it leave room for it
-  pub room-reached : (place : ℕ) (lines : List Line) → IsConfig config → place < length w.journal → lines ≡ map (line_for w.events) (take place w.journal)
+  pub room-reached : (place : ℕ) (lines : List Line)
+      → IsConfig config → place < length w.journal → lines ≡ map (line_for w.events) (take place w.journal)
       → length lines < 1000000
   room-reached place lines is_config within are =
       omega (

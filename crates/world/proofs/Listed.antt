@@ -1,14 +1,13 @@
 -- A list with an item for each granule, or for each CPU, is a map, and a write to it is a put.
-use Rattle.std.proofs.Common.{◌≡◌, ℕ, ◌*◌, ◌/◌, ◌%◌, ◌<◌, ◌==◌, nat_lt, Bool, true, false, if◌then◌else◌, ◌≢◌, List, length, Some, IsTrue, refl, ap, ◌∙◌, arith, slice_index_or, slice_set, slice_get, eqb-true}
+use Rattle.world.proofs.Common.{◌<◌, ◌==◌, ◌∙◌, ◌≡◌, Bool, Cpu, IsTrue, List, Some, ap, arith, eqb-true, false, if◌then◌else◌, length, put, refl, slice_get, true, ℕ}
+use Rattle.std.proofs.Common.{◌*◌, ◌/◌, ◌%◌, nat_lt, ◌≢◌, slice_index_or, slice_set}
 use Rattle.std.proofs.lemmas.Bool.{and_parts, ltb-true}
 use Rattle.std.proofs.lemmas.List.{get_or_default, get_or-set_same, get_or-set_other}
 use Rattle.rmm_spec.specs.Lookup.{is_granule}
-use Rattle.rmm_spec.specs.Cell.{put}
 use Rattle.lemmas.proofs.Tests.{both_ways, keys_apart}
 use Rattle.shape_laws.proofs.Slices.{slice_get-set_same, slice_get-set_other}
 use Rattle.world.specs.Granules.{item_at}
 use Rattle.world.specs.Cpus.{told, of_each}
-use Rattle.world.specs.declared.cpus.Cpu.{Cpu}
 
 -- ---- granules
 
@@ -55,7 +54,8 @@ item_at-granule items default read granules address place size granule at is_rea
 
 -- one CPU changes, seen at its own number and at another
 of_each-set_cases : {A : Type 0} → (tells : Cpu → A) (none : A) (list : List Cpu) (key : ℕ) (cpu : Cpu) (other : ℕ) (same : Bool) → key < length list
-    → (other == key) ≡ same → told tells none (slice_get (slice_set list key cpu) other) ≡ (if same then tells cpu else told tells none (slice_get list other))
+    → (other == key) ≡ same → told tells none (slice_get (slice_set list key cpu) other)
+    ≡ (if same then tells cpu else told tells none (slice_get list other))
 of_each-set_cases tells none list key cpu other true within same =
     ap (told tells none) (ap (slice_get (slice_set list key cpu)) (eqb-true other key same) ∙ slice_get-set_same list key cpu within)
 of_each-set_cases tells none list key cpu other false within apart =

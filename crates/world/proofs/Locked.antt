@@ -1,19 +1,17 @@
 -- Locks that are taken and freed: each still has for holder the CPU that has taken it.
-use Rattle.std.proofs.Common.{arith, ◌+◌, ◌<◌, take, length, get_or, ◌≡◌, ℕ, Bool, true, false, not, ◌&&◌, ◌||◌, ◌==◌, if◌then◌else◌, List, [], ◌∷◌, ◌++◌, Option, Some, None, refl, sym, ap, ◌∙◌, subst, eqb-true, eq-eqb}
-use Rattle.std.specs.Prelude.{IsTrue, Contains}
+use Rattle.world.proofs.Common.{◌++◌, ◌+◌, ◌<◌, ◌==◌, ◌∙◌, ◌∷◌, ◌≡◌, Bool, Contains, IsTrue, List, None, Option, Some, [], ap, are_distinct, arith, eq-eqb, eqb-true, false, false≢true, get_or, if◌then◌else◌, length, put, refl, subst, sym, take, true, ℕ}
+use Rattle.std.proofs.Common.{not, ◌&&◌, ◌||◌}
 use Rattle.std.specs.List.{All, AllByRecursion, list_all}
 use Rattle.std.proofs.lemmas.List.Elements.{All-from_recursion, All-contains}
-use Rattle.std.proofs.lemmas.Bool.{false≢true, and_parts, and_from, not-true}
+use Rattle.std.proofs.lemmas.Bool.{and_parts, and_from, not-true}
 use Rattle.std.proofs.lemmas.Bool.Decides.{nat_tests}
 use Rattle.std.proofs.lemmas.List.{take_more}
 use Rattle.std.proofs.lemmas.List.Folds.{list_any-append, list_any_at}
 use Rattle.rmm_spec.specs.Lookup.{is_granule, is_cpu}
-use Rattle.rmm_spec.specs.Cell.{put}
 use Rattle.rmm_spec.specs.World.{without_granule}
 use Rattle.lemmas.proofs.Tests.{both_ways}
 use Rattle.spec_lemmas.proofs.Maps.{put_elim}
 use Rattle.spec_lemmas.proofs.Members.{Contains-head, Contains-tail}
-use Rattle.command_core.specs.Seen.{are_distinct}
 use Rattle.command_core.proofs.Distinct.{distinct-push}
 use Rattle.world.specs.Kept.{AreLocks, has_taken, freed_all}
 
@@ -45,15 +43,19 @@ and_false false c is = refl
 
 -- ---- freeing one
 
-has_taken-without : (taken : List ℕ) (granule other : ℕ) → has_taken (without_granule granule taken) other ≡ (not (other == granule) && has_taken taken other)
+has_taken-without : (taken : List ℕ) (granule other : ℕ)
+    → has_taken (without_granule granule taken) other ≡ (not (other == granule) && has_taken taken other)
 has_taken-without [] granule other = sym (and_false (not (other == granule)) false refl)
-has_taken-without (lock ∷ taken) granule other = by (lock == granule) (other == granule) (lock == other) refl refl refl (has_taken-without taken granule other)
+has_taken-without (lock ∷ taken) granule other =
+    by (lock == granule) (other == granule) (lock == other) refl refl refl (has_taken-without taken granule other)
   where
     by : (a b c : Bool) → (lock == granule) ≡ a → (other == granule) ≡ b → (lock == other) ≡ c
         → has_taken (without_granule granule taken) other ≡ (not (other == granule) && has_taken taken other)
-        → has_taken (if not a then lock ∷ without_granule granule taken else without_granule granule taken) other ≡ (not b && (c || has_taken taken other))
+        → has_taken (if not a then lock ∷ without_granule granule taken else without_granule granule taken) other
+        ≡ (not b && (c || has_taken taken other))
     by true true c first second third rest = rest ∙ rw second refl
-    by true false true first second third rest = both_ways (eq-eqb other granule (sym (eqb-true lock other third) ∙ eqb-true lock granule first)) second
+    by true false true first second third rest =
+        both_ways (eq-eqb other granule (sym (eqb-true lock other third) ∙ eqb-true lock granule first)) second
     by true false false first second third rest = rest ∙ rw second refl
     by false true true first second third rest = both_ways (eq-eqb lock granule (eqb-true lock other third ∙ eqb-true other granule second)) first
     by false true false first second third rest = rw third (rest ∙ rw second refl)
@@ -81,7 +83,8 @@ distinct-without (lock ∷ taken) granule distinct =
         → IsTrue (are_distinct (if not b then lock ∷ without_granule granule taken else without_granule granule taken))
     by true rest none = rest
     by false rest none =
-        let gone : has_taken (without_granule granule taken) lock ≡ false = has_taken-without taken granule lock ∙ and_false (not (lock == granule)) (has_taken taken lock) none in
+        let gone : has_taken (without_granule granule taken) lock ≡ false =
+        has_taken-without taken granule lock ∙ and_false (not (lock == granule)) (has_taken taken lock) none in
         and_from (not (has_taken (without_granule granule taken) lock)) (are_distinct (without_granule granule taken)) (ap not gone) rest
 
 -- ---- who holds what
@@ -89,7 +92,8 @@ distinct-without (lock ∷ taken) granule distinct =
 flipped : (a b : ℕ) → (a == b) ≡ false → (b == a) ≡ false
 flipped a b apart = grind (arith, nat_tests)
 
-list_all-push : (p : ℕ → Bool) (taken : List ℕ) (granule : ℕ) → IsTrue (list_all p taken) → IsTrue (p granule) → IsTrue (list_all p (taken ++ granule ∷ []))
+list_all-push : (p : ℕ → Bool) (taken : List ℕ) (granule : ℕ)
+    → IsTrue (list_all p taken) → IsTrue (p granule) → IsTrue (list_all p (taken ++ granule ∷ []))
 list_all-push p [] granule all here = and_from (p granule) true here refl
 list_all-push p (lock ∷ taken) granule all here =
     let parts = and_parts (p lock) (list_all p taken) all in
@@ -104,7 +108,8 @@ AreLocks-taken granules taken holder cpu granule is free locks = record {
   within = λ other. put_elim (λ held. IsTrue (list_all (is_granule granules) held)) taken cpu (taken cpu ++ granule ∷ []) other
       (λ same. list_all-push (is_granule granules) (taken cpu) granule (locks.within cpu) is) (λ apart. locks.within other);
   distinct = λ other. put_elim (λ held. IsTrue (are_distinct held)) taken cpu (taken cpu ++ granule ∷ []) other
-      (λ same. distinct-push (taken cpu) granule (locks.distinct cpu) (locks.held cpu granule ∙ ap (is_cpu cpu) free)) (λ apart. locks.distinct other);
+      (λ same. distinct-push (taken cpu) granule (locks.distinct cpu) (locks.held cpu granule ∙ ap (is_cpu cpu) free))
+      (λ apart. locks.distinct other);
 }
   where
     pushed : (lock : ℕ) → has_taken (taken cpu ++ granule ∷ []) lock ≡ (has_taken (taken cpu) lock || (granule == lock || false))
@@ -137,7 +142,8 @@ AreLocks-freed granules taken holder cpu granule is locks = record {
         → has_taken (if a then without_granule granule (taken cpu) else taken other) lock ≡ is_cpu other (if b then None else holder lock)
     by other lock true true first second = has_taken-without (taken cpu) granule lock ∙ rw second refl
     by other lock true false first second =
-        has_taken-without (taken cpu) granule lock ∙ rw second (locks.held cpu lock) ∙ ap (λ c. is_cpu c (holder lock)) (sym (eqb-true other cpu first))
+        has_taken-without (taken cpu) granule lock ∙ rw second (locks.held cpu lock)
+        ∙ ap (λ c. is_cpu c (holder lock)) (sym (eqb-true other cpu first))
     by other lock false true first second =
         locks.held other lock ∙ ap (is_cpu other) (ap holder (eqb-true lock granule second) ∙ is) ∙ flipped other cpu first
     by other lock false false first second = locks.held other lock
@@ -200,6 +206,8 @@ locks-of_size size granules taken others sized same within =
     (All-from_recursion (λ lock. IsTrue (is_granule granules lock)) others (all_pass (is_granule granules) others within)))
 
 -- a lock that is taken is of a granule
-pub granule-taken : (size granules : ℕ) (taken : List ℕ) (lock : ℕ) → size ≡ granules → IsTrue (list_all (is_granule granules) taken) → Contains taken lock
+pub granule-taken : (size granules : ℕ) (taken : List ℕ) (lock : ℕ)
+    → size ≡ granules → IsTrue (list_all (is_granule granules) taken) → Contains taken lock
     → IsTrue (is_granule size lock)
-granule-taken size granules taken lock sized within has = All-contains (λ (x : ℕ). IsTrue (is_granule size x)) taken lock (locks-of_size size granules taken taken sized refl within) has
+granule-taken size granules taken lock sized within has =
+    All-contains (λ (x : ℕ). IsTrue (is_granule size x)) taken lock (locks-of_size size granules taken taken sized refl within) has

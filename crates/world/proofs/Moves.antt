@@ -1,39 +1,28 @@
 -- Each move is a turn, after which the world keeps what it kept.
-use Rattle.std.proofs.Common.{◌≡◌, ℕ, ◌+◌, ◌<◌, Bool, true, false, ◌==◌, if◌then◌else◌, List, [], ◌∷◌, ◌++◌, drop, slice_get, Option, Some, None, refl, sym, ap, ◌∙◌, subst, arith, eq-eqb}
-use Rattle.std.specs.Prelude.{Contains}
-use Rattle.std.proofs.lemmas.Option.{none-some, same_Some}
-use Rattle.rmm_spec.specs.declared.command.Command.{Command}
+use Rattle.world.proofs.Common.{◌++◌, ◌+◌, ◌<◌, ◌==◌, ◌∙◌, ◌∷◌, ◌≡◌, Bool, Command, Config, Contains, Decided, Deciding, Did, IsDeciding, IsNext, IsReached, List, None, Option, Reply, Some, Take, Turns, Views, Will, [], ap, arith, awaited, cells_of, drop, eq-eqb, false, holder_of, if◌then◌else◌, is_deciding, none-some, put, put_all, refl, same_Some, side_of, slice_get, subst, sym, true, views_of, world_from, world_of, world_with, ℕ}
 use Rattle.rmm_spec.specs.declared.event.Event.TheVariants.{Called, Returned}
-use Rattle.rmm_spec.specs.declared.reply.Reply.{Reply}
-use Rattle.rmm_spec.specs.HistoryText.{Config, History}
+use Rattle.rmm_spec.specs.HistoryText.{History}
 use Rattle.rmm_spec.specs.Lookup.{is_cpu}
-use Rattle.rmm_spec.specs.Cell.{Cell, put}
+use Rattle.rmm_spec.specs.Cell.{Cell}
 use Rattle.rmm_spec.specs.Shape.{Side}
-use Rattle.rmm_spec.specs.Local.{put_all}
-use Rattle.rmm_spec.specs.World.{Phase, Between, Deciding, Decided, GivenUp, Stopped, Commitment, Move, mover, Happens, IsDeciding, MayLearn, phase_learnt, without_granule}
+use Rattle.rmm_spec.specs.World.{Phase, Between, GivenUp, Stopped, Commitment, Move, mover, Happens, MayLearn, phase_learnt, without_granule}
 use Rattle.rmm_spec.specs.World as move
 use Rattle.rmm_spec.specs.World.{hold_of as world_hold}
-use Rattle.rmm_spec.specs.declared.turn.Will.{Will}
 use Rattle.rmm_spec.specs.declared.turn.Will.TheVariants as wills
-use Rattle.rmm_spec.specs.Waits.{Report, Did, Blocked, Idle, Turns, IsIdle, IsRising, IsWilled, MayFree, awaited, kind_of}
+use Rattle.rmm_spec.specs.Waits.{Report, Blocked, Idle, IsIdle, IsRising, IsWilled, MayFree, kind_of}
 use Rattle.rmm_spec.specs.Waits as turn
 use Rattle.lemmas.proofs.Tests.{both_ways}
 use Rattle.spec_lemmas.proofs.Maps.{put_elim}
-use Rattle.command_core.specs.declared.next.Next.TheVariants.{Take}
-use Rattle.command_core.specs.Sides.{side_of}
 use Rattle.granule_cells.specs.declared.side.Side as own_side
 use Rattle.world.specs.declared.cells.Cells.{Cells}
 use Rattle.world.specs.declared.cpus.Cpus.{Cpus}
 use Rattle.world.specs.declared.locks.Locks.{Locks}
 use Rattle.world.specs.declared.world.World as own
-use Rattle.world.specs.Cpus.{Views, views_of, is_going, is_deciding}
-use Rattle.world.specs.Granules.{cells_of, holder_of}
-use Rattle.world.specs.Kept.{AreLocks, IsFit, AreFit, IsReached, IsTurn, calls_made, freed_all}
+use Rattle.world.specs.Cpus.{is_going}
+use Rattle.world.specs.Kept.{AreLocks, IsFit, AreFit, IsTurn, calls_made, freed_all}
 use Rattle.command_core.specs.Decided.{answer_on}
-use Rattle.world.specs.Next.{IsNext, next_for, AreNext, with_answer, committed_in, with_committed}
+use Rattle.world.specs.Next.{next_for, AreNext, with_answer, committed_in, with_committed}
 use Rattle.world.specs.Stepped.{MakesStep}
-use Rattle.world.specs.Whole.{world_with, world_from}
-use Rattle.world.specs.World.{world_of}
 use Rattle.world.proofs.Calls.{first-and_others}
 use Rattle.world.proofs.Phases.{going-true, deciding-true}
 use Rattle.world.proofs.Locked.{AreLocks-taken, AreLocks-freed, AreLocks-cleared, taken-contains, contains-taken, held_by}
@@ -47,7 +36,8 @@ use Rattle.world.proofs.Waiting.{HasOneHolder-locks, AreNext-turned}
 AreFit-phase : (phase : ℕ → Phase) (program : ℕ → List Command) (cpu : ℕ) (p : Phase) → IsFit p (program cpu) → AreFit phase program
     → AreFit (put phase cpu p) program
 AreFit-phase phase program cpu p here fit = record {
-  each = λ other. put_elim (λ q. IsFit q (program other)) phase cpu p other (λ same. subst (λ c. IsFit p (program c)) (sym same) here) (λ apart. fit.each other);
+  each = λ other. put_elim (λ q. IsFit q (program other)) phase cpu p other
+      (λ same. subst (λ c. IsFit p (program c)) (sym same) here) (λ apart. fit.each other);
 }
 
 -- and has called a command of its program
@@ -164,7 +154,8 @@ blocked s cpu granule other cpus next held is =
     let old = views_of s.cpus in
     let is_held = taken-contains (old.taken other) granule (s.kept.locked.held other granule ∙ ap (is_cpu other) held ∙ eq-eqb other other refl) in
     made s cpu wills.Go (Blocked granule) cpus s.history.recorded s.locks _ _ _ is refl refl
-    (turn-kept s cpu wills.Go (Blocked granule) (with_views s (record old { waits = put old.waits cpu (Some granule) }) s.history.recorded (holder_of s.locks))
+    (turn-kept s cpu wills.Go (Blocked granule)
+    (with_views s (record old { waits = put old.waits cpu (Some granule) }) s.history.recorded (holder_of s.locks))
     refl refl (λ wanted same. next-for (world_of s) cpu (Take granule) next ∙ ap (λ g. Some (Take g)) (same_Some granule wanted same))
     (record { other = other; waits = record { rising = rising; is_held = is_held } }, refl) s.kept.locked s.kept.fit)
 
@@ -197,7 +188,8 @@ module _ (s : own.World) (cpu : ℕ) (within : cpu < s.history.recorded.config.c
       let old = views_of s.cpus in
       let new : Views = record old { waits = put old.waits cpu None; taken = put old.taken cpu []; phase = put old.phase cpu GivenUp } in
       made s cpu wills.GiveUp (Did turn.GiveUp) cpus s.history.recorded locks _ _ _ is refl freed
-      (move-kept s cpu wills.GiveUp (move.GiveUp cpu) (with_views s new s.history.recorded (freed_all (old.taken cpu) (holder_of s.locks))) refl refl refl tt
+      (move-kept s cpu wills.GiveUp (move.GiveUp cpu)
+      (with_views s new s.history.recorded (freed_all (old.taken cpu) (holder_of s.locks))) refl refl refl tt
       (record { is_cpu = within; moves = record { deciding = deciding-true (world_of s) cpu (old.phase cpu) refl deciding; is_new = refl } })
       (AreLocks-cleared s.history.recorded.config.granules old.taken (holder_of s.locks) cpu s.kept.locked)
       (ended-fit old.phase old.program cpu GivenUp refl s.kept.fit))
@@ -216,12 +208,14 @@ module _ (s : own.World) (cpu : ℕ) (within : cpu < s.history.recorded.config.c
       let is_free : (other : ℕ) → Contains (old.taken other) granule → ⊥ =
       λ other has. both_ways (contains-taken (old.taken other) granule has) (s.kept.locked.held other granule ∙ ap (is_cpu other) free) in
       made s cpu wills.Go (Did turn.Take) cpus s.history.recorded locks _ _ _ is refl held
-      (move-kept s cpu wills.Go (move.Take cpu granule) (with_views s new s.history.recorded (put (holder_of s.locks) granule (Some cpu))) refl refl refl rising
+      (move-kept s cpu wills.Go (move.Take cpu granule)
+      (with_views s new s.history.recorded (put (holder_of s.locks) granule (Some cpu))) refl refl refl rising
       (record {
         is_cpu = within;
         moves = record { deciding = rising.deciding; is_lock = rising.rising.is_lock; is_free = is_free; is_new = refl };
       })
-      (AreLocks-taken s.history.recorded.config.granules old.taken (holder_of s.locks) cpu granule rising.rising.is_lock free s.kept.locked) s.kept.fit)
+      (AreLocks-taken s.history.recorded.config.granules old.taken
+      (holder_of s.locks) cpu granule rising.rising.is_lock free s.kept.locked) s.kept.fit)
 
   -- it frees a lock that it holds
   pub freed : (cpus : Cpus) (locks : Locks) (granule : ℕ) (learnt : Option ℕ) → Contains ((views_of s.cpus).taken cpu) granule
@@ -243,7 +237,8 @@ module _ (s : own.World) (cpu : ℕ) (within : cpu < s.history.recorded.config.c
       let mine : holder_of s.locks granule ≡ Some cpu =
       held_by cpu (holder_of s.locks granule) (sym (s.kept.locked.held cpu granule) ∙ contains-taken (old.taken cpu) granule has) in
       made s cpu wills.Go (Did turn.Free) cpus s.history.recorded locks _ _ _ is refl held
-      (move-kept s cpu wills.Go (move.Free cpu granule learnt) (with_views s new s.history.recorded (put (holder_of s.locks) granule None)) refl refl refl free
+      (move-kept s cpu wills.Go (move.Free cpu granule learnt)
+      (with_views s new s.history.recorded (put (holder_of s.locks) granule None)) refl refl refl free
       (record { is_cpu = within; moves = record { is_held = has; may_learn = may; is_new = refl } })
       (AreLocks-freed s.history.recorded.config.granules old.taken (holder_of s.locks) cpu granule mine s.kept.locked)
       (AreFit-phase old.phase old.program cpu (phase_learnt learnt (old.phase cpu))
@@ -302,7 +297,8 @@ module _ (s : own.World) (cpu : ℕ) (within : cpu < s.history.recorded.config.c
       (opened command : Command) (learnt : Option ℕ) (given : Reply) → config ≡ s.history.recorded.config
       → (views_of s.cpus).phase cpu ≡ Deciding number opened learnt → command ≡ opened
       → MakesStep config cpu command given (cells_of s.cells) (cells_of cells) (side_of s.side) (side_of side) (views_of s.cpus) (views_of mid)
-      → views_of cpus ≡ record (views_of mid) { waits = put (views_of mid).waits cpu None; phase = put (views_of mid).phase cpu (Decided number command given) }
+      → views_of cpus
+      ≡ record (views_of mid) { waits = put (views_of mid).waits cpu None; phase = put (views_of mid).phase cpu (Decided number command given) }
       → reserved ≡ s.journal.items → entries ≡ reserved ++ record { cpu = cpu; number = number; command = command; given = given } ∷ []
       → IsTurnTo s cpu wills.Go (Did turn.Commit) (record {
         cells = cells_of cells;
@@ -313,10 +309,12 @@ module _ (s : own.World) (cpu : ℕ) (within : cpu < s.history.recorded.config.c
         holder = holder_of s.locks;
       }) × (world_with (cells_of cells) (side_of side) (views_of cpus) entries s.history.recorded ≡ with_committed (world_of s) cpu)
   unfolding world_of world_from with_committed
-  committed cells side mid cpus reserved entries config number opened command learnt given same_config was_open same made_step is kept_journal pushed =
+  committed cells side mid cpus reserved entries config number opened command
+      learnt given same_config was_open same made_step is kept_journal pushed =
       let old = views_of s.cpus in
       let is_open = was_open ∙ (λ i. Deciding number (sym same i) learnt) in
-      let step = subst (λ (c : Config). MakesStep c cpu command given (cells_of s.cells) (cells_of cells) (side_of s.side) (side_of side) old (views_of mid))
+      let step =
+      subst (λ (c : Config). MakesStep c cpu command given (cells_of s.cells) (cells_of cells) (side_of s.side) (side_of side) old (views_of mid))
       same_config made_step in
       let more = pushed ∙ ap (λ commits. commits ++ record { cpu = cpu; number = number; command = command; given = given } ∷ []) kept_journal in
       let f : Fields = record {
@@ -331,10 +329,18 @@ module _ (s : own.World) (cpu : ℕ) (within : cpu < s.history.recorded.config.c
         history = s.history.recorded;
         holder = holder_of s.locks;
       } in
-      let views = is ∙ ap (λ (v : Views). record v { waits = put v.waits cpu None; phase = put v.phase cpu (Decided number command given) }) step.has_views in
+      let views =
+      is ∙ ap (λ (v : Views). record v { waits = put v.waits cpu None; phase = put v.phase cpu (Decided number command given) }) step.has_views in
       let was : IsFit (Deciding number command learnt) (old.program cpu) = subst (λ p. IsFit p (old.program cpu)) is_open (s.kept.fit.each cpu) in
       let deciding : IsDeciding (world_of s) cpu = record { number = number; command = command; learnt = learnt; is_deciding = is_open } in
-      let same_fields : record { cells = cells_of cells; side = side_of side; views = views_of cpus; journal = entries; history = s.history.recorded; holder = holder_of s.locks } ≡ f = λ i. record {
+      let same_fields : record {
+        cells = cells_of cells;
+        side = side_of side;
+        views = views_of cpus;
+        journal = entries;
+        history = s.history.recorded;
+        holder = holder_of s.locks;
+      } ≡ f = λ i. record {
         cells = step.has_cells i;
         side = step.has_side i;
         views = views i;

@@ -1,22 +1,19 @@
 -- A world that is opened: its CPUs have their whole programs before them, and all is kept.
-use Rattle.std.proofs.Common.{◌≡◌, ℕ, zero, suc, ◌+◌, ◌<◌, ◌≤◌, Bool, true, false, ◌==◌, List, [], ◌∷◌, ◌++◌, length, Option, None, drop, nat_lt, refl, sym, ap, ◌∙◌, subst, arith, eqb-true, eq-eqb}
+use Rattle.world.proofs.Common.{◌++◌, ◌+◌, ◌<◌, ◌==◌, ◌∙◌, ◌∷◌, ◌≡◌, Bool, Command, Config, Cpu, IsReached, List, None, Option, Views, World, [], ap, arith, drop, eq-eqb, eqb-true, false, false≢true, length, none-some, opening_world, phase_in, place_of, refl, subst, suc, sym, true, world_with, zero, ℕ}
+use Rattle.std.proofs.Common.{◌≤◌, nat_lt}
 use Rattle.std.specs.Prelude.{Vec}
 use Rattle.std.specs.declared.alloc.Global.{Global}
-use Rattle.std.proofs.lemmas.Bool.{false≢true, ltb-true, ltb-false}
-use Rattle.std.proofs.lemmas.Option.{none-some, slice_get_past}
-use Rattle.rmm_spec.specs.declared.command.Command.{Command}
-use Rattle.rmm_spec.specs.HistoryText.{Config, History}
+use Rattle.std.proofs.lemmas.Bool.{ltb-true, ltb-false}
+use Rattle.std.proofs.lemmas.Option.{slice_get_past}
+use Rattle.rmm_spec.specs.HistoryText.{History}
 use Rattle.rmm_spec.specs.Cell.{Cell, Undelegated}
 use Rattle.rmm_spec.specs.Shape as shape
-use Rattle.rmm_spec.specs.World.{World, Between, Commitment, opening_world}
+use Rattle.rmm_spec.specs.World.{Between, Commitment}
 use Rattle.certified_laws.specs.Programs.{commands_below}
-use Rattle.command_core.specs.Seen.{place_of}
 use Rattle.granule_cells.specs.declared.cpu_place.CpuPlace.TheVariants.{Outside}
-use Rattle.world.specs.Cpus.{Views, views_at, of_each, phase_in}
-use Rattle.world.specs.Kept.{IsFit, IsReached, IsKept}
-use Rattle.world.specs.Whole.{world_with}
+use Rattle.world.specs.Cpus.{views_at, of_each}
+use Rattle.world.specs.Kept.{IsFit, IsKept}
 use Rattle.world.specs.Opening.{programs_of, opening_views, CanOpen}
-use Rattle.world.specs.declared.cpus.Cpu.{Cpu}
 use Rattle.world.specs.declared.phase.Phase.TheVariants as phase
 
 -- ---- CPUs
@@ -57,11 +54,14 @@ of_each-opened tells none of empty each (cpu ∷ list) (program ∷ programs) al
 of_each-opened tells none of empty each (cpu ∷ list) (program ∷ programs) all (suc key) =
     of_each-opened tells none of empty each list programs all.1 key
 
-pub views-opened : (list : List Cpu) (programs : List (Vec Command Global)) → AreOpened list programs → views_at list ≡ opening_views (programs_of programs)
+pub views-opened : (list : List Cpu) (programs : List (Vec Command Global))
+    → AreOpened list programs → views_at list ≡ opening_views (programs_of programs)
 views-opened list programs all = λ i. record {
   taken = λ key. of_each-opened (λ (c : Cpu). c.taken.items) [] (λ _. []) refl (λ cpu program is. is.taken) list programs all key i;
-  place = λ key. of_each-opened (λ (c : Cpu). place_of c.place) shape.Outside (λ _. shape.Outside) refl (λ cpu program is. ap place_of is.place) list programs all key i;
-  phase = λ key. of_each-opened (λ (c : Cpu). phase_in c.phase) (Between 0) (λ _. Between 0) refl (λ cpu program is. ap phase_in is.phase) list programs all key i;
+  place = λ key. of_each-opened (λ (c : Cpu). place_of c.place) shape.Outside
+      (λ _. shape.Outside) refl (λ cpu program is. ap place_of is.place) list programs all key i;
+  phase = λ key. of_each-opened (λ (c : Cpu). phase_in c.phase) (Between 0)
+      (λ _. Between 0) refl (λ cpu program is. ap phase_in is.phase) list programs all key i;
   program = λ key. of_each-opened (λ (c : Cpu). drop c.called c.program.items) [] (λ commands. commands) refl
       (λ cpu program is. ap (λ n. drop n cpu.program.items) is.called ∙ is.program) list programs all key i;
   waits = λ key. of_each-opened (λ (c : Cpu). c.waits) None (λ _. None) refl (λ cpu program is. is.waits) list programs all key i;
@@ -76,7 +76,8 @@ pub opened-world : (cells : ℕ → Cell) (side : shape.Side) (views : Views) (j
     → world_with cells side views journal history ≡ opening_world config programs
 unfolding opening_world
 opened-world cells side views journal history config programs is_cells is_vmids is_counts is_views is_journal is_history =
-    λ i. world_with (is_cells i) (record { vmids = λ vmid. is_vmids vmid i; rec_counts = λ rd. is_counts rd i }) (is_views i) (is_journal i) (is_history i)
+    λ i. world_with (is_cells i) (record { vmids = λ vmid. is_vmids vmid i; rec_counts = λ rd. is_counts rd i })
+    (is_views i) (is_journal i) (is_history i)
 
 -- ---- what is kept
 
@@ -95,7 +96,8 @@ commands_below-le (suc cpus) programs cpu within = by (cpu == cpus) refl (comman
         omega (arith, rest below)
 
 -- so it has a number for each
-opened-fit : (config : Config) (programs : List (Vec Command Global)) → CanOpen config programs → (cpu : ℕ) → IsFit (Between 0) (programs_of programs cpu)
+opened-fit : (config : Config) (programs : List (Vec Command Global)) → CanOpen config programs → (cpu : ℕ)
+    → IsFit (Between 0) (programs_of programs cpu)
 opened-fit config programs can cpu = record { numbered = by (nat_lt cpu config.cpus) refl }
   where
     by : (b : Bool) → nat_lt cpu config.cpus ≡ b → 0 + length (programs_of programs cpu) ≤ 499999

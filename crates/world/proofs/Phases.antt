@@ -1,8 +1,7 @@
 -- What the tests of a CPU's phase say.
-use Rattle.std.proofs.Common.{◌≡◌, ℕ, true, false, sym, ap, ◌∙◌}
-use Rattle.std.proofs.lemmas.Bool.{false≢true}
-use Rattle.rmm_spec.specs.World.{World, Phase, Between, Deciding, Decided, GivenUp, Stopped, IsGoing, IsDeciding}
-use Rattle.world.specs.Cpus.{is_going, is_deciding}
+use Rattle.world.proofs.Common.{◌∙◌, ◌≡◌, Decided, Deciding, IsDeciding, IsGoing, World, ap, false, false≢true, is_deciding, sym, true, ℕ}
+use Rattle.rmm_spec.specs.World.{Phase, Between, GivenUp, Stopped}
+use Rattle.world.specs.Cpus.{is_going}
 
 pub going-true : (p : Phase) → is_going p ≡ true → IsGoing p
 going-true (Between number) is = tt

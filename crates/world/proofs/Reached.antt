@@ -1,16 +1,13 @@
 -- Where turns lead: one turn more, and what all that they lead to keeps.
-use Rattle.std.proofs.Common.{◌≡◌, ℕ, List, [], ◌∷◌, ◌++◌, Option, None, refl, sym, ap, ◌∙◌, subst}
+use Rattle.world.proofs.Common.{◌++◌, ◌∙◌, ◌∷◌, ◌≡◌, Config, IsReached, List, None, Option, Turns, Will, World, [], ap, awaited, opening_world, put, refl, subst, sym, ℕ}
 use Rattle.std.proofs.Math.Logic.{∥∥₁_map}
-use Rattle.rmm_spec.specs.HistoryText.{Config, IsConfig, IsHistory}
+use Rattle.rmm_spec.specs.HistoryText.{IsConfig, IsHistory}
 use Rattle.rmm_spec.specs.CertificateText.{IsCertificate}
-use Rattle.rmm_spec.specs.Cell.{put}
-use Rattle.rmm_spec.specs.World.{World, opening_world, history_of, certificate_of}
-use Rattle.rmm_spec.specs.declared.turn.Will.{Will}
-use Rattle.rmm_spec.specs.Waits.{Report, Turns, Turn, TurnAll, awaited, waits_after}
+use Rattle.rmm_spec.specs.World.{history_of, certificate_of}
+use Rattle.rmm_spec.specs.Waits.{Report, Turn, TurnAll, waits_after}
 use Rattle.world_laws.proofs.Turned.{moves_of_turns}
 use Rattle.certified_laws.proofs.Room.{events-HappenAll}
 use Rattle.certified_laws.proofs.Passed.{texts-run}
-use Rattle.world.specs.Kept.{IsReached}
 
 TurnAll-push : (old : World) (turns : List Turn) (mid : World) (turn : Turn) (new : World) → TurnAll old turns mid
     → Turns mid turn.cpu turn.will turn.report new → TurnAll old (turns ++ turn ∷ []) new

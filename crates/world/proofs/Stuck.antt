@@ -1,18 +1,14 @@
 -- Where no CPU's go would make a move, each waits at a rising take, or has nothing to do.
-use Rattle.std.proofs.Common.{◌≡◌, ℕ, Bool, true, false, if◌then◌else◌, List, [], ◌∷◌, Option, Some, IsTrue, ◌⊎◌, inl, inr, refl, sym, ap, subst}
-use Rattle.std.specs.Prelude.{Contains}
-use Rattle.std.proofs.lemmas.Option.{none-some, same_Some}
-use Rattle.rmm_spec.specs.declared.command.Command.{Command}
-use Rattle.rmm_spec.specs.Call.{call_of}
-use Rattle.rmm_spec.specs.World.{World, Phase, Between, Deciding, Decided, GivenUp, Stopped, IsGoing, held_cells}
+use Rattle.world.proofs.Common.{◌∷◌, ◌≡◌, Bool, Command, Contains, Decided, Deciding, Did, IsGoing, IsTrue, List, Option, Ready, Some, Take, World, [], ap, are_distinct, awaited, call_of, false, held_cells, if◌then◌else◌, inl, inr, none-some, refl, same_Some, subst, sym, true, ℕ}
+use Rattle.std.proofs.Common.{◌⊎◌}
+use Rattle.rmm_spec.specs.World.{Phase, Between, GivenUp, Stopped}
 use Rattle.rmm_spec.specs.declared.turn.Will.TheVariants.{Go}
-use Rattle.rmm_spec.specs.Waits.{Did, Blocked, Idle, IsRising, IsIdle, AreRising, Wants, WaitsBy, IsStuck, awaited}
+use Rattle.rmm_spec.specs.Waits.{Blocked, Idle, IsRising, IsIdle, AreRising, Wants, WaitsBy, IsStuck}
 use Rattle.rmm_spec.specs.Waits as turn
 use Rattle.spec_lemmas.proofs.Members.{granules_held-cells_at}
 use Rattle.spec_lemmas.proofs.Placed.{passing_below}
 use Rattle.command_core.specs.declared.next.Next.{Next}
-use Rattle.command_core.specs.declared.next.Next.TheVariants.{Take, Free, Ready}
-use Rattle.command_core.specs.Seen.{are_distinct}
+use Rattle.command_core.specs.declared.next.Next.TheVariants.{Free}
 use Rattle.command_core.specs.Next as plan
 use Rattle.command_core.specs.Plan.{IsPlanned}
 use Rattle.command_core.proofs.Steps.{next-planned}
@@ -81,7 +77,8 @@ module _ (w : World) (holder waits : ℕ → Option ℕ) (kept : IsKept w holder
       let found = passing_below w.config.cpus (λ other. has_taken (w.taken other) granule) is in
       (found.0, taken-contains (w.taken found.0) granule found.2)
 
-  still-next : (cpu : ℕ) (n : Next) → awaited (next_report w n) ≡ blocking w cpu → IsNoMove (next_report w n) → (other : ℕ) × WaitsBy w (Wants (blocking w)) cpu other
+  still-next : (cpu : ℕ) (n : Next) → awaited (next_report w n) ≡ blocking w cpu
+      → IsNoMove (next_report w n) → (other : ℕ) × WaitsBy w (Wants (blocking w)) cpu other
   still-next cpu (Take lock) is still = by (is_taken w lock) refl is still
     where
       by : (b : Bool) → is_taken w lock ≡ b → awaited (if b then Blocked lock else Did turn.Take) ≡ blocking w cpu
@@ -108,7 +105,8 @@ module _ (w : World) (holder waits : ℕ → Option ℕ) (kept : IsKept w holder
       by : (p : Phase) → w.phase cpu ≡ p → IsNoMove (report_in w cpu p) → ((other : ℕ) × WaitsBy w (Wants (blocking w)) cpu other) ⊎ IsIdle w cpu Go
       by (Between number) at none = inr (done-still cpu number (w.program cpu) at refl none)
       by (Deciding number command learnt) at none =
-          inl (still-next cpu (plan.next w.config (call_of command) (w.place cpu) learnt (held_cells w cpu)) (ap (λ p. awaited (report_in w cpu p)) (sym at)) none)
+          inl (still-next cpu (plan.next w.config (call_of command) (w.place cpu) learnt (held_cells w cpu))
+          (ap (λ p. awaited (report_in w cpu p)) (sym at)) none)
       by (Decided number command given) at none = absurd (no_return_still (w.taken cpu) none)
       by GivenUp at none = inr (inl (λ going. subst IsGoing at going))
       by Stopped at none = inr (inl (λ going. subst IsGoing at going))

@@ -1,17 +1,13 @@
 -- What comes next for a CPU: the lock that it takes or frees.
-use Rattle.std.proofs.Common.{◌≡◌, ℕ, ◌<◌, Bool, true, false, ◌==◌, if◌then◌else◌, List, [], ◌∷◌, ◌++◌, ◌+◌, ◌-◌, length, vec_len, IsTrue, take, get_or, slice_get, arith, Option, Some, None, refl, sym, ap, ◌∙◌, subst, eqb-true}
-use Rattle.std.specs.Prelude.{Contains}
-use Rattle.std.proofs.lemmas.Bool.{false≢true}
-use Rattle.std.proofs.lemmas.Option.{none-some, same_Some, slice_get_within, get_or_from_slice_get, slice_get-get_or}
+use Rattle.world.proofs.Common.{◌++◌, ◌+◌, ◌<◌, ◌==◌, ◌∙◌, ◌∷◌, ◌≡◌, Bool, Command, Config, Contains, Decided, Deciding, IsNext, IsTrue, List, None, Option, Some, World, [], ap, arith, call_of, cells_at, eqb-true, false, false≢true, get_or, held_cells, if◌then◌else◌, is_deciding, length, none-some, phase_in, refl, same_Some, slice_get, subst, sym, take, true, vec_len, world_from, world_of, ℕ}
+use Rattle.std.proofs.Common.{◌-◌}
+use Rattle.std.proofs.lemmas.Option.{slice_get_within, get_or_from_slice_get, slice_get-get_or}
 use Rattle.std.proofs.lemmas.List.{length-map, take_all, take_more}
-use Rattle.rmm_spec.specs.HistoryText.{Config}
-use Rattle.rmm_spec.specs.declared.command.Command.{Command}
-use Rattle.rmm_spec.specs.Call.{call_of}
 use Rattle.rmm_spec.specs.Lookup.{is_granule}
 use Rattle.rmm_spec.specs.Cell.{Cell, Rec, rec_in}
 use Rattle.rmm_spec.specs.Shape.{CpuPlace}
 use Rattle.rmm_spec.specs.Local.{HeldCell}
-use Rattle.rmm_spec.specs.World.{World, Phase, Between, Deciding, Decided, GivenUp, Stopped, MayLearn, held_cells}
+use Rattle.rmm_spec.specs.World.{Phase, Between, GivenUp, Stopped, MayLearn}
 use Rattle.rmm_spec.specs.Waits.{IsRising, MayFree}
 use Rattle.spec_lemmas.proofs.Members.{granules_held-cells_at}
 use Rattle.command_core.specs.declared.next.Next.{Next}
@@ -23,11 +19,8 @@ use Rattle.command_core.specs.Plan.{LearnsOwner, IsPlanned, is_ready}
 use Rattle.world.specs.declared.phase.Phase as own
 use Rattle.world.specs.declared.world.World as world
 use Rattle.world.specs.declared.phase.Phase.TheVariants as phase
-use Rattle.world.specs.Cpus.{phase_in, is_deciding, is_decided}
-use Rattle.world.specs.Lent.{cells_at}
-use Rattle.world.specs.Next.{IsNext, next_in, next_for}
-use Rattle.world.specs.Whole.{world_from}
-use Rattle.world.specs.World.{world_of}
+use Rattle.world.specs.Cpus.{is_decided}
+use Rattle.world.specs.Next.{next_in, next_for}
 
 -- ---- what comes next
 
@@ -62,17 +55,24 @@ pub rising-next : (w : World) (cpu granule : ℕ) → IsNext w cpu (next.Take gr
 rising-next w cpu granule n = record { deciding = n.deciding; rising = n.planned }
 
 -- its lock has a place
-pub lock-next : (s : world.World) (cpu granule : ℕ) → IsNext (world_of s) cpu (next.Take granule) → IsTrue (is_granule (vec_len s.locks.holders) granule)
+pub lock-next : (s : world.World) (cpu granule : ℕ)
+    → IsNext (world_of s) cpu (next.Take granule) → IsTrue (is_granule (vec_len s.locks.holders) granule)
 unfolding world_of world_from
 lock-next s cpu granule n = subst (λ size. IsTrue (is_granule size granule)) (sym s.has_locks) (rising-next (world_of s) cpu granule n).rising.is_lock
 
 -- there is room for one more
 pub room-rising : (w : World) (cpu granule : ℕ) → IsRising w cpu granule → length (w.taken cpu) < 6
 room-rising w cpu granule rising =
-    omega (arith, rising.rising.room, ap length (granules_held-cells_at w.cells (w.taken cpu)), length-map (held_cells w cpu) (λ (h : HeldCell). h.granule))
+    omega (
+      arith,
+      rising.rising.room,
+      ap length (granules_held-cells_at w.cells (w.taken cpu)),
+      length-map (held_cells w cpu) (λ (h : HeldCell). h.granule),
+    )
 
 -- a cell that is found among those held is the world's
-found-cell : (cells : ℕ → Cell) (taken : List ℕ) (granule : ℕ) (cell : Cell) → cell_in granule (cells_at cells taken) ≡ Some cell → cells granule ≡ cell
+found-cell : (cells : ℕ → Cell) (taken : List ℕ) (granule : ℕ) (cell : Cell)
+    → cell_in granule (cells_at cells taken) ≡ Some cell → cells granule ≡ cell
 found-cell cells [] granule cell is = absurd (none-some cell is)
 found-cell cells (lock ∷ taken) granule cell is = by (lock == granule) refl (found-cell cells taken granule cell) is
   where
@@ -99,7 +99,8 @@ learnt-planned w cpu granule (Some rd) n =
       is_other = owner.is_other;
     }
 
-pub learnt-next : (w : World) (cpu granule : ℕ) (learnt : Option ℕ) → IsNext w cpu (next.Free granule learnt) → MayLearn w (w.phase cpu) granule learnt
+pub learnt-next : (w : World) (cpu granule : ℕ) (learnt : Option ℕ)
+    → IsNext w cpu (next.Free granule learnt) → MayLearn w (w.phase cpu) granule learnt
 learnt-next w cpu granule learnt n =
     subst (λ p. MayLearn w p granule learnt) (sym n.deciding.is_deciding) (learnt-planned w cpu granule learnt n)
 
@@ -130,7 +131,8 @@ nothing_learnt w (Decided number command given) granule = tt
 nothing_learnt w GivenUp granule = tt
 nothing_learnt w Stopped granule = tt
 
-pub free-last : (w : World) (cpu granule : ℕ) (p : Phase) (earlier : List ℕ) → is_decided p ≡ true → w.taken cpu ≡ earlier ++ granule ∷ [] → MayFree w cpu granule p
+pub free-last : (w : World) (cpu granule : ℕ) (p : Phase) (earlier : List ℕ)
+    → is_decided p ≡ true → w.taken cpu ≡ earlier ++ granule ∷ [] → MayFree w cpu granule p
 free-last w cpu granule (Between number) earlier decided is = absurd (false≢true decided)
 free-last w cpu granule (Deciding number command learnt) earlier decided is = absurd (false≢true decided)
 free-last w cpu granule (Decided number command given) earlier decided is = record { earlier = earlier; is_last = is }

@@ -1,21 +1,16 @@
 -- What a turn makes is one value.
-use Rattle.std.proofs.Common.{◌≡◌, ℕ, Bool, true, false, if◌then◌else◌, List, [], ◌∷◌, ◌++◌, Option, Some, None, inl, inr, refl, sym, ap, ◌∙◌, subst}
-use Rattle.rmm_spec.specs.declared.command.Command.{Command}
-use Rattle.rmm_spec.specs.declared.reply.Reply.{Reply}
-use Rattle.rmm_spec.specs.declared.turn.Will.{Will}
+use Rattle.world.proofs.Common.{◌++◌, ◌∙◌, ◌∷◌, ◌≡◌, Bool, Command, Decided, Deciding, Did, IsDeciding, IsGoing, List, None, Option, Ready, Reply, Some, Take, Turns, Will, World, [], ap, call_of, false, held_cells, if◌then◌else◌, inl, inr, put, refl, subst, sym, true, ℕ}
 use Rattle.rmm_spec.specs.declared.turn.Will.TheVariants as told
-use Rattle.rmm_spec.specs.Cell.{put}
-use Rattle.rmm_spec.specs.World.{World, Phase, Between, Deciding, Decided, GivenUp, Stopped, Move, mover, Moves, IsDeciding, IsGoing, MayLearn, held_cells}
+use Rattle.rmm_spec.specs.World.{Phase, Between, GivenUp, Stopped, Move, mover, Moves, MayLearn}
 use Rattle.rmm_spec.specs.World as move
-use Rattle.rmm_spec.specs.Waits.{Report, Did, Blocked, Idle, Turns, IsWilled, IsIdle, MayFree, awaited}
+use Rattle.rmm_spec.specs.Waits.{Report, Blocked, Idle, IsWilled, IsIdle, MayFree}
 use Rattle.rmm_spec.specs.Waits as turn
 use Rattle.command_core.specs.Next as plan
 use Rattle.command_core.specs.declared.next.Next.{Next}
-use Rattle.command_core.specs.declared.next.Next.TheVariants.{Take, Free, Ready}
+use Rattle.command_core.specs.declared.next.Next.TheVariants.{Free}
 use Rattle.world.specs.Next.{DoesNext, DoesPlanned, is_taken, next_report, go_report, with_freed, with_taken, call_report, return_report, report_in, IsNoMove}
 use Rattle.world.specs.TurnedWorld.{with_called, with_next, last_lock, with_returned, gone_in, given_up_in, stopped_in, turned_world}
 use Rattle.world.proofs.Goes.{next-report}
-use Rattle.rmm_spec.specs.Call.{call_of}
 
 -- ---- a go
 
@@ -61,7 +56,8 @@ module _ (old new : World) where
   gone-move (move.Take cpu granule) willed m planned = planned m.deciding
   gone-move (move.Free cpu granule learnt) willed m planned = by (old.phase cpu) refl willed m.may_learn
     where
-      unlearnt : (learnt : Option ℕ) (number : ℕ) (command : Command) (given : Reply) → MayLearn old (Decided number command given) granule learnt → learnt ≡ None
+      unlearnt : (learnt : Option ℕ) (number : ℕ) (command : Command) (given : Reply)
+          → MayLearn old (Decided number command given) granule learnt → learnt ≡ None
       unlearnt None number command given may = refl
       unlearnt (Some rd) number command given may = absurd may
 

@@ -1,12 +1,10 @@
 -- One CPU changed in a list of them is one put in what all of them tell.
-use Rattle.std.proofs.Common.{◌≡◌, ℕ, ◌<◌, [], List, length, vec_len, Some, None, get_or, slice_get, slice_set, sym, ap, ◌∙◌, drop}
+use Rattle.world.proofs.Common.{◌<◌, ◌∙◌, ◌≡◌, Cpu, List, None, Some, Views, [], ap, drop, get_or, length, phase_in, place_of, put, slice_get, sym, vec_len, ℕ}
+use Rattle.std.proofs.Common.{slice_set}
 use Rattle.std.proofs.lemmas.Option.{slice_get_within, slice_get_read}
 use Rattle.rmm_spec.specs.Shape.{Outside}
 use Rattle.rmm_spec.specs.World as world
-use Rattle.rmm_spec.specs.Cell.{put}
-use Rattle.command_core.specs.Seen.{place_of}
-use Rattle.world.specs.Cpus.{Views, views_at, phase_in, of_each}
-use Rattle.world.specs.declared.cpus.Cpu.{Cpu}
+use Rattle.world.specs.Cpus.{views_at, of_each}
 use Rattle.world.specs.declared.cpus.Cpus.{Cpus}
 use Rattle.world.proofs.Listed.{of_each-set, of_each-read}
 use Rattle.spec_lemmas.proofs.Maps.{put-same}
@@ -47,7 +45,8 @@ views-here list key cpu is = λ i. record {
 -- ---- a CPU that was read
 
 -- it is the list's
-there : (cpus : Cpus) (key : ℕ) (cpu : Cpu) → key < vec_len cpus.list → cpu ≡ get_or cpus.list.items key cpu → slice_get cpus.list.items key ≡ Some cpu
+there : (cpus : Cpus) (key : ℕ) (cpu : Cpu)
+    → key < vec_len cpus.list → cpu ≡ get_or cpus.list.items key cpu → slice_get cpus.list.items key ≡ Some cpu
 there cpus key cpu within read = slice_get_read cpus.list.items cpus.list.len key cpu cpus.list.ok.0 within read
 
 -- it tells what all of them tell of it

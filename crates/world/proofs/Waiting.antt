@@ -1,15 +1,11 @@
 -- Each CPU that waits has a plan that takes that lock next, and what other CPUs do leaves it so.
-use Rattle.std.proofs.Common.{◌≡◌, ℕ, Option, Some, None, sym, ◌∙◌, subst}
-use Rattle.std.proofs.lemmas.Option.{none-some, same_Some}
-use Rattle.rmm_spec.specs.Cell.{put}
-use Rattle.rmm_spec.specs.World.{World, HasOneHolder}
-use Rattle.rmm_spec.specs.declared.turn.Will.{Will}
+use Rattle.world.proofs.Common.{◌∙◌, ◌≡◌, None, Option, Some, Take, Turns, Will, World, awaited, none-some, put, same_Some, subst, sym, ℕ}
+use Rattle.rmm_spec.specs.World.{HasOneHolder}
 use Rattle.rmm_spec.specs.declared.turn.Will.TheVariants as wills
-use Rattle.rmm_spec.specs.Waits.{Report, Turns, awaited}
+use Rattle.rmm_spec.specs.Waits.{Report}
 use Rattle.rmm_spec.specs.Waits as turn
 use Rattle.spec_lemmas.proofs.Maps.{put_elim}
 use Rattle.world_laws.proofs.Turned.{LeavesAlone, LeavesAlone-Moves}
-use Rattle.command_core.specs.declared.next.Next.TheVariants.{Take}
 use Rattle.world.specs.Kept.{AreLocks}
 use Rattle.world.specs.Next.{next_in, next_for, AreNext}
 use Rattle.world.proofs.Locked.{contains-taken, held_by}

@@ -18,7 +18,8 @@ pub record IsAnswered (config : Config) (cpu : ℕ) (command : Command) (given :
   pub is_changed : new ≡ hold_changed old (change_of (answer_on config cpu command old))
 
 -- a CPU makes a local step on the cells that it has taken, with that reply, and it is the answer's
-pub record MakesStep (config : Config) (cpu : ℕ) (command : Command) (given : Reply) (cells new_cells : ℕ → Cell) (side new_side : Side) (views new_views : Views) : Type 0 where
+pub record MakesStep (config : Config) (cpu : ℕ) (command : Command) (given : Reply)
+    (cells new_cells : ℕ → Cell) (side new_side : Side) (views new_views : Views) : Type 0 where
   pub held : Hold
   pub step : LocalStep config cpu command given (hold_of (cells_at cells (views.taken cpu)) side (views.place cpu)) held
   pub answered : IsAnswered config cpu command given (hold_of (cells_at cells (views.taken cpu)) side (views.place cpu)) held

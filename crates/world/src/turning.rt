@@ -51,7 +51,8 @@ impl World {
         requires { cpu < (world_of self.old).config.cpus }
         ensures turned { IfOk result (λ turned. Turns (world_of self.old) cpu Go (report_of turned) (world_of self.new)) }
         ensures waits { IfOk result (λ turned. waits_of self.new ≡ put (waits_of self.old) cpu (awaited (report_of turned))) }
-        ensures planned { IfOk result (λ turned. IsDeciding (world_of self.old) cpu → DoesPlanned (world_of self.old) cpu (report_of turned) (world_of self.new)) }
+        ensures planned { IfOk result (λ turned.
+            IsDeciding (world_of self.old) cpu → DoesPlanned (world_of self.old) cpu (report_of turned) (world_of self.new)) }
         ensures exact { IfOk result (λ turned. report_of turned ≡ go_report (world_of self.old) cpu) }
         ensures err { OnErr result (world_of self.new ≡ world_of self.old) }
         ensures err_waits { OnErr result (waits_of self.new ≡ waits_of self.old) }

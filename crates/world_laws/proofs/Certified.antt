@@ -43,7 +43,8 @@ any-from_IsReturned : (events : List Event) (place cpu number : ℕ) (given : Re
     → list_any (is_return_of cpu number) events ≡ true
 any-from_IsReturned [] place cpu number given is = absurd (none-some (Returned cpu number given) is)
 any-from_IsReturned (event ∷ events) zero cpu number given is =
-    let here : is_return_of cpu number event ≡ true = ap (is_return_of cpu number) (same_Some event (Returned cpu number given) is) ∙ is_return_of-same cpu number given in
+    let here : is_return_of cpu number event ≡ true =
+    ap (is_return_of cpu number) (same_Some event (Returned cpu number given) is) ∙ is_return_of-same cpu number given in
     rw here refl
 any-from_IsReturned (event ∷ events) (suc place) cpu number given is =
     by (is_return_of cpu number event) (any-from_IsReturned events place cpu number given is)
@@ -118,7 +119,8 @@ IsReplyOf-line_for journal events commits i c is = by (list_any (is_return_of c.
     by true any =
         let finished = IsFinished-from_any events c.cpu c.number any in
         let of_return = commits.returned finished.0 c.cpu c.number finished.1 finished.2 in
-        let same : c ≡ of_return.1 = same_commit journal events commits i of_return.0 c of_return.1 is of_return.2 (sym of_return.3) (sym of_return.4) in
+        let same : c ≡ of_return.1 =
+        same_commit journal events commits i of_return.0 c of_return.1 is of_return.2 (sym of_return.3) (sym of_return.4) in
         let given : c.given ≡ finished.1 = ap (λ (e : Commitment). e.given) same ∙ of_return.5 in
         (finished.0, subst (λ r. IsReturned events finished.0 c.cpu c.number r) (sym given) finished.2)
     by false any = refl
@@ -153,7 +155,8 @@ IsNamed-commit journal events i c cpu number is same_cpu same_number = (
 )
 
 -- commits of the events, written as lines, are an order of them
-pub IsOrderOf-line_for : (journal : List Commitment) (events : List Event) → AreCommitsOf journal events → IsOrderOf events (map (line_for events) journal)
+pub IsOrderOf-line_for : (journal : List Commitment) (events : List Event)
+    → AreCommitsOf journal events → IsOrderOf events (map (line_for events) journal)
 IsOrderOf-line_for journal events commits = record {
   names = record {
     known = λ i line is.

@@ -58,7 +58,8 @@ module _ (w : World) (shaped : IsShapedWorld w) (locked : IsLocked w) (freed : H
   leads zero cpu other granule want holds enough =
       absurd (omega (arith, rank-bounded w shaped cpu granule (rising cpu granule want), enough))
   leads (suc fuel) cpu other granule want holds enough =
-      by (stuck other (locked.fits other granule holds)) (λ third next want_next holds_next enough_next. leads fuel other third next want_next holds_next enough_next)
+      by (stuck other (locked.fits other granule holds))
+      (λ third next want_next holds_next enough_next. leads fuel other third next want_next holds_next enough_next)
     where
       by : ((third : ℕ) × WaitsBy w wants other third) ⊎ IsIdle w other Go
           → ((third next : ℕ) (want_next : wants other next) → Contains (w.taken third) next
@@ -68,7 +69,8 @@ module _ (w : World) (shaped : IsShapedWorld w) (locked : IsLocked w) (freed : H
           let next = there.1.0 in
           let want_next = there.1.1 in
           let higher : rank w cpu granule (rising cpu granule want) < rank w other next (rising other next want_next) =
-          rank-rises w shaped locked cpu other granule next (record { rising = rising cpu granule want; is_held = holds }) (rising other next want_next) in
+          rank-rises w shaped locked cpu other granule next
+          (record { rising = rising cpu granule want; is_held = holds }) (rising other next want_next) in
           let on = rest there.0 next want_next there.1.2 (omega (arith, enough, higher)) in
           record { others = other ∷ on.others; last = on.last; chain = ((granule, want, holds), on.chain); is_stopped = on.is_stopped }
       by (inr idle) rest = record {

@@ -44,12 +44,14 @@ each-deciding taken phase cpu number command learnt held deciding each c =
     (λ same. subst (λ p. HoldsIn p held) (sym deciding ∙ ap phase (sym same)) tt) (λ apart. each c)
 
 -- a go frees in an open call alone
-freed-in : (w : World) (cpu granule : ℕ) (learnt : Option ℕ) (taken : List ℕ) (p : Phase) → MayFree w cpu granule p → HoldsIn (phase_learnt learnt p) taken
+freed-in : (w : World) (cpu granule : ℕ) (learnt : Option ℕ) (taken : List ℕ) (p : Phase)
+    → MayFree w cpu granule p → HoldsIn (phase_learnt learnt p) taken
 freed-in w cpu granule learnt taken (Deciding number command earlier) may = tt
 freed-in w cpu granule learnt taken (Decided number command given) may = tt
 freed-in w cpu granule learnt taken _ may = absurd may
 
-willed-freed : (w : World) (will : Will) (cpu granule : ℕ) (learnt : Option ℕ) → IsWilled w will (move.Free cpu granule learnt) → MayFree w cpu granule (w.phase cpu)
+willed-freed : (w : World) (will : Will) (cpu granule : ℕ) (learnt : Option ℕ)
+    → IsWilled w will (move.Free cpu granule learnt) → MayFree w cpu granule (w.phase cpu)
 willed-freed w told.Go cpu granule learnt willed = willed
 willed-freed w _ cpu granule learnt willed = absurd willed
 
@@ -68,7 +70,8 @@ HoldByPhase-Moves old will (move.Take cpu granule) new willed moves was = subst 
 })
 HoldByPhase-Moves old will (move.Free cpu granule learnt) new willed moves was = subst HoldByPhase (sym moves.is_new) (record {
   each = each-both old.taken old.phase cpu (phase_learnt learnt (old.phase cpu)) (without_granule granule (old.taken cpu))
-      (freed-in old cpu granule learnt (without_granule granule (old.taken cpu)) (old.phase cpu) (willed-freed old will cpu granule learnt willed)) was.each;
+      (freed-in old cpu granule learnt (without_granule granule (old.taken cpu))
+      (old.phase cpu) (willed-freed old will cpu granule learnt willed)) was.each;
 })
 HoldByPhase-Moves old will (move.Commit cpu given held) new willed moves was = subst HoldByPhase (sym moves.is_new) (record {
   each = each-phase old.taken old.phase cpu (Decided moves.deciding.number moves.deciding.command given) tt was.each;
@@ -83,7 +86,8 @@ HoldByPhase-Moves old will (move.Stop cpu) new willed moves was = subst HoldByPh
   each = each-phase old.taken old.phase cpu Stopped tt was.each;
 })
 
-HoldByPhase-Turns : (old : World) (cpu : ℕ) (will : Will) (report : Report) (new : World) → Turns old cpu will report new → HoldByPhase old → HoldByPhase new
+HoldByPhase-Turns : (old : World) (cpu : ℕ) (will : Will) (report : Report) (new : World)
+    → Turns old cpu will report new → HoldByPhase old → HoldByPhase new
 HoldByPhase-Turns old cpu will (turn.Did kind) new turned was = HoldByPhase-Moves old will turned.move new turned.is_willed turned.happens.moves was
 HoldByPhase-Turns old cpu will turn.Idle new turned was = subst HoldByPhase (sym turned.1) was
 HoldByPhase-Turns old cpu told.Go (turn.Blocked wanted) new turned was = subst HoldByPhase (sym turned.1) was

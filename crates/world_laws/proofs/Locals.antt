@@ -11,7 +11,7 @@ use Rattle.rmm_spec.specs.Flat.{flat_state}
 use Rattle.rmm_spec.specs.Shape.{Side, CpuPlace, IsWellShaped}
 use Rattle.rmm_spec.specs.Local.{HeldCell, Hold, granules_held, Agrees, put_all, LocalStep}
 use Rattle.world_laws.specs.Replaced.{replaced_cells, replaced, replaced_all}
-use Rattle.spec_lemmas.proofs.Maps.{put_elim, put-same}
+use Rattle.spec_lemmas.proofs.Maps.{put-same}
 use Rattle.spec_lemmas.proofs.Members.{Contains-nil, Contains-other, Contains-head, Contains-tail}
 use Rattle.lemmas.proofs.Tests.{keys_apart}
 
@@ -36,7 +36,8 @@ unchanged-is_local config cpu command given hold steps = record {
   right = λ cells places shaped agrees place.
       let kept = put_all-agrees hold.cells cells agrees in
       let kept_places = put-same places cpu hold.place place in (
-        subst (λ whole. Step (flat_state config cells) cpu command given (flat_state config whole)) (sym kept) (steps cells places shaped agrees place),
+        subst (λ whole. Step (flat_state config cells) cpu command given (flat_state config whole))
+            (sym kept) (steps cells places shaped agrees place),
         subst (λ whole. IsWellShaped config hold.side (put places cpu hold.place) whole) (sym kept)
             (subst (λ p. IsWellShaped config hold.side p cells) (sym kept_places) shaped),
       );
@@ -44,7 +45,8 @@ unchanged-is_local config cpu command given hold steps = record {
 
 -- ---- one cell
 
-granules_held-replaced_cells : (held : List HeldCell) (granule : ℕ) (cell : Cell) → granules_held (replaced_cells held granule cell) ≡ granules_held held
+granules_held-replaced_cells : (held : List HeldCell) (granule : ℕ) (cell : Cell)
+    → granules_held (replaced_cells held granule cell) ≡ granules_held held
 granules_held-replaced_cells [] granule cell = refl
 granules_held-replaced_cells (h ∷ held) granule cell = ap (λ rest. h.granule ∷ rest) (granules_held-replaced_cells held granule cell)
 
@@ -77,7 +79,8 @@ put_all-replaced (h ∷ held) cells granule cell agrees has = by (h.granule == g
         → (Contains (granules_held held) granule → put_all cells (replaced_cells held granule cell) ≡ put cells granule cell)
         → put_all (put cells h.granule (if b then cell else h.cell)) (replaced_cells held granule cell) ≡ put cells granule cell
     by true same rest =
-        ap (λ g. put_all (put cells g cell) (replaced_cells held granule cell)) (eqb-true h.granule granule same) ∙ put_all-changed held cells granule cell agrees.1
+        ap (λ g. put_all (put cells g cell) (replaced_cells held granule cell)) (eqb-true h.granule granule same)
+        ∙ put_all-changed held cells granule cell agrees.1
     by false apart rest =
         ap (λ whole. put_all whole (replaced_cells held granule cell)) (put-same cells h.granule h.cell agrees.0) ∙ rest (tail apart has)
 
@@ -134,7 +137,8 @@ put_all-over (h ∷ held) cells granule cell has =
         → put_all (put (put cells granule cell) h.granule h.cell) held ≡ put_all (put cells h.granule h.cell) held
     by true same rest =
         ap (λ whole. put_all whole held)
-        (subst (λ g. put (put cells g cell) h.granule h.cell ≡ put cells h.granule h.cell) (eqb-true h.granule granule same) (put-twice cells h.granule cell h.cell))
+        (subst (λ g. put (put cells g cell) h.granule h.cell ≡ put cells h.granule h.cell)
+        (eqb-true h.granule granule same) (put-twice cells h.granule cell h.cell))
     by false apart rest =
         ap (λ whole. put_all whole held) (put-swap cells granule h.granule cell h.cell (keys_apart h.granule granule apart))
         ∙ rest (Contains-other h.granule (granules_held held) granule (keys_apart h.granule granule apart) has)
@@ -162,10 +166,12 @@ put_all-replaced_all (h ∷ changes) held cells agrees within =
     let there = subst (λ gs. Contains gs h.granule) (sym granules) (within h (Contains-head h changes)) in
     sym (put_all-over (replaced_all now changes) cells h.granule h.cell there)
     ∙ put_all-replaced_all changes now (put cells h.granule h.cell) (Agrees-replaced_cells held cells h.granule h.cell agrees)
-    (λ x has. subst (λ gs. Contains gs x.granule) (sym (granules_held-replaced_cells held h.granule h.cell)) (within x (Contains-tail h changes x has)))
+    (λ x has. subst (λ gs. Contains gs x.granule)
+    (sym (granules_held-replaced_cells held h.granule h.cell)) (within x (Contains-tail h changes x has)))
 
 -- a step of every whole that agrees, which changes held cells alone, is a local step on whatever else is held
-pub step-is_local : (config : Config) (cpu : ℕ) (command : Command) (given : Reply) (old : Hold) (changes : List HeldCell) (side : Side) (place : CpuPlace)
+pub step-is_local : (config : Config) (cpu : ℕ) (command : Command) (given : Reply)
+    (old : Hold) (changes : List HeldCell) (side : Side) (place : CpuPlace)
     → ((h : HeldCell) → Contains changes h → Contains (granules_held old.cells) h.granule)
     → ((cells : ℕ → Cell) (places : ℕ → CpuPlace) → IsWellShaped config old.side places cells → Agrees cells old.cells → places cpu ≡ old.place
     → Step (flat_state config cells) cpu command given (flat_state config (put_all cells changes))

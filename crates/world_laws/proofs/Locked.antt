@@ -36,7 +36,8 @@ IsLocked-Takes old cpu granule new is_cpu locked takes = subst IsLocked (sym tak
 })
   where
     was : (c g : ℕ) → Contains (put old.taken cpu (old.taken cpu ++ granule ∷ []) c) g → Contains (old.taken c) g ⊎ ((c ≡ cpu) × (granule ≡ g))
-    was c g = put_elim (λ held. Contains held g → Contains (old.taken c) g ⊎ ((c ≡ cpu) × (granule ≡ g))) old.taken cpu (old.taken cpu ++ granule ∷ []) c
+    was c g =
+        put_elim (λ held. Contains held g → Contains (old.taken c) g ⊎ ((c ≡ cpu) × (granule ≡ g))) old.taken cpu (old.taken cpu ++ granule ∷ []) c
         (λ same has. mine same (Contains-push_cases (old.taken cpu) granule g has)) (λ apart has. inl has)
       where
         mine : c ≡ cpu → Contains (old.taken cpu) g ⊎ (granule ≡ g) → Contains (old.taken c) g ⊎ ((c ≡ cpu) × (granule ≡ g))

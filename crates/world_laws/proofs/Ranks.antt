@@ -63,7 +63,8 @@ named-no_part config names held wanted h wholes rising has is =
     let found = passing_member (λ (n : Needed). n.granule == h.granule) names is in
     let member = Contains-from_slice_get names found.0 found.1 found.2 in
     let needed_tag : tag_of h.cell ≡ found.1.tag = rising.tags h found.1 has member (eqb-true found.1.granule h.granule found.3) in
-    let whole = All-contains (λ (n : Needed). not (is_part_tag n.tag) ≡ true) names found.1 (AllPass-from_list_all (λ (n : Needed). not (is_part_tag n.tag)) names wholes) member in
+    let whole = All-contains (λ (n : Needed). not (is_part_tag n.tag) ≡ true) names found.1
+    (AllPass-from_list_all (λ (n : Needed). not (is_part_tag n.tag)) names wholes) member in
     ap is_part_tag needed_tag ∙ not-true (is_part_tag found.1.tag) whole
 
 -- ---- what a part is
@@ -120,9 +121,11 @@ part_kind config side places cells shaped g (Rtt table) part is names =
     by_entry i (Table below) at leads =
         let held = shaped.tables.links g i below table of_table at in
         let at_part : tables_of cells part ≡ Some held.table = ap (tables_of cells) (sym (eqb-true below part leads)) ∙ held.is_held in
-        child held.table (is_rtt (cells part) held.table at_part) (sym held.is_level) (level_within config side places cells shaped part held.table at_part)
+        child held.table (is_rtt (cells part) held.table at_part) (sym held.is_level)
+        (level_within config side places cells shaped part held.table at_part)
     by_entry i (Assigned ripas granule) at leads =
-        page (is_data_cell (cells part) (ap (λ x. is_data (cells x)) (sym (eqb-true granule part leads)) ∙ shaped.data_granules.named g i granule table ripas of_table at))
+        page (is_data_cell (cells part)
+        (ap (λ x. is_data (cells x)) (sym (eqb-true granule part leads)) ∙ shaped.data_granules.named g i granule table ripas of_table at))
     by_entry i (Unassigned ripas) at leads = absurd (false≢true leads)
     by_entry i _ at leads = absurd (false≢true leads)
 part_kind config side places cells shaped g Undelegated part is names = absurd (false≢true names)
@@ -172,7 +175,8 @@ held_kind w shaped cpu part by has names =
 -- a table that another CPU holds ranks below the part that this one waits for
 table_below : (w : World) (part next : ℕ) (by : Cell) (t : TableRecord) → w.cells part ≡ Rtt t → t.place.level ≤ 3
     → depth (w.cells part) ≤ depth by → PartKind w.cells by next → part_rank (w.cells part) < part_rank (w.cells next)
-table_below w part next by t e within deep (root u f top within_u) = let d : depth (w.cells part) ≡ suc t.place.level = ap depth e in absurd (omega arith)
+table_below w part next by t e within deep (root u f top within_u) =
+    let d : depth (w.cells part) ≡ suc t.place.level = ap depth e in absurd (omega arith)
 table_below w part next by t e within deep (child u f below within_u) =
     let d : depth (w.cells part) ≡ suc t.place.level = ap depth e in
     let here : part_rank (w.cells part) ≡ t.place.level = ap part_rank e in
@@ -266,7 +270,8 @@ rises w shaped locked cpu other wanted next names others wholes rising rising_th
     by_kind (page e) =
         absurd (false≢true (sym (rising_there.no_data (record { granule = wanted; cell = w.cells wanted }) has) ∙ ap is_data e))
     by_kind (aux rec e is_rec) =
-        let same = aux_held_by_one w shaped locked cpu other wanted next others wholes here.by here.is_held rec is_rec here.is_part e holds rising_there in
+        let same =
+        aux_held_by_one w shaped locked cpu other wanted next others wholes here.by here.is_held rec is_rec here.is_part e holds rising_there in
         absurd (holds_not w cpu wanted names rising (subst (λ k. Contains (w.taken k) wanted) (sym same) holds))
 
 -- along each wait the rank rises

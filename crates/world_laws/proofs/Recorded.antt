@@ -14,7 +14,7 @@ use Rattle.rmm_spec.specs.Linearization.{IsCalled, IsReturned, ReturnsBefore}
 use Rattle.rmm_spec.specs.Cell.{Cell, put}
 use Rattle.rmm_spec.specs.Flat.{flat_state}
 use Rattle.rmm_spec.specs.Local.{Hold, Agrees, put_all}
-use Rattle.rmm_spec.specs.World.{World, Phase, Between, Deciding, Decided, GivenUp, Stopped, Commitment, opening_world, held_cells, phase_learnt, without_granule, Move, Moves, Happens, HappenAll, IsShapedWorld, IsDeciding, Calls, Takes, Frees, Commits, GivesUp, Returns, Stops}
+use Rattle.rmm_spec.specs.World.{World, Phase, Between, Deciding, Decided, GivenUp, Stopped, Commitment, opening_world, phase_learnt, without_granule, Move, Moves, HappenAll, IsShapedWorld, Calls, Takes, Commits, Returns}
 use Rattle.rmm_spec.specs.World as world
 use Rattle.spec_lemmas.proofs.Maps.{put_elim}
 use Rattle.spec_lemmas.proofs.Opening.{flat_state-opening, IsShapedWorld-opening}
@@ -78,19 +78,24 @@ AtPhase-more _ cpu journal events event was = tt
 called-returned : (cpu number : ℕ) (command : Command) (other count : ℕ) (given : Reply) → Called cpu number command ≡ Returned other count given → ⊥
 called-returned cpu number command other count given same = cc
 
-called-cpu : (cpu number : ℕ) (command : Command) (other count : ℕ) (called : Command) → Called cpu number command ≡ Called other count called → cpu ≡ other
+called-cpu : (cpu number : ℕ) (command : Command) (other count : ℕ) (called : Command)
+    → Called cpu number command ≡ Called other count called → cpu ≡ other
 called-cpu cpu number command other count called same = cc
 
-called-number : (cpu number : ℕ) (command : Command) (other count : ℕ) (called : Command) → Called cpu number command ≡ Called other count called → number ≡ count
+called-number : (cpu number : ℕ) (command : Command) (other count : ℕ) (called : Command)
+    → Called cpu number command ≡ Called other count called → number ≡ count
 called-number cpu number command other count called same = cc
 
-returned-cpu : (cpu number : ℕ) (given : Reply) (other count : ℕ) (reply : Reply) → Returned cpu number given ≡ Returned other count reply → cpu ≡ other
+returned-cpu : (cpu number : ℕ) (given : Reply) (other count : ℕ) (reply : Reply)
+    → Returned cpu number given ≡ Returned other count reply → cpu ≡ other
 returned-cpu cpu number given other count reply same = cc
 
-returned-number : (cpu number : ℕ) (given : Reply) (other count : ℕ) (reply : Reply) → Returned cpu number given ≡ Returned other count reply → number ≡ count
+returned-number : (cpu number : ℕ) (given : Reply) (other count : ℕ) (reply : Reply)
+    → Returned cpu number given ≡ Returned other count reply → number ≡ count
 returned-number cpu number given other count reply same = cc
 
-returned-given : (cpu number : ℕ) (given : Reply) (other count : ℕ) (reply : Reply) → Returned cpu number given ≡ Returned other count reply → given ≡ reply
+returned-given : (cpu number : ℕ) (given : Reply) (other count : ℕ) (reply : Reply)
+    → Returned cpu number given ≡ Returned other count reply → given ≡ reply
 returned-given cpu number given other count reply same = cc
 
 -- after a call, a return is one of the earlier events
@@ -99,7 +104,8 @@ return_before_call : (events : List Event) (cpu number : ℕ) (command : Command
 return_before_call events cpu number command place other count given is =
     earlier (slice_get-push_cases events (Called cpu number command) place (Returned other count given) is)
   where
-    earlier : (slice_get events place ≡ Some (Returned other count given)) ⊎ ((place ≡ length events) × (Called cpu number command ≡ Returned other count given))
+    earlier : (slice_get events place ≡ Some (Returned other count given))
+        ⊎ ((place ≡ length events) × (Called cpu number command ≡ Returned other count given))
         → slice_get events place ≡ Some (Returned other count given)
     earlier (inl was) = was
     earlier (inr last) = absurd (called-returned cpu number command other count given last.1)
@@ -155,7 +161,8 @@ AreRecorded-returned journal events cpu number given recorded has = record {
 }
   where
     known : (place other count : ℕ) (reply : Reply)
-        → (slice_get events place ≡ Some (Returned other count reply)) ⊎ ((place ≡ length events) × (Returned cpu number given ≡ Returned other count reply))
+        → (slice_get events place ≡ Some (Returned other count reply))
+        ⊎ ((place ≡ length events) × (Returned cpu number given ≡ Returned other count reply))
         → (i : ℕ) × (c : Commitment) × (slice_get journal i ≡ Some c) × (c.cpu ≡ other) × (c.number ≡ count) × (c.given ≡ reply)
     known place other count reply (inl was) = recorded.commits.returned place other count reply was
     known place other count reply (inr last) = (
@@ -345,9 +352,11 @@ IsAccounted-Calls old cpu new accounted calls =
     let fresh : AreBelow old.journal cpu calls.number = AtPhase-known old cpu (Between calls.number) accounted calls.is_between in
     subst IsAccounted (sym calls.is_new) (record {
       recorded = AreRecorded-called old.journal old.events cpu calls.number calls.command accounted.recorded fresh;
-      phases = phases-put old.phase cpu (Deciding calls.number calls.command None) old.journal (old.events ++ Called cpu calls.number calls.command ∷ [])
+      phases = phases-put old.phase cpu (Deciding calls.number calls.command None) old.journal
+          (old.events ++ Called cpu calls.number calls.command ∷ [])
           (fresh, (length old.events, slice_get-push old.events (Called cpu calls.number calls.command)))
-          (λ other apart. AtPhase-more (old.phase other) other old.journal old.events (Called cpu calls.number calls.command) (accounted.phases other));
+          (λ other apart. AtPhase-more (old.phase other) other old.journal old.events
+          (Called cpu calls.number calls.command) (accounted.phases other));
       run = accounted.run;
       shaped = accounted.shaped;
     })
@@ -382,7 +391,8 @@ IsAccounted-Commits old cpu given held new accounted commits =
       recorded = AreRecorded-committed old.journal old.events entry at_phase.1.0 accounted.recorded at_phase.0 at_phase.1.1;
       phases = phases-put old.phase cpu (Decided number command given) (old.journal ++ entry ∷ []) old.events
           (AtPhase-own old.journal entry old.events at_phase.0)
-          (λ other apart. AtPhase-other (old.phase other) other old.journal entry old.events (λ same. keys_apart other cpu apart (sym same)) (accounted.phases other));
+          (λ other apart. AtPhase-other (old.phase other) other old.journal entry old.events
+          (λ same. keys_apart other cpu apart (sym same)) (accounted.phases other));
       run = subst (λ entries. IsRun (opening old.config) entries (flat_state old.config (put_all old.cells held.cells)))
           (sym (map-push entry_of old.journal entry))
           (IsRun-push (opening old.config) (map entry_of old.journal) (flat_state old.config old.cells) (entry_of entry)
@@ -398,7 +408,8 @@ IsAccounted-Returns old cpu new accounted returns =
       recorded = AreRecorded-returned old.journal old.events cpu returns.number returns.given accounted.recorded at_phase.1;
       phases = phases-put old.phase cpu (Between (returns.number + 1)) old.journal (old.events ++ Returned cpu returns.number returns.given ∷ [])
           below
-          (λ other apart. AtPhase-more (old.phase other) other old.journal old.events (Returned cpu returns.number returns.given) (accounted.phases other));
+          (λ other apart. AtPhase-more (old.phase other) other old.journal old.events
+          (Returned cpu returns.number returns.given) (accounted.phases other));
       run = accounted.run;
       shaped = accounted.shaped;
     })

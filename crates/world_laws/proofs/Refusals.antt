@@ -48,7 +48,8 @@ decided-words (word ∷ words) rows accepted wrong = by word.allowed wrong (deci
     by false others later = (word.condition, refl)
 
 -- what the rows behind refuse as input is refused as input, whatever the words say
-decided-inputs : (words : List Word) (rows : List Row) (accepted : Accepted) → IsInputError (decided rows accepted) → IsInputError (decided (inputs words rows) accepted)
+decided-inputs : (words : List Word) (rows : List Row) (accepted : Accepted)
+    → IsInputError (decided rows accepted) → IsInputError (decided (inputs words rows) accepted)
 decided-inputs [] rows accepted refused = refused
 decided-inputs (word ∷ words) rows accepted refused = by word.allowed (decided-inputs words rows accepted refused)
   where
@@ -62,9 +63,11 @@ decided-tags : (s : State) (names : List Needed) (rows : List Row) (accepted : A
     → has_tag s n.granule n.tag ≡ false → IsInputError (decided (tagged s names rows) accepted)
 decided-tags s [] rows accepted i n is wrong = absurd (none-some n is)
 decided-tags s (first ∷ names) rows accepted zero n is wrong =
-    let same : has_tag s first.granule first.tag ≡ false = subst (λ (m : Needed). has_tag s m.granule m.tag ≡ false) (let e : n ≡ first = cc in e) wrong in
+    let same : has_tag s first.granule first.tag ≡ false =
+    subst (λ (m : Needed). has_tag s m.granule m.tag ≡ false) (let e : n ≡ first = cc in e) wrong in
     (GranState, rw same refl)
-decided-tags s (first ∷ names) rows accepted (suc i) n is wrong = by (has_tag s first.granule first.tag) (decided-tags s names rows accepted i n is wrong)
+decided-tags s (first ∷ names) rows accepted (suc i) n is wrong =
+    by (has_tag s first.granule first.tag) (decided-tags s names rows accepted i n is wrong)
   where
     by : (b : Bool) → IsInputError (decided (tagged s names rows) accepted)
         → IsInputError (if b then decided (tagged s names rows) accepted else Err (of.Input GranState))
@@ -76,7 +79,8 @@ pub data IsRefusedInFront (s : State) (c : Call) : Type 0 where
   by_words : all_allowed (words_of c) ≡ false → IsRefusedInFront s c
   by_tag : (i : ℕ) (n : Needed) → slice_get (named c) i ≡ Some n → has_tag s n.granule n.tag ≡ false → IsRefusedInFront s c
 
-pub decided-front : (s : State) (c : Call) (rows : List Row) (accepted : Accepted) → IsRefusedInFront s c → IsInputError (decided (with_front s c rows) accepted)
+pub decided-front : (s : State) (c : Call) (rows : List Row) (accepted : Accepted)
+    → IsRefusedInFront s c → IsInputError (decided (with_front s c rows) accepted)
 decided-front s c rows accepted (by_words wrong) = decided-words (words_of c) (tagged s (named c) rows) accepted wrong
 decided-front s c rows accepted (by_tag i n is wrong) =
     decided-inputs (words_of c) (tagged s (named c) rows) accepted (decided-tags s (named c) rows accepted i n is wrong)
@@ -88,19 +92,22 @@ answer_of-front s cpu c refused = let rest = behind s cpu c in subst IsInputErro
 -- ---- local steps
 
 -- what refuses gives that reply and changes nothing
-pub Step-refused : (s : State) (cpu : ℕ) (command : Command) (refusal : Refusal) → outcome s cpu (call_of command) ≡ Err refusal → Step s cpu command (reply_of refusal) s
+pub Step-refused : (s : State) (cpu : ℕ) (command : Command) (refusal : Refusal)
+    → outcome s cpu (call_of command) ≡ Err refusal → Step s cpu command (reply_of refusal) s
 Step-refused s cpu command refusal is = subst (λ o. CarriesOut o s (reply_of refusal) s) (sym is) (refl, refl)
 
 -- a host's command on a CPU that is outside is answered by its rows
 pub outcome-host : (config : Config) (side : Side) (places : ℕ → CpuPlace) (cells : ℕ → Cell) → IsWellShaped config side places cells
-    → (cpu : ℕ) (c : Call) → class_of c ≡ ByHost → places cpu ≡ Outside → outcome (flat_state config cells) cpu c ≡ answer_of (flat_state config cells) cpu c
+    → (cpu : ℕ) (c : Call) → class_of c ≡ ByHost → places cpu ≡ Outside
+    → outcome (flat_state config cells) cpu c ≡ answer_of (flat_state config cells) cpu c
 unfolding outcome
 outcome-host config side places cells shaped cpu c by_host place =
     let placed : is_placed (flat_state config cells) cpu (class_of c) ≡ true =
     ap (is_placed (flat_state config cells) cpu) by_host ∙ ap not (is_inside-outside config side places cells shaped cpu place) in
     rw placed refl
 
-pub outcome-misplaced : (s : State) (cpu : ℕ) (c : Call) → is_placed s cpu (class_of c) ≡ false → outcome s cpu c ≡ Err (of.Misplaced (misplacement (is_inside s cpu) (class_of c)))
+pub outcome-misplaced : (s : State) (cpu : ℕ) (c : Call)
+    → is_placed s cpu (class_of c) ≡ false → outcome s cpu c ≡ Err (of.Misplaced (misplacement (is_inside s cpu) (class_of c)))
 unfolding outcome
 outcome-misplaced s cpu c misplaced = rw misplaced refl
 
@@ -122,7 +129,8 @@ words-are_local config cpu command hold by_host outside wrong =
 has_tag-no_granule : (config : Config) (cells : ℕ → Cell) (n : Needed) → is_granule config.granules n.granule ≡ false
     → has_tag (flat_state config cells) n.granule n.tag ≡ false
 unfolding has_tag flat_state
-has_tag-no_granule config cells n wrong = and_left (is_granule config.granules n.granule) (tag_number (tag_of (cells n.granule)) == tag_number n.tag) wrong
+has_tag-no_granule config cells n wrong =
+    and_left (is_granule config.granules n.granule) (tag_number (tag_of (cells n.granule)) == tag_number n.tag) wrong
 
 -- nor has a granule a tag that its cell hasn't
 has_tag-other : (config : Config) (cells : ℕ → Cell) (n : Needed) (cell : Cell) → cells n.granule ≡ cell
@@ -132,11 +140,13 @@ has_tag-other config cells n cell there wrong =
     and_right (is_granule config.granules n.granule) (tag_number (tag_of (cells n.granule)) == tag_number n.tag)
     (ap (λ (c : Cell). tag_number (tag_of c) == tag_number n.tag) there ∙ wrong)
 
-pub addresses-are_local : (config : Config) (cpu : ℕ) (command : Command) (hold : Hold) (n : Needed) → class_of (call_of command) ≡ ByHost → hold.place ≡ Outside
+pub addresses-are_local : (config : Config) (cpu : ℕ) (command : Command) (hold : Hold) (n : Needed)
+    → class_of (call_of command) ≡ ByHost → hold.place ≡ Outside
     → Contains (named (call_of command)) n → is_granule config.granules n.granule ≡ false → LocalStep config cpu command input_error hold hold
 addresses-are_local config cpu command hold n by_host outside has wrong =
     let found = slice_get-from_Contains (named (call_of command)) n has in
-    refused_in_front-is_local config cpu command hold by_host outside (λ cells agrees. by_tag found.0 n found.1 (has_tag-no_granule config cells n wrong))
+    refused_in_front-is_local config cpu command hold by_host outside
+    (λ cells agrees. by_tag found.0 n found.1 (has_tag-no_granule config cells n wrong))
 
 pub tags-are_local : (config : Config) (cpu : ℕ) (command : Command) (hold : Hold) (h : HeldCell) (n : Needed) → class_of (call_of command) ≡ ByHost
     → hold.place ≡ Outside → Contains hold.cells h → Contains (named (call_of command)) n → n.granule ≡ h.granule
@@ -156,7 +166,8 @@ inside-is_local config cpu command hold rec rd by_host inside =
     (ap (is_placed s cpu) by_host ∙ ap not (is_inside-inside config hold.side places cells shaped cpu rec rd (place ∙ inside)))))
 
 -- a realm's call, and an exit, outside of RECs
-pub outside-is_local : (config : Config) (cpu : ℕ) (command : Command) (hold : Hold) → (class_of (call_of command) ≡ ByRealm) ⊎ (class_of (call_of command) ≡ ByExit)
+pub outside-is_local : (config : Config) (cpu : ℕ) (command : Command) (hold : Hold)
+    → (class_of (call_of command) ≡ ByRealm) ⊎ (class_of (call_of command) ≡ ByExit)
     → hold.place ≡ Outside → LocalStep config cpu command reply.Misplaced hold hold
 outside-is_local config cpu command hold not_host outside =
     unchanged-is_local config cpu command reply.Misplaced hold (λ cells places shaped agrees place.

@@ -45,7 +45,8 @@ abbrev seen : {A : Type 0} → (Cell → A) → (ℕ → Cell) → ℕ → A
 seen view cells address = view (cells address)
 
 -- a view that sees nothing of the cell before and after is the same
-view-kept : {A : Type 0} (view : Cell → A) (cells : ℕ → Cell) (granule : ℕ) (c : Cell) (nothing : A) → view (cells granule) ≡ nothing → view c ≡ nothing
+view-kept : {A : Type 0} (view : Cell → A) (cells : ℕ → Cell) (granule : ℕ) (c : Cell) (nothing : A)
+    → view (cells granule) ≡ nothing → view c ≡ nothing
     → seen view (put cells granule c) ≡ seen view cells
 view-kept {A} view cells granule c nothing before after = λ i address. each address i
   where
@@ -88,7 +89,8 @@ IsWellShaped-retagged config side places cells granule c is_lock before after sh
           (subst (λ auxes. AreRecCells places (realms_of cells) (recs_of cells) auxes) (sym kept.auxes) shaped.recs));
       outside = record {
         undelegated = λ address outside. put_elim (λ v. v ≡ Undelegated) cells granule c address
-            (λ same. absurd (false≢true (sym outside ∙ (ap (is_granule config.granules) same ∙ is_lock)))) (λ apart. shaped.outside.undelegated address outside);
+            (λ same. absurd (false≢true (sym outside ∙ (ap (is_granule config.granules) same ∙ is_lock))))
+            (λ apart. shaped.outside.undelegated address outside);
       };
     }
 
@@ -150,7 +152,8 @@ class_of-undelegate granule = refl
 granule_held : (held : List HeldCell) (granule : ℕ) (cell : Cell) → Contains held (held_at granule cell) → Contains (granules_held held) granule
 granule_held held granule cell has = Contains-map (λ (h : HeldCell). h.granule) held (held_at granule cell) has
 
-pub delegate-is_local : (config : Config) (cpu granule : ℕ) (command : Command) (hold : Hold) → call_of command ≡ GranuleDelegate granule → hold.place ≡ Outside
+pub delegate-is_local : (config : Config) (cpu granule : ℕ) (command : Command) (hold : Hold)
+    → call_of command ≡ GranuleDelegate granule → hold.place ≡ Outside
     → is_granule config.granules granule ≡ true → Contains hold.cells (held_at granule Undelegated)
     → LocalStep config cpu command (ok []) hold (replaced hold granule Delegated)
 delegate-is_local config cpu granule command hold is_call outside is_lock has =
@@ -165,7 +168,8 @@ delegate-is_local config cpu granule command hold is_call outside is_lock has =
       IsWellShaped-retagged config hold.side places cells granule Delegated is_lock blank IsBlank-Delegated shaped,
     ))
 
-pub undelegate-is_local : (config : Config) (cpu granule : ℕ) (command : Command) (hold : Hold) → call_of command ≡ GranuleUndelegate granule → hold.place ≡ Outside
+pub undelegate-is_local : (config : Config) (cpu granule : ℕ) (command : Command) (hold : Hold)
+    → call_of command ≡ GranuleUndelegate granule → hold.place ≡ Outside
     → is_granule config.granules granule ≡ true → Contains hold.cells (held_at granule Delegated)
     → LocalStep config cpu command (ok []) hold (replaced hold granule Undelegated)
 undelegate-is_local config cpu granule command hold is_call outside is_lock has =

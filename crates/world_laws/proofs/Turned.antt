@@ -25,7 +25,8 @@ pub record LeavesAlone (old new : World) (cpu : ℕ) : Type 0 where
   pub place : new.place cpu ≡ old.place cpu
   pub held : held_cells new cpu ≡ held_cells old cpu
 
-pub LeavesAlone-Moves : (old : World) (m : Move) (new : World) (cpu : ℕ) → HasOneHolder old → (cpu ≡ mover m → ⊥) → Moves old m new → LeavesAlone old new cpu
+pub LeavesAlone-Moves : (old : World) (m : Move) (new : World) (cpu : ℕ)
+    → HasOneHolder old → (cpu ≡ mover m → ⊥) → Moves old m new → LeavesAlone old new cpu
 LeavesAlone-Moves old (move.Call key) new cpu one apart moves = subst (λ w. LeavesAlone old w cpu) (sym moves.is_new) (record {
   config = refl;
   phase = put-other old.phase key (Deciding moves.number moves.command None) cpu apart;
@@ -78,7 +79,8 @@ IsRising-alone old new cpu granule alone was =
     let learnt = was.deciding.learnt in
     let command = was.deciding.command in
     let of_held = subst (λ held. IsRisingTake old.config (needs (old.place cpu) learnt (call_of command)) held granule) (sym alone.held) was.rising in
-    let of_place = subst (λ place. IsRisingTake old.config (needs place learnt (call_of command)) (held_cells new cpu) granule) (sym alone.place) of_held in
+    let of_place =
+    subst (λ place. IsRisingTake old.config (needs place learnt (call_of command)) (held_cells new cpu) granule) (sym alone.place) of_held in
     record {
       deciding = record { number = was.deciding.number; command = command; learnt = learnt; is_deciding = alone.phase ∙ was.deciding.is_deciding };
       rising = subst (λ (config : Config). IsRisingTake config (needs (new.place cpu) learnt (call_of command)) (held_cells new cpu) granule)
@@ -134,7 +136,8 @@ AreAtRisingTakes-TurnAll old (t ∷ turns) last waits locked turned was =
 -- who was blocked last still waits there
 pub KeepsWaiting-TurnAll : (old : World) (turns : List Turn) (last : World) → IsLocked old → TurnAll old turns last → KeepsWaiting turns last
 KeepsWaiting-TurnAll old turns last locked turned = λ cpu granule other is holds. record {
-  rising = (AreAtRisingTakes-TurnAll old turns last (λ _. None) locked turned (record { each = λ c g none. absurd (none-some g none) })).each cpu granule is;
+  rising = (AreAtRisingTakes-TurnAll old turns last (λ _. None) locked turned
+      (record { each = λ c g none. absurd (none-some g none) })).each cpu granule is;
   is_held = holds;
 }
 

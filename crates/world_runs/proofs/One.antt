@@ -70,7 +70,8 @@ one-world scenario w some played =
           ∙ ap (λ n. turned_all start (ring cpus n)) (omega (arith, played.within))
     ]
 
-pub one-text : (scenario : Scenario) (judged other : Verdict) (text second : List ℕ) → IsPrinted scenario judged text → IsPrinted scenario other second
+pub one-text : (scenario : Scenario) (judged other : Verdict) (text second : List ℕ)
+    → IsPrinted scenario judged text → IsPrinted scenario other second
     → (judged ≡ other) × (text ≡ second)
 one-text scenario judged other text second first again =
     let same = first.is_yes ∙ sym again.is_yes in

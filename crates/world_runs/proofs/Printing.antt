@@ -29,10 +29,13 @@ pub IsPlayed-from : (scenario : Scenario) (listed : List Due) (opened first w : 
 IsPlayed-from scenario listed opened first w is_opened is_listed few plays same round =
     let opening = opening_world scenario.config (program_of scenario) in
     let turns = take scenario.limit scenario.turns in
-    let size : first.config ≡ scenario.config = same ∙ ap (λ (v : World). v.config) is_opened ∙ config-opening scenario.config (program_of scenario) in
+    let size : first.config ≡ scenario.config =
+    same ∙ ap (λ (v : World). v.config) is_opened ∙ config-opening scenario.config (program_of scenario) in
     let count : length listed ≡ length turns = ap length is_listed in
-    let then : Plays first (ring scenario.config.cpus round.gone) w = subst (λ (c : Config). Plays first (ring c.cpus round.gone) w) size round.plays in
-    let start : Plays opening turns first = subst (λ (v : World). Plays v turns first) is_opened (subst (λ ts. Plays opened ts first) is_listed plays) in
+    let then : Plays first (ring scenario.config.cpus round.gone) w =
+    subst (λ (c : Config). Plays first (ring c.cpus round.gone) w) size round.plays in
+    let start : Plays opening turns first =
+    subst (λ (v : World). Plays v turns first) is_opened (subst (λ ts. Plays opened ts first) is_listed plays) in
     record {
       gone = round.gone;
       plays = Plays-append opening turns first (ring scenario.config.cpus round.gone) w start then;
@@ -47,7 +50,8 @@ IsPlayed-from scenario listed opened first w is_opened is_listed few plays same 
 
 -- the texts of what is played, and their verdict
 pub IsPrinted-from : (scenario : Scenario) (w : World) (history : History) (lines : List Line) (old new : List ℕ) (answer : Result Verdict AllocError)
-    → w ≡ played_world scenario → IsPlayed scenario w → IsLinearization (history_of w) (certificate_of w) → history ≡ history_of w → lines ≡ certificate_of w
+    → w ≡ played_world scenario → IsPlayed scenario w → IsLinearization (history_of w) (certificate_of w)
+    → history ≡ history_of w → lines ≡ certificate_of w
     → IfOk answer (λ judged. new ≡ old ++ run_text history lines judged)
     → IfOk answer (λ judged. (judged ≡ Yes (length lines)) ↔ IsLinearization history lines)
     → IfOk answer (λ judged. (text : List ℕ) × (new ≡ old ++ text) × IsPrinted scenario judged text)

@@ -25,14 +25,16 @@ pub programs_of-scenario : (scenario : Scenario) (programs : List (Vec Command G
     → programs_of programs ≡ program_of scenario
 programs_of-scenario scenario programs same = λ i cpu. (programs_at programs cpu ∙ ap (λ lists. get_or lists cpu []) same) i
 
-commands_at : (programs : List (List Command)) (cpu : ℕ) → AllByRecursion (AllByRecursion IsCommand) programs → AllByRecursion IsCommand (get_or programs cpu [])
+commands_at : (programs : List (List Command)) (cpu : ℕ)
+    → AllByRecursion (AllByRecursion IsCommand) programs → AllByRecursion IsCommand (get_or programs cpu [])
 commands_at [] zero all = tt
 commands_at [] (suc cpu) all = tt
 commands_at (program ∷ programs) zero all = all.0
 commands_at (program ∷ programs) (suc cpu) all = commands_at programs cpu all.1
 
 -- counted from the first program on
-below-first : (cpus : ℕ) (programs : ℕ → List Command) → commands_below (suc cpus) programs ≡ length (programs 0) + commands_below cpus (λ cpu. programs (suc cpu))
+below-first : (cpus : ℕ) (programs : ℕ → List Command)
+    → commands_below (suc cpus) programs ≡ length (programs 0) + commands_below cpus (λ cpu. programs (suc cpu))
 below-first zero programs = refl
 below-first (suc cpus) programs = let rest = below-first cpus programs in omega (arith, rest)
 

@@ -9,6 +9,7 @@ ghost use Rattle.world_runs.specs.Played.{IsPlayed, IsPrinted, played_world};
 /// A scenario has one run: turns that are played from it lead to one world, and what is printed is one text with one verdict.
 pub fn runs_are_one()
     ensures world { (scenario : Scenario) (w : World) → 0 < scenario.config.cpus → IsPlayed scenario w → w ≡ played_world scenario }
-    ensures text { (scenario : Scenario) (judged other : Verdict) (text second : List ℕ) → IsPrinted scenario judged text → IsPrinted scenario other second
+    ensures text { (scenario : Scenario) (judged other : Verdict) (text second : List ℕ)
+        → IsPrinted scenario judged text → IsPrinted scenario other second
         → (judged ≡ other) × (text ≡ second) }
 {}

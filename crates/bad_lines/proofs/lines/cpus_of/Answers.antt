@@ -27,12 +27,14 @@ pub returns-in-Some : goal.returns-in-Some
 returns-in-Some c = λ config h.
     let header = subst (λ ps. IsHeaderOf ps config) (sym c.of-parts.ensures) h in
     same_number c.next_part-granules.new.self c.number_below.new.parts c.in-Some.cpus config.cpus c.in-Some.ensures.found
-    (cpus_left c.of-parts.result c.next_part-format.new.self c.next_part-granules.new.self c.next_part-format.result c.next_part-granules.result config header
+    (cpus_left c.of-parts.result c.next_part-format.new.self c.next_part-granules.new.self
+    c.next_part-format.result c.next_part-granules.result config header
     c.next_part-format.ensures.next c.next_part-format.ensures.over c.next_part-granules.ensures.next c.next_part-granules.ensures.over)
 
 pub returns-in-None : goal.returns-in-None
 returns-in-None c = λ config h.
     let header = subst (λ ps. IsHeaderOf ps config) (sym c.of-parts.ensures) h in
     absurd (c.in-None.ensures.none config.cpus [] (omega (arith, h.0.most_cpus))
-    (cpus_left c.of-parts.result c.next_part-format.new.self c.next_part-granules.new.self c.next_part-format.result c.next_part-granules.result config header
+    (cpus_left c.of-parts.result c.next_part-format.new.self c.next_part-granules.new.self
+    c.next_part-format.result c.next_part-granules.result config header
     c.next_part-format.ensures.next c.next_part-format.ensures.over c.next_part-granules.ensures.next c.next_part-granules.ensures.over))

@@ -6,7 +6,9 @@ use Rattle.bad_lines.proofs.Grammars.{claim_same, nothing_told_same, told_same}
 use Rattle.bad_lines.proofs.lines.wrong_in_certificate_line.Goals as goal
 
 pub returns-clause-wrong : goal.returns-clause-wrong
-returns-clause-wrong c = told_same (GoesOn wanted.LineLetter) IsCertificateLine (parts_of c.args.line.now) c.wrong_part.result claim_same c.wrong_part.ensures.wrong
+returns-clause-wrong c =
+    told_same (GoesOn wanted.LineLetter) IsCertificateLine (parts_of c.args.line.now) c.wrong_part.result claim_same c.wrong_part.ensures.wrong
 
 pub returns-clause-none : goal.returns-clause-none
-returns-clause-none c = nothing_told_same (GoesOn wanted.LineLetter) IsCertificateLine (parts_of c.args.line.now) c.wrong_part.result claim_same c.wrong_part.ensures.none
+returns-clause-none c =
+    nothing_told_same (GoesOn wanted.LineLetter) IsCertificateLine (parts_of c.args.line.now) c.wrong_part.result claim_same c.wrong_part.ensures.none

@@ -42,7 +42,8 @@ pub loop-part-preserved : goal.loop-part-preserved
 loop-part-preserved c =
     let left = c.loop-part.invariant.left ∙ c.in-Some.ensures.next in
     let leads = c.in-Some-after.ensures.found in
-    let next = wanted_next c.args.start c.loop-part.wanted c.in-Some-after.next (parts_of c.args.line.now) c.loop-part.index (c.loop-part.index + 1) c.in-Some.part.now c.next_part.new.self
+    let next = wanted_next c.args.start c.loop-part.wanted c.in-Some-after.next
+    (parts_of c.args.line.now) c.loop-part.index (c.loop-part.index + 1) c.in-Some.part.now c.next_part.new.self
     c.loop-part.invariant.wanted left leads
     (λ other h. some_same other c.in-Some-after.next (sym (c.after.ensures.only other h) ∙ c.in-Some-after.is)) (add-one c.loop-part.index) in
     record { left = next.1; wanted = next.0 }
@@ -51,7 +52,8 @@ pub returns-then-may_end-clause-none : goal.returns-then-may_end-clause-none
 returns-then-may_end-clause-none c =
     let parts = parts_of c.args.line.now in
     let read = all_read parts c.loop-part.index c.loop-part.invariant.wanted.within (c.loop-part.invariant.left ∙ c.in_default.ensures.over) in
-    subst (GoesOn c.args.start) read.1 ((ends_at c.args.start c.loop-part.wanted parts c.loop-part.index c.loop-part.invariant.wanted).0 (c.if-may_end.ensures.0 refl))
+    subst (GoesOn c.args.start) read.1
+    ((ends_at c.args.start c.loop-part.wanted parts c.loop-part.index c.loop-part.invariant.wanted).0 (c.if-may_end.ensures.0 refl))
 
 pub returns-clause-wrong : goal.returns-clause-wrong
 returns-clause-wrong c =

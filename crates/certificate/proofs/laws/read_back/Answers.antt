@@ -6,7 +6,8 @@ use Rattle.certificate.proofs.laws.read_back.Goals as goal
 
 pub returns-in-Ok-clause-same : goal.returns-in-Ok-clause-same
 returns-in-Ok-clause-same c =
-    let written = IsCertificateText-written c.args.certificate.now.lines _ c.as_slice.result.now _ c.len-fact.ensures.well_formed c.as_slice.ensures.value
+    let written =
+    IsCertificateText-written c.args.certificate.now.lines _ c.as_slice.result.now _ c.len-fact.ensures.well_formed c.as_slice.ensures.value
     c.in_ok-write.ensures.ok c.new-text.ensures.items in
     same_certificate c.as_slice.result.now c.in-Ok.again.lines c.args.certificate.now.lines c.in-Ok.ensures.found written
 
@@ -17,7 +18,8 @@ returns-in_err-write-clause-refused c =
 
 pub returns-in-Err-NoMemory-clause-refused : goal.returns-in-Err-NoMemory-clause-refused
 returns-in-Err-NoMemory-clause-refused c =
-    let written = IsCertificateText-written c.args.certificate.now.lines _ c.as_slice.result.now _ c.len-fact.ensures.well_formed c.as_slice.ensures.value
+    let written =
+    IsCertificateText-written c.args.certificate.now.lines _ c.as_slice.result.now _ c.len-fact.ensures.well_formed c.as_slice.ensures.value
     c.in_ok-write.ensures.ok c.new-text.ensures.items in
     let fault = rw c.in-Err-NoMemory.field-0-is at c.in-Err-NoMemory.ensures.fault in
     let begun = some_text fault.0 c.as_slice.result.now fault.2.more fault.2.is_text fault.1 in
@@ -25,7 +27,8 @@ returns-in-Err-NoMemory-clause-refused c =
 
 pub unreachable-requires : goal.unreachable-requires
 unreachable-requires c =
-    let written = IsCertificateText-written c.args.certificate.now.lines _ c.as_slice.result.now _ c.len-fact.ensures.well_formed c.as_slice.ensures.value
+    let written =
+    IsCertificateText-written c.args.certificate.now.lines _ c.as_slice.result.now _ c.len-fact.ensures.well_formed c.as_slice.ensures.value
     c.in_ok-write.ensures.ok c.new-text.ensures.items in
     let bad = rw c.in-Err-BadLine.field-0-is at c.in-Err-BadLine.ensures.fault in
     not-IsBadLine-certificate c.as_slice.result.now c.in-Err-BadLine.field-0-0 (c.args.certificate.now.lines, written) bad

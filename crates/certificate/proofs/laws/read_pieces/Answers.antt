@@ -37,7 +37,8 @@ returns-in_err-finish-clause-fault c =
     subst (λ pieces. HasRead c.loop-piece.reader (flat_map bytes pieces) c.loop-piece.lines.lines)
     (take_all c.loop-piece.piece-index c.args.pieces.now (omega (arith, c.loop-piece-test.false))) c.loop-piece.invariant in
     rw (p.1, p.2)
-    (IsFaultOf-whole (flat_map bytes c.args.pieces.now) c.loop-piece.lines.lines c.loop-piece.reader c.in_err-finish.field-0.0 whole c.in_err-finish.ensures.bad)
+    (IsFaultOf-whole (flat_map bytes c.args.pieces.now)
+    c.loop-piece.lines.lines c.loop-piece.reader c.in_err-finish.field-0.0 whole c.in_err-finish.ensures.bad)
 
 pub returns-clause-found : goal.returns-clause-found
 returns-clause-found c =

@@ -6,7 +6,8 @@ use Rattle.certificate.proofs.laws.rewritten.Goals as goal
 pub returns-in_err-certificate-clause-outside : goal.returns-in_err-certificate-clause-outside
 returns-in_err-certificate-clause-outside c =
     let p = err_from_is_err_and c.from_residual.result c.from_residual.ensures.1 in
-    rw (p.1, p.2) (λ line is given. bad_line_outside c.args.text.now (Err c.in_err-certificate.field-0.0) line c.in_err-certificate.ensures.fault is given)
+    rw (p.1, p.2) (λ line is given. bad_line_outside c.args.text.now
+    (Err c.in_err-certificate.field-0.0) line c.in_err-certificate.ensures.fault is given)
 
 pub returns-in_err-write-clause-fault : goal.returns-in_err-write-clause-fault
 returns-in_err-write-clause-fault c =

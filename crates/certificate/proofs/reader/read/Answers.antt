@@ -12,7 +12,8 @@ pub returns-in_err-read_lines-clause-fault : goal.returns-in_err-read_lines-clau
 returns-in_err-read_lines-clause-fault c =
     let p = err_from_is_err_and c.from_residual.result c.from_residual.ensures.1 in
     let start = HasRead-new c.new-reader.result c.new-lines.result.lines c.new-reader.ensures c.new-lines.ensures in
-    rw (p.1, p.2) (subst (λ text. IsFaultOf text c.in_err-read_lines.field-0.0) (append-nil c.args.text.now) (c.in_err-read_lines.ensures.fault [] [] start))
+    rw (p.1, p.2) (subst (λ text. IsFaultOf text c.in_err-read_lines.field-0.0)
+    (append-nil c.args.text.now) (c.in_err-read_lines.ensures.fault [] [] start))
 
 pub returns-in_err-finish-clause-fault : goal.returns-in_err-finish-clause-fault
 returns-in_err-finish-clause-fault c =

@@ -8,7 +8,8 @@ pub returns-in_err-count-clause-fault : goal.returns-in_err-count-clause-fault
 returns-in_err-count-clause-fault c =
     let p = err_from_is_err_and c.from_residual.result c.from_residual.ensures.1 in
     rw (p.1, p.2) (λ text more read.
-    IsFaultOf-refused text c.args.piece.now c.loop-rest.rest.now more c.loop-rest.lines.lines c.loop-rest.reader c.next.new.self c.in_err-count.field-0.0
+    IsFaultOf-refused text c.args.piece.now c.loop-rest.rest.now more
+    c.loop-rest.lines.lines c.loop-rest.reader c.next.new.self c.in_err-count.field-0.0
     c.in_err-count.ensures.answered c.in_err-count.ensures.bad (c.loop-rest.invariant text read))
 
 pub append_told-requires : goal.append_told-requires

@@ -6,7 +6,8 @@ use Rattle.certificate.proofs.SpellingLemmas.{IsNoLine-head, IsNoUnfinished-lett
 use Rattle.certificate.proofs.spelled.claimed_from.Goals as goal
 
 pub returns-in_default-clause-none : goal.returns-in_default-clause-none
-returns-in_default-clause-none c = λ cpu number reply. IsNoLine-head _ (rw c.of-parts.ensures at c.in_default.ensures.none) (Unfinished cpu number reply)
+returns-in_default-clause-none c =
+    λ cpu number reply. IsNoLine-head _ (rw c.of-parts.ensures at c.in_default.ensures.none) (Unfinished cpu number reply)
 
 pub returns-in_default-letter-clause-none : goal.returns-in_default-letter-clause-none
 returns-in_default-letter-clause-none c =
@@ -24,5 +25,6 @@ pub returns-in-Ok-clause-found : goal.returns-in-Ok-clause-found
 returns-in-Ok-clause-found c =
     let cut = rw c.in-117.is at (sym c.of-parts.ensures ∙ c.in-Some.ensures.found) in
     rw c.to_reply.ensures
-    (IsLineOf-unfinished _ _ _ c.head_from.new.parts (reply_seen c.in-Ok.reply) cut c.in-Ok.ensures.found.1 c.in-Some.ensures.cpu c.in-Some.ensures.number
+    (IsLineOf-unfinished _ _ _ c.head_from.new.parts
+    (reply_seen c.in-Ok.reply) cut c.in-Ok.ensures.found.1 c.in-Some.ensures.cpu c.in-Some.ensures.number
     c.in-Ok.ensures.found.0)

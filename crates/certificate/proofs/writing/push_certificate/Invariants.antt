@@ -6,7 +6,8 @@ use Rattle.certificate.proofs.writing.push_certificate.Given as goal
 abbrev pub invariant-loop-i : goal.invariant-loop-i
 invariant-loop-i l = record {
   written : l.out.items ++ certificate_text (drop l.i l.certificate.lines) ≡ l.fn.out.items ++ certificate_text l.certificate.lines;
-  left : length l.out.items + length (certificate_text (drop l.i l.certificate.lines)) ≡ length l.fn.out.items + length (certificate_text l.certificate.lines);
+  left : length l.out.items + length (certificate_text (drop l.i l.certificate.lines))
+      ≡ length l.fn.out.items + length (certificate_text l.certificate.lines);
   kept : take (length l.fn.out.items) l.out.items ≡ l.fn.out.items;
   capacity : vec_capacity l.fn.out ≤ vec_capacity l.out;
 }

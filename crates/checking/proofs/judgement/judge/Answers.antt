@@ -7,7 +7,8 @@ returns-in-Ok g c =
     let read = c.in-Ok.ensures in
     let wrote = c.write_verdict.ensures in
     IsJudgement-written _ _ _ c.in-Ok.verdict c.write_verdict.result read.ends.0 read.ends.1 read.history_read read.certificate_read read.judged
-    read.history_failures read.certificate_failures wrote.same wrote.ok wrote.held wrote.torn wrote.full wrote.silent wrote.untouched wrote.failures wrote.faults
+    read.history_failures read.certificate_failures wrote.same wrote.ok wrote.held
+    wrote.torn wrote.full wrote.silent wrote.untouched wrote.failures wrote.faults
 
 pub returns-in-Err : goal.returns-in-Err
 returns-in-Err g c =

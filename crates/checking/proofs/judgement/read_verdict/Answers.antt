@@ -11,7 +11,8 @@ returns-in-Ok-clause-judged g c =
     let read = c.in_default.ensures.read in
     let taken = read.1.1.1 [] (subst (λ r. HasTaken r []) (sym c.new-reader.ensures) refl) in
     let found =
-    HasTaken-found c.read_history.new.taker.0 c.in-Ok.recorded.recorded read.0 c.finish.result _ c.in-Ok.is c.finish.ensures.failed c.in-Ok.ensures.found taken in
+    HasTaken-found c.read_history.new.taker.0 c.in-Ok.recorded.recorded read.0
+    c.finish.result _ c.in-Ok.is c.finish.ensures.failed c.in-Ok.ensures.found taken in
     IfOk-weaker c.judge_certificate.result _ _
     (λ verdict judged. record {
       history = read.0;
@@ -27,7 +28,8 @@ returns-in-Ok-clause-memory g c = λ same.
     let read = c.in_default.ensures.read in
     let taken = read.1.1.1 [] (subst (λ r. HasTaken r []) (sym c.new-reader.ensures) refl) in
     let found =
-    HasTaken-found c.read_history.new.taker.0 c.in-Ok.recorded.recorded read.0 c.finish.result _ c.in-Ok.is c.finish.ensures.failed c.in-Ok.ensures.found taken in
+    HasTaken-found c.read_history.new.taker.0 c.in-Ok.recorded.recorded read.0
+    c.finish.result _ c.in-Ok.is c.finish.ensures.failed c.in-Ok.ensures.found taken in
     certificate_refused _ _ c.in-Ok.recorded.recorded read.0 (record { given = read.1.0; whole = read.1.1.0 }) read.1.0 found
     (c.judge_certificate.ensures.memory same)
 
@@ -45,7 +47,8 @@ returns-in-Err-BadLine-clause-judged g c =
     let taken = read.1.1.1 [] (subst (λ r. HasTaken r []) (sym c.new-reader.ensures) refl) in
     let is_bad : c.finish.result ≡ Err (BadLine c.in-Err-BadLine.line) = cc in
     let bad =
-    HasTaken-fault c.read_history.new.taker.0 c.finish.result (BadLine c.in-Err-BadLine.line) read.0 is_bad c.finish.ensures.fault c.finish.ensures.failed taken in
+    HasTaken-fault c.read_history.new.taker.0 c.finish.result
+    (BadLine c.in-Err-BadLine.line) read.0 is_bad c.finish.ensures.fault c.finish.ensures.failed taken in
     bad_history_judged _ _ c.bad_history.result c.in-Err-BadLine.line read.0 (record { given = read.1.0; whole = read.1.1.0 }) bad
     (rw c.in-Err-BadLine.line-is at c.bad_history.ensures.told) c.bad_history.ensures.whole
 

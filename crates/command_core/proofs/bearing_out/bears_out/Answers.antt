@@ -1,8 +1,6 @@
-use Rattle.std.proofs.Common.{sym, ap, ◌∙◌}
+use Rattle.command_core.proofs.Common.{◌∙◌, ap, call_of, side_of, sym}
 use Rattle.std.specs.Cmp.Derive.{both_true}
-use Rattle.rmm_spec.specs.Call.{call_of}
 use Rattle.command_core.specs.Foreseen.{lists_none, has_count, change_of}
-use Rattle.command_core.specs.Sides.{side_of}
 use Rattle.command_core.proofs.Foreseen.{foreseen-decision}
 use Rattle.command_core.proofs.bearing_out.bears_out.Goals as goal
 

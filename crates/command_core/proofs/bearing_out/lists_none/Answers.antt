@@ -1,10 +1,9 @@
-use Rattle.std.proofs.Common.{◌≡◌, ℕ, List, true, refl}
+use Rattle.command_core.proofs.Common.{◌≡◌, List, refl, side_of, true, ℕ}
 use Rattle.rmm_spec.specs.declared.function_id.FunctionId.{FunctionId}
 use Rattle.rmm_spec.specs.declared.function_id.FunctionId.TheVariants as function
 use Rattle.rmm_spec.specs.Call.{call_from}
 use Rattle.rmm_spec.specs.Shape.{Side}
 use Rattle.command_core.specs.Foreseen.{lists_none}
-use Rattle.command_core.specs.Sides.{side_of}
 use Rattle.command_core.proofs.bearing_out.lists_none.Goals as goal
 
 unasked : (side : Side) (f : FunctionId) (words : List ℕ) → (f ≡ function.RealmCreate → ⊥) → (f ≡ function.RealmDestroy → ⊥)
@@ -15,4 +14,5 @@ unasked side function.RealmDestroy words created destroyed = absurd (destroyed r
 unasked side _ words created destroyed = refl
 
 pub returns-in_default : goal.returns-in_default
-returns-in_default c = unasked (side_of c.args.side.now) c.args.command.now.function c.args.command.now.words.items c.in_default.not-RealmCreate c.in_default.not-RealmDestroy
+returns-in_default c = unasked (side_of c.args.side.now)
+    c.args.command.now.function c.args.command.now.words.items c.in_default.not-RealmCreate c.in_default.not-RealmDestroy

@@ -1,6 +1,4 @@
-use Rattle.command_core.specs.Changed.{hold_of}
-use Rattle.command_core.specs.Seen.{place_of}
-use Rattle.command_core.specs.Sides.{side_of}
+use Rattle.command_core.proofs.Common.{hold_of, place_of, side_of}
 use Rattle.command_core.proofs.Foreseen.{settled-decision}
 use Rattle.command_core.proofs.deciding.answer.Goals as goal
 

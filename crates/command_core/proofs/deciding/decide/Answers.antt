@@ -1,10 +1,5 @@
-use Rattle.std.proofs.Common.{◌≡◌, Ok, Err, refl, sym, ap, ◌∙◌}
-use Rattle.rmm_spec.specs.declared.accepted.Accepted.TheVariants.{Done, Reaches}
+use Rattle.command_core.proofs.Common.{◌∙◌, ◌≡◌, Done, Err, Ok, Reaches, ap, hold_of, misshaped, new_cells, place_of, refl, side_of, sym}
 use Rattle.rmm_spec.specs.Rows.{reply_of}
-use Rattle.command_core.specs.Changed.{hold_of, new_cells}
-use Rattle.command_core.specs.Decided.{misshaped}
-use Rattle.command_core.specs.Seen.{place_of}
-use Rattle.command_core.specs.Sides.{side_of}
 use Rattle.command_core.proofs.Ready.{decision, decision-unshaped}
 use Rattle.command_core.proofs.deciding.decide.Goals as goal
 

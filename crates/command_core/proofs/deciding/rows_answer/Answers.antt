@@ -1,10 +1,6 @@
-use Rattle.std.proofs.Common.{sym, ap, ◌∙◌, subst}
+use Rattle.command_core.proofs.Common.{◌∙◌, ap, is_settled, is_unshaped, place_of, seen_state, subst, sym}
 use Rattle.granule_cells.specs.declared.cpu_place.CpuPlace.{CpuPlace}
 use Rattle.command_rows.specs.Answers.{IsInside}
-use Rattle.command_core.specs.Seen.{place_of}
-use Rattle.walk_laws.specs.SeenState.{seen_state}
-use Rattle.command_core.specs.Settled.{is_settled}
-use Rattle.command_core.specs.Unshaped.{is_unshaped}
 use Rattle.command_core.proofs.Owned.{settled-owned, settled-placed}
 use Rattle.command_core.proofs.deciding.rows_answer.Goals as goal
 

@@ -1,13 +1,12 @@
-use Rattle.std.proofs.Common.{sym, subst}
+use Rattle.command_core.proofs.Common.{hold_of, place_of, side_of, subst, sym}
 use Rattle.std.specs.Prelude.{option_map, option_copied}
-use Rattle.command_core.specs.Changed.{hold_of, CanMakeAnswer}
+use Rattle.command_core.specs.Changed.{CanMakeAnswer}
 use Rattle.command_core.specs.Foreseen.{side_or_unlisted}
-use Rattle.command_core.specs.Seen.{place_of}
-use Rattle.command_core.specs.Sides.{side_of}
 use Rattle.command_core.proofs.Ready.{answer-makes}
 use Rattle.command_core.proofs.deciding.settled_answer.Goals as goal
 
 pub returns-clause-makes : goal.returns-clause-makes
 returns-clause-makes g c =
-    let hold = hold_of (g.H.Held.cells c.args.held.now) (side_or_unlisted (option_map side_of (option_copied c.args.side))) (place_of c.args.place.now) in
+    let hold =
+    hold_of (g.H.Held.cells c.args.held.now) (side_or_unlisted (option_map side_of (option_copied c.args.side))) (place_of c.args.place.now) in
     subst (CanMakeAnswer hold) (sym c.made_answer.ensures) (answer-makes c.args.config.now hold c.rows_answer-answer.result c.granules.ensures.most)

@@ -1,10 +1,6 @@
 -- The realm is taken out, and what is held else stays.
-use Rattle.std.proofs.Common.{◌∙◌, ap, sym}
-use Rattle.std.specs.Prelude.{[], ◌∷◌}
-use Rattle.rmm_spec.specs.Cell.{Rd, Undelegated}
+use Rattle.command_core.proofs.Common.{◌∙◌, ◌∷◌, Rd, Undelegated, [], ap, held_at, replaced_all, sym, table_held}
 use Rattle.shape_laws.specs.Whole.{cell_with_realm}
-use Rattle.world_laws.specs.Replaced.{held_at, replaced_all}
-use Rattle.walk_laws.specs.SeenState.{table_held}
 use Rattle.command_core.proofs.Puts.{put-back, tables-taken}
 use Rattle.command_core.proofs.new_cells.take_changed_realm.Goals as goal
 
@@ -12,7 +8,8 @@ pub returns-clause-new : goal.returns-clause-new
 returns-clause-new g c =
     let change = c.in-Some.field-0 in
     rw c.in-Some.is
-    (ap (λ cell. held_at change.rd cell ∷ []) (ap Rd c.update.ensures ∙ ap (cell_with_realm change.update) (sym c.take_realm-descriptor.ensures.realm)))
+    (ap (λ cell. held_at change.rd cell ∷ [])
+    (ap Rd c.update.ensures ∙ ap (cell_with_realm change.update) (sym c.take_realm-descriptor.ensures.realm)))
 
 pub returns-clause-back : goal.returns-clause-back
 returns-clause-back g c = λ front.

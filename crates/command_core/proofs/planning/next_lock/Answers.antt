@@ -1,8 +1,5 @@
-use Rattle.std.proofs.Common.{sym, ap, ◌∙◌, subst}
-use Rattle.rmm_spec.specs.declared.call.Call.{Call}
-use Rattle.rmm_spec.specs.Call.{call_of}
+use Rattle.command_core.proofs.Common.{◌∙◌, Call, ap, call_of, place_of, subst, sym}
 use Rattle.command_core.specs.declared.next.Next.{Next}
-use Rattle.command_core.specs.Seen.{place_of}
 use Rattle.command_core.specs.Plan.{IsPlanned, is_ready}
 use Rattle.command_core.specs.Next.{next}
 use Rattle.command_core.proofs.Steps.{next-planned, next-settled}

@@ -1,7 +1,6 @@
-use Rattle.std.proofs.Common.{◌≡◌, false, sym, ap, ◌∙◌, subst}
+use Rattle.command_core.proofs.Common.{◌∙◌, ◌≡◌, ap, false, place_of, subst, sym}
 use Rattle.rmm_spec.specs.Locks.{needs}
 use Rattle.command_core.specs.declared.next.Next.{Next}
-use Rattle.command_core.specs.Seen.{place_of}
 use Rattle.command_core.specs.Plan.{IsStep, is_ready}
 use Rattle.command_core.proofs.Steps.{next-settled, next-step}
 use Rattle.command_core.proofs.planning.next_step.Goals as goal

@@ -1,13 +1,9 @@
-use Rattle.std.proofs.Common.{◌≡◌, List, [], ◌∷◌, ap, sym, ◌∙◌, subst}
-use Rattle.std.specs.Prelude.{IsTrue}
+use Rattle.command_core.proofs.Common.{◌∙◌, ◌∷◌, ◌≡◌, HeldCell, IsTrue, List, Rd, Rec, RecRecord, Undelegated, [], ap, held_at, new_cells, replaced_all, replaced_cells, subst, sym}
 use Rattle.rmm_spec.specs.declared.change.RealmUpdate.TheVariants.{RecCounted}
-use Rattle.rmm_spec.specs.Cell.{Cell, Rd, Rec, RecAux, Undelegated}
+use Rattle.rmm_spec.specs.Cell.{Cell, RecAux}
 use Rattle.rmm_spec.specs.Change.{new_rec}
-use Rattle.rmm_spec.specs.Local.{HeldCell}
-use Rattle.rmm_spec.specs.State.{RecRecord}
-use Rattle.world_laws.specs.Replaced.{held_at, replaced_cells, replaced_all}
 use Rattle.shape_laws.specs.Whole.{cell_with_realm}
-use Rattle.command_core.specs.Changed.{fits_cells, new_cells}
+use Rattle.command_core.specs.Changed.{fits_cells}
 use Rattle.command_core.proofs.Puts.{entries-fit, put-last}
 use Rattle.command_core.proofs.put_cells.put_cells.Goals as goal
 

@@ -1,7 +1,5 @@
 -- The realm is put back, and then the REC that was read before.
-use Rattle.std.proofs.Common.{ap, sym, ◌∙◌}
-use Rattle.std.specs.Prelude.{[]}
-use Rattle.world_laws.specs.Replaced.{replaced_all}
+use Rattle.command_core.proofs.Common.{◌∙◌, [], ap, replaced_all, sym}
 use Rattle.walk_laws.specs.TableCells.{realm_cells, rec_cells}
 use Rattle.command_core.proofs.Puts.{replaced_all-append}
 use Rattle.command_core.proofs.put_cells.put_records.Goals as goal

@@ -1,7 +1,5 @@
-use Rattle.std.proofs.Common.{ap, ◌∙◌}
-use Rattle.rmm_spec.specs.Cell.{Rtt}
+use Rattle.command_core.proofs.Common.{◌∙◌, Rtt, ap, replaced_cells}
 use Rattle.shape_laws.specs.Whole.{entries_changed}
-use Rattle.world_laws.specs.Replaced.{replaced_cells}
 use Rattle.command_core.proofs.Puts.{table-put}
 use Rattle.command_core.proofs.put_tables.set_entries.Goals as goal
 

@@ -8,8 +8,10 @@ returns-in-Ok g c =
       before = entry.before;
       after = entry.after;
       shown = entry.shown;
-      holds = committed g.S.Site.config c.args.command.now entry.before entry.after c.args.token.now _ _ c.args.hold.now _ c.enter.new.draft c.in-Ok.ticket _
-          (IsEntry-less g.S.Site.config c.args.command.now entry.before entry.after c.args.token.now c.foresee.new.token _ (hold_cells c.args.hold.now)
+      holds = committed g.S.Site.config c.args.command.now entry.before entry.after
+          c.args.token.now _ _ c.args.hold.now _ c.enter.new.draft c.in-Ok.ticket _
+          (IsEntry-less g.S.Site.config c.args.command.now entry.before entry.after
+          c.args.token.now c.foresee.new.token _ (hold_cells c.args.hold.now)
           c.enter.new.draft (Ok c.in-Ok.ticket) c.foresee.ensures.token c.foresee.ensures.room entry.holds)
           c.settle-reply.ensures.reply c.settle-reply.ensures.cells c.settle-reply.ensures.place c.settle-reply.ensures.token;
     }
@@ -20,8 +22,10 @@ returns-in-Err g c =
       before = entry.before;
       after = entry.after;
       shown = entry.shown;
-      holds = refused g.S.Site.config c.args.command.now entry.before entry.after c.args.token.now c.enter.new.token _ c.args.hold.now c.args.hold.now c.enter.new.draft
+      holds = refused g.S.Site.config c.args.command.now entry.before entry.after
+          c.args.token.now c.enter.new.token _ c.args.hold.now c.args.hold.now c.enter.new.draft
           c.in-Err.fault
-          (IsEntry-less g.S.Site.config c.args.command.now entry.before entry.after c.args.token.now c.foresee.new.token _ (hold_cells c.args.hold.now)
+          (IsEntry-less g.S.Site.config c.args.command.now entry.before entry.after
+          c.args.token.now c.foresee.new.token _ (hold_cells c.args.hold.now)
           c.enter.new.draft (Err c.in-Err.fault) c.foresee.ensures.token c.foresee.ensures.room entry.holds);
     }

@@ -11,7 +11,8 @@ pub returns-then-not-branch-clause-cause : goal.returns-then-not-branch-clause-c
 returns-then-not-branch-clause-cause g c =
     let answer = c.decide_draft.new.draft.answer in
     inl
-    (refused-disagree g.S.Site.config c.args.command.now _ c.args.journal.now _ c.args.token.now (hold_cells c.args.hold.now) (given_of answer) (change_of answer)
+    (refused-disagree g.S.Site.config c.args.command.now _ c.args.journal.now _ c.args.token.now
+    (hold_cells c.args.hold.now) (given_of answer) (change_of answer)
     (state_of c.journal.inside.books) c.journal.view_is c.token.view_is c.journal.invariant.1 c.in_ok-decide_draft.ensures.decided.decision.decides
     c.journal.invariant.0
     (λ next step. c.in_ok-offer_seen.ensures.only c.if-not-branch.true next
@@ -25,7 +26,8 @@ invariant_of-journal-2 g c =
     let logged = c.journal.inside.entries.logged in
     let is_new : c.push_reserved.new.self.logged ≡ logged ++ added ∷ [] =
     c.push_reserved.ensures.pushed ∙ ap (λ log. log.logged ++ added ∷ []) c.reserve.ensures.kept in (
-      IsRun-append _ logged c.push_reserved.new.self.logged added _ _ c.journal.invariant.0 (c.in_ok-offer_seen.ensures.step c.if-not-branch.false) is_new,
+      IsRun-append _ logged c.push_reserved.new.self.logged added _ _ c.journal.invariant.0
+          (c.in_ok-offer_seen.ensures.step c.if-not-branch.false) is_new,
       c.journal.invariant.1,
       omega (arith, ap length is_new, length_push logged added, c.add.ensures.total, c.journal.invariant.2),
     )
@@ -55,5 +57,6 @@ invariant_of-token-3 g c =
     ) in (
       c.add.ensures.parts ∙ c.token.invariant.0,
       omega (arith, c.add.ensures.amount, ap length is_new, length_push mine added, c.token.invariant.1),
-      RiseWithin-append _ _ _ _ (committed_of added) past next (ap (map committed_of) is_new ∙ map-append committed_of mine (added ∷ [])) c.token.invariant.2,
+      RiseWithin-append _ _ _ _ (committed_of added) past next
+          (ap (map committed_of) is_new ∙ map-append committed_of mine (added ∷ [])) c.token.invariant.2,
     )

@@ -26,7 +26,8 @@ returns-in-Some-2 c =
     let given = c.args.call.now in
     let asked = c.in-Some-2.asked in (
       asked.condition,
-      first-word s (spec.place_conditions (class_of given) c.args.cpu (rec_inside s c.args.cpu)) (spec.word_conditions given) (map spec.tag_condition (named given))
+      first-word s (spec.place_conditions (class_of given) c.args.cpu (rec_inside s c.args.cpu))
+          (spec.word_conditions given) (map spec.tag_condition (named given))
           (spec.own_conditions (rec_inside s c.args.cpu) given) (none_found _ _ _ c.in_ok-asked.ensures c.in_default.not-Some)
           asked.condition asked.test (first_found s _ c.in_ok-asked-2.field-0 asked c.in_ok-asked-2.ensures c.in-Some-2.is),
     )
@@ -38,7 +39,8 @@ returns-in-Some-3 c =
     let given = c.args.call.now in
     let asked = c.in-Some-3.asked in (
       asked.condition,
-      first-tag s (spec.place_conditions (class_of given) c.args.cpu (rec_inside s c.args.cpu)) (spec.word_conditions given) (map spec.tag_condition (named given))
+      first-tag s (spec.place_conditions (class_of given) c.args.cpu (rec_inside s c.args.cpu))
+          (spec.word_conditions given) (map spec.tag_condition (named given))
           (spec.own_conditions (rec_inside s c.args.cpu) given) (none_found _ _ _ c.in_ok-asked.ensures c.in_default.not-Some)
           (none_found _ _ _ c.in_ok-asked-2.ensures c.in_default-2.not-Some) asked.condition asked.test
           (first_found s _ c.in_ok-asked-3.field-0 asked c.in_ok-asked-3.ensures c.in-Some-3.is),
@@ -55,7 +57,8 @@ returns-in-Some-4 c =
     let given = c.args.call.now in
     let asked = c.in-Some-4.asked in (
       asked.condition,
-      first-own s (spec.place_conditions (class_of given) c.args.cpu (rec_inside s c.args.cpu)) (spec.word_conditions given) (map spec.tag_condition (named given))
+      first-own s (spec.place_conditions (class_of given) c.args.cpu (rec_inside s c.args.cpu))
+          (spec.word_conditions given) (map spec.tag_condition (named given))
           (spec.own_conditions (rec_inside s c.args.cpu) given) (none_found _ _ _ c.in_ok-asked.ensures c.in_default.not-Some)
           (none_found _ _ _ c.in_ok-asked-2.ensures c.in_default-2.not-Some) (none_found _ _ _ c.in_ok-asked-3.ensures c.in_default-3.not-Some)
           asked.condition asked.test (first_found s _ c.in_ok-asked-4.field-0 asked c.in_ok-asked-4.ensures c.in-Some-4.is),
@@ -66,7 +69,8 @@ unfolding conditions
 returns-in-None c =
     let s = state_of c.args.machine.now in
     let given = c.args.call.now in
-    first-none s (spec.place_conditions (class_of given) c.args.cpu (rec_inside s c.args.cpu)) (spec.word_conditions given) (map spec.tag_condition (named given))
+    first-none s (spec.place_conditions (class_of given) c.args.cpu (rec_inside s c.args.cpu))
+    (spec.word_conditions given) (map spec.tag_condition (named given))
     (spec.own_conditions (rec_inside s c.args.cpu) given) (none_found _ _ _ c.in_ok-asked.ensures c.in_default.not-Some)
     (none_found _ _ _ c.in_ok-asked-2.ensures c.in_default-2.not-Some) (none_found _ _ _ c.in_ok-asked-3.ensures c.in_default-3.not-Some)
     (rw c.in-None.is at c.in_ok-asked-4.ensures)

@@ -10,7 +10,8 @@ use Rattle.conditions.proofs.deciding.first_of.Goals as goal
 pub loop-i-preserved : goal.loop-i-preserved
 loop-i-preserved c =
     let pass = none_found c.if_failing.result _ _ c.if_failing.ensures c.in_default.not-Some in
-    AllPass-next (state_of c.args.machine.now) c.args.list.now c.loop-i.i _ (slice_get-get_or c.args.list.now c.loop-i.i _ c.loop-i-test.true) pass c.loop-i.invariant
+    AllPass-next (state_of c.args.machine.now) c.args.list.now c.loop-i.i _
+    (slice_get-get_or c.args.list.now c.loop-i.i _ c.loop-i-test.true) pass c.loop-i.invariant
 
 pub returns-in-Some : goal.returns-in-Some
 returns-in-Some c =

@@ -1,5 +1,5 @@
 -- Outside, none is the one that runs.
-use Rattle.std.proofs.Common.{sym, ◌∙◌}
+use Rattle.std.proofs.Common.{sym}
 use Rattle.spec_machine.specs.View.{state_of}
 use Rattle.conditions.proofs.Exiting.{rec_inside-outside}
 use Rattle.conditions.proofs.place.rec_inside_or_none.Goals as goal

@@ -59,7 +59,8 @@ pub returns-in_err-take-clause-refused : goal.returns-in_err-take-clause-refused
 returns-in_err-take-clause-refused g c = λ _.
     let so_far = c.loop-count.invariant.0 in
     let step = c.in_ok-count.ensures.gives in
-    refused_or_given g.S.Source.gives g.S.Source.refuses g.T.Taker.has_taken g.T.Taker.refuses c.args.source.now c.read_more.new.self c.args.taker.now (inr (record {
+    refused_or_given g.S.Source.gives g.S.Source.refuses g.T.Taker.has_taken
+    g.T.Taker.refuses c.args.source.now c.read_more.new.self c.args.taker.now (inr (record {
       text = so_far.text;
       piece = _;
       some = search rules;

@@ -15,5 +15,6 @@ loop-cpu-preserved c =
     let cpus = ap (λ (p : Page). p.cpus) made.rule.1 ∙ ap (λ (p : Page). p.cpus) old.1 in (
       (made.queue.0.0 ∙ old.0.0, made.queue.0.2 ∙ old.0.1),
       made.rule.0 ∙ ap (λ (p : Page). record p { seated = p.seated + 1 }) old.1,
-      are_seated-push _ _ _ _ _ _ old.2 c.in_ok-push.ensures.items (c.seated.ensures ∙ (λ i. before_calls (made.queue.1.0 i) (cpus i) c.loop-cpu.cpu)),
+      are_seated-push _ _ _ _ _ _ old.2 c.in_ok-push.ensures.items
+          (c.seated.ensures ∙ (λ i. before_calls (made.queue.1.0 i) (cpus i) c.loop-cpu.cpu)),
     )

@@ -1,7 +1,7 @@
 -- No more than levels so far, each of the state.
-use Rattle.std.proofs.Common.{◌≤◌, All}
+use Rattle.explain.proofs.Common.{◌≤◌, state_of}
+use Rattle.std.proofs.Common.{All}
 use Rattle.arrayvec.specs.ArrayVec.{array_vec_len}
-use Rattle.spec_machine.specs.View.{state_of}
 use Rattle.explain.specs.Before.{IsEntryBefore}
 use Rattle.explain.proofs.before.entries_on.Given as goal
 

@@ -17,5 +17,6 @@ loop-i-preserved c = (
       (c.granule_before.ensures s report) in
       subst (AreGranulesBefore s (take (c.loop-i.i + 1) names)) (sym c.push.ensures.items)
       (subst (λ (ns : List Needed). AreGranulesBefore s ns (so_far ++ c.granule_before.result ∷ [])) (sym more)
-      (subst (λ (n : Needed). AreGranulesBefore s (take c.loop-i.i names ++ n ∷ []) (so_far ++ c.granule_before.result ∷ [])) c.index-names-i.is next)),
+      (subst (λ (n : Needed). AreGranulesBefore s (take c.loop-i.i names ++ n ∷ []) (so_far ++ c.granule_before.result ∷ []))
+      c.index-names-i.is next)),
 )

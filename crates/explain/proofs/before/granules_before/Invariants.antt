@@ -1,7 +1,6 @@
 -- Those of the names so far.
-use Rattle.std.proofs.Common.{◌≡◌, [], take}
+use Rattle.explain.proofs.Common.{◌≡◌, State, [], take}
 use Rattle.arrayvec.specs.ArrayVec.{array_vec_len}
-use Rattle.rmm_spec.specs.State.{State}
 use Rattle.spec_machine.specs.Report.{AddsOwners}
 use Rattle.explain.specs.Before.{AreGranulesBefore}
 use Rattle.explain.proofs.before.granules_before.Given as goal

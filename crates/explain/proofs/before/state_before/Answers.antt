@@ -1,5 +1,5 @@
 -- Part by part.
-use Rattle.spec_machine.specs.View.{state_of}
+use Rattle.explain.proofs.Common.{state_of}
 use Rattle.explain.proofs.before.state_before.Goals as goal
 
 pub returns : goal.returns

@@ -1,8 +1,5 @@
 -- The machine is as the lines before leave it.
-use Rattle.std.proofs.Common.{◌≡◌, ℕ, take, subst, arith}
-use Rattle.certificate.specs.LineRef.{line_seen}
-use Rattle.rmm_spec.specs.FirstFault.{Passes}
-use Rattle.spec_machine.specs.View.{state_of}
+use Rattle.explain.proofs.Common.{◌≡◌, Passes, arith, line_seen, state_of, subst, take, ℕ}
 use Rattle.explain.proofs.Refusals.{refused-there}
 use Rattle.explain.proofs.cause.cause_of.Goals as goal
 
@@ -15,4 +12,5 @@ refused-requires-clause-refuses c =
     let left = c.requires.left in
     let same : left.0 ≡ found.result.0 = omega (arith, left.1, found.ensures.counted) in
     refused-there history c.well_formed-fact.ensures lines c.args.step found.result.0 (line_seen found.result.1) s
-    (rw c.in-Reply.is at c.requires.fault) found.ensures.counted found.ensures.is_line (subst (λ (i : ℕ). Passes history (take i lines) s) same left.2)
+    (rw c.in-Reply.is at c.requires.fault) found.ensures.counted found.ensures.is_line
+    (subst (λ (i : ℕ). Passes history (take i lines) s) same left.2)

@@ -1,6 +1,5 @@
 -- The line is there.
-use Rattle.std.proofs.Common.{arith}
-use Rattle.std.proofs.lemmas.Option.{slice_get_within}
+use Rattle.explain.proofs.Common.{arith, slice_get_within}
 use Rattle.explain.proofs.cause.failing_line.Goals as goal
 
 pub line-requires : goal.line-requires

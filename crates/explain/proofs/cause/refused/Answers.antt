@@ -1,7 +1,5 @@
 -- The line isn't given the reply that it claims.
-use Rattle.std.proofs.Common.{refl, sym, ◌∙◌}
-use Rattle.certificate.specs.LineRef.{line_seen}
-use Rattle.spec_machine.specs.View.{state_of}
+use Rattle.explain.proofs.Common.{◌∙◌, line_seen, refl, state_of, sym}
 use Rattle.explain.proofs.Refusals.{refused-step}
 use Rattle.explain.proofs.cause.refused.Goals as goal
 
@@ -9,9 +7,11 @@ pub told_of-requires-clause-refused : goal.told_of-requires-clause-refused
 told_of-requires-clause-refused c =
     let call = c.named_call-call.result in
     let made = c.named_call-call.ensures.told.called in
-    let is_called = rw (c.named_call-call.ensures.cpu ∙ c.called_by-cpu.ensures.cpu, c.named_call-call.ensures.number ∙ c.called_by-cpu.ensures.number) at made.2 in
+    let is_called =
+    rw (c.named_call-call.ensures.cpu ∙ c.called_by-cpu.ensures.cpu, c.named_call-call.ensures.number ∙ c.called_by-cpu.ensures.number) at made.2 in
     rw (c.named_call-call.ensures.cpu ∙ c.called_by-cpu.ensures.cpu)
-    (refused-step c.args.history.now.recorded.events (state_of c.args.machine.now) (line_seen c.args.line) call.call.command c.claimed_by-claimed.result
+    (refused-step c.args.history.now.recorded.events (state_of c.args.machine.now)
+    (line_seen c.args.line) call.call.command c.claimed_by-claimed.result
     c.requires.refuses made.0 is_called c.claimed_by-claimed.ensures)
 
 pub returns-clause-cause : goal.returns-clause-cause
@@ -23,7 +23,10 @@ returns-clause-cause c =
         (
           line_seen c.args.line,
           c.requires.is_line,
-          (sym c.called_by-cpu.ensures.cpu ∙ sym c.named_call-call.ensures.cpu, sym c.called_by-cpu.ensures.number ∙ sym c.named_call-call.ensures.number),
+          (
+            sym c.called_by-cpu.ensures.cpu ∙ sym c.named_call-call.ensures.cpu,
+            sym c.called_by-cpu.ensures.number ∙ sym c.named_call-call.ensures.number,
+          ),
         ),
       ),
       c.named_call-call.ensures.told,

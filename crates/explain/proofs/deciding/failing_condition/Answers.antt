@@ -1,5 +1,5 @@
 -- The first that fails is that for which it is refused.
-use Rattle.spec_machine.specs.View.{state_of}
+use Rattle.explain.proofs.Common.{state_of}
 use Rattle.rmm_spec.specs.Lookup.{rec_inside}
 use Rattle.conditions.specs.Law.{IsOfWords}
 use Rattle.conditions.proofs.First.{fails-first, first-has, none_found}
@@ -30,5 +30,6 @@ pub returns-clause-so : goal.returns-clause-so
 returns-clause-so c =
     let s = state_of c.args.machine.now in
     let first = some_found c.in_ok-found.found _ _ c.in-Some.test c.in_ok-found.ensures c.in-Some.is in
-    is_so-condition s c.in-Some.test c.condition_decision.result.deciding c.condition_decision.result.watch (fails-first s _ first.0 c.in-Some.test first.1)
+    is_so-condition s c.in-Some.test c.condition_decision.result.deciding c.condition_decision.result.watch
+    (fails-first s _ first.0 c.in-Some.test first.1)
     c.condition_decision.ensures

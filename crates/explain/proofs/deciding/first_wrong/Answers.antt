@@ -1,7 +1,5 @@
 -- Word by word.
-use Rattle.std.proofs.Common.{◌≡◌, ℕ, true, false, inl, inr, refl, sym, ◌∙◌, subst, arith}
-use Rattle.std.specs.List.{slice_get}
-use Rattle.std.proofs.lemmas.Bool.{cases_lt}
+use Rattle.explain.proofs.Common.{◌∙◌, ◌≡◌, arith, cases_lt, false, inl, inr, refl, slice_get, subst, sym, true, ℕ}
 use Rattle.explain.proofs.Words.{same_short}
 use Rattle.explain.proofs.deciding.first_wrong.Goals as goal
 

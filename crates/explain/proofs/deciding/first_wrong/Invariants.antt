@@ -1,6 +1,5 @@
 -- The words so far are the same.
-use Rattle.std.proofs.Common.{◌≡◌, ℕ, ◌<◌}
-use Rattle.std.specs.List.{slice_get}
+use Rattle.explain.proofs.Common.{◌<◌, ◌≡◌, slice_get, ℕ}
 use Rattle.explain.proofs.deciding.first_wrong.Given as goal
 
 abbrev pub invariant-loop-i : goal.invariant-loop-i

@@ -1,8 +1,6 @@
 -- Words that aren't given aren't those of what is done.
-use Rattle.std.proofs.Common.{refl, sym, subst}
-use Rattle.spec_machine.specs.View.{state_of}
+use Rattle.explain.proofs.Common.{is_so, refl, state_of, subst, sym}
 use Rattle.explain.specs.Deciding.{IsApart}
-use Rattle.explain.specs.Watch.{is_so}
 use Rattle.explain.proofs.Decisions.{IsApart-refused}
 use Rattle.explain.proofs.deciding.wrong_answer.Goals as goal
 

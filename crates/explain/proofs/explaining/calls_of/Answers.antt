@@ -7,7 +7,8 @@ pub loop-place-preserved-in_default : goal.loop-place-preserved-in_default
 loop-place-preserved-in_default c = record {
   within = omega (arith, c.loop-place.invariant.within);
   counted =
-      calls-other c.args.history.now.recorded.events c.loop-place.place c.loop-place.calls (omega (arith, c.loop-place-test.true, c.len-place-end.ensures)) c.in_default.ensures.none
+      calls-other c.args.history.now.recorded.events c.loop-place.place c.loop-place.calls
+      (omega (arith, c.loop-place-test.true, c.len-place-end.ensures)) c.in_default.ensures.none
       c.loop-place.invariant.counted;
 }
 

@@ -1,8 +1,7 @@
 -- No entry so far is as it is asked for.
-use Rattle.std.proofs.Common.{◌≡◌, ◌+◌, ◌*◌, false}
+use Rattle.explain.proofs.Common.{◌*◌, ◌+◌, ◌≡◌, false, state_of}
 use Rattle.rmm_spec.specs.Lookup.{any_below}
 use Rattle.rmm_spec.specs.Walk.{entry_at, passes}
-use Rattle.spec_machine.specs.View.{state_of}
 use Rattle.explain.proofs.fact.entry_met.Given as goal
 
 abbrev pub invariant-loop-k : goal.invariant-loop-k

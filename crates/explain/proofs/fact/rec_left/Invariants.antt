@@ -1,7 +1,6 @@
 -- No REC so far is one of the realm.
-use Rattle.std.proofs.Common.{◌≡◌, ◌*◌, false}
+use Rattle.explain.proofs.Common.{◌*◌, ◌≡◌, false, state_of}
 use Rattle.rmm_spec.specs.Lookup.{any_below, is_owned_by}
-use Rattle.spec_machine.specs.View.{state_of}
 use Rattle.explain.proofs.fact.rec_left.Given as goal
 
 abbrev pub invariant-loop-i : goal.invariant-loop-i

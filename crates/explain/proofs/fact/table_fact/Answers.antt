@@ -1,7 +1,6 @@
 -- An entry keeps the table where it is.
-use Rattle.std.proofs.Common.{◌≡◌, true, false, sym, ◌∙◌}
+use Rattle.explain.proofs.Common.{◌∙◌, ◌≡◌, false, state_of, sym, true}
 use Rattle.rmm_spec.specs.Walk.{table_number}
-use Rattle.spec_machine.specs.View.{state_of}
 use Rattle.explain.proofs.Removals.{left_there}
 use Rattle.explain.proofs.fact.table_fact.Goals as goal
 

@@ -1,6 +1,5 @@
 -- The granule hasn't the tag.
-use Rattle.std.proofs.Common.{refl}
-use Rattle.spec_machine.specs.View.{state_of}
+use Rattle.explain.proofs.Common.{refl, state_of}
 use Rattle.explain.proofs.Tags.{has_tag-found}
 use Rattle.explain.proofs.fact.tag_fact.Goals as goal
 

@@ -1,7 +1,6 @@
 -- No realm so far has the VMID.
-use Rattle.std.proofs.Common.{◌≡◌, ◌*◌, false}
+use Rattle.explain.proofs.Common.{◌*◌, ◌≡◌, false, state_of}
 use Rattle.rmm_spec.specs.Lookup.{any_below, has_vmid}
-use Rattle.spec_machine.specs.View.{state_of}
 use Rattle.explain.proofs.fact.vmid_fact.Given as goal
 
 abbrev pub invariant-loop-i : goal.invariant-loop-i

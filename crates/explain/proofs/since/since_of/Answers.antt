@@ -1,8 +1,6 @@
 -- Line by line, from the opening.
-use Rattle.std.proofs.Common.{◌≡◌, ℕ, take, subst, arith}
-use Rattle.rmm_spec.specs.FirstFault.{Passes}
+use Rattle.explain.proofs.Common.{◌≡◌, Passes, arith, state_of, subst, take, ℕ}
 use Rattle.explain.specs.Track.{IsTrack}
-use Rattle.spec_machine.specs.View.{state_of}
 use Rattle.checker.proofs.Progress.{Passes-nil}
 use Rattle.explain.proofs.since.since_of.Goals as goal
 
@@ -24,7 +22,8 @@ take_line-requires-clause-passing c = record {
 pub loop-i-preserved : goal.loop-i-preserved
 loop-i-preserved c = record {
   passes = c.in_ok-take_line.ensures;
-  track = c.track_with-track.ensures c.args.history.now.recorded c.args.certificate.now.lines c.args.watch.now (state_of c.loop-i.machine) c.loop-i.invariant.passes
+  track = c.track_with-track.ensures c.args.history.now.recorded c.args.certificate.now.lines c.args.watch.now
+      (state_of c.loop-i.machine) c.loop-i.invariant.passes
       c.sample_of.ensures c.loop-i.invariant.track;
 }
 

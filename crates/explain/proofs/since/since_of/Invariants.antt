@@ -1,7 +1,5 @@
 -- The lines so far pass, and what is kept of them is so.
-use Rattle.std.proofs.Common.{take}
-use Rattle.rmm_spec.specs.FirstFault.{Passes}
-use Rattle.spec_machine.specs.View.{state_of}
+use Rattle.explain.proofs.Common.{Passes, state_of, take}
 use Rattle.explain.specs.Track.{IsTrack}
 use Rattle.explain.proofs.since.since_of.Given as goal
 

@@ -1,6 +1,6 @@
 -- One of the lines before names a call.
-use Rattle.std.proofs.Common.{◌-◌, sym, ◌∙◌, arith}
-use Rattle.certificate.specs.LineRef.{line_seen}
+use Rattle.explain.proofs.Common.{◌∙◌, arith, line_seen, sym}
+use Rattle.std.proofs.Common.{◌-◌}
 use Rattle.explain.proofs.Replaying.{known_before}
 use Rattle.explain.proofs.since.step_before.Goals as goal
 
@@ -18,7 +18,11 @@ returns-clause-earlier c = (
   (
     c.args.count - 1,
     omega (arith, c.requires.some),
-    (line_seen c.line.result, c.line.ensures, (sym c.called_by-cpu.ensures.cpu ∙ sym c.named_call.ensures.cpu, sym c.called_by-cpu.ensures.number ∙ sym c.named_call.ensures.number)),
+    (
+      line_seen c.line.result,
+      c.line.ensures,
+      (sym c.called_by-cpu.ensures.cpu ∙ sym c.named_call.ensures.cpu, sym c.called_by-cpu.ensures.number ∙ sym c.named_call.ensures.number),
+    ),
   ),
   c.named_call.ensures.told,
   omega (arith, c.requires.before),

@@ -1,6 +1,5 @@
 -- It is so in the machine's state.
-use Rattle.std.proofs.Common.{sym}
-use Rattle.spec_machine.specs.View.{state_of}
+use Rattle.explain.proofs.Common.{state_of, sym}
 use Rattle.explain.proofs.steps.put_by.Goals as goal
 
 pub since_of-requires-clause-now : goal.since_of-requires-clause-now

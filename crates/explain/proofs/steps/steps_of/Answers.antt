@@ -1,5 +1,5 @@
 -- It is so in the machine's state.
-use Rattle.spec_machine.specs.View.{state_of}
+use Rattle.explain.proofs.Common.{state_of}
 use Rattle.explain.proofs.steps.steps_of.Goals as goal
 
 pub since_of-requires-clause-now : goal.since_of-requires-clause-now

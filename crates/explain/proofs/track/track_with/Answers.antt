@@ -1,5 +1,5 @@
 -- Both parts, each with the state.
-use Rattle.std.proofs.Common.{ℕ, Bool, List, sym, ◌∙◌, ap}
+use Rattle.explain.proofs.Common.{◌∙◌, Bool, ap, sym}
 use Rattle.explain.specs.Watch.{has, showing}
 use Rattle.explain.proofs.track.track_with.Goals as goal
 

@@ -16,5 +16,7 @@ returns-clause-ok c =
     let ended = c.in_ok-extend_from_slice.ensures.items ∙ ap (λ bytes. bytes ++ c.args.end.now) reported in
     AppendsPage-written lines c.as_bytes.result.now c.as_bytes-2.result.now c.in_ok-page.page.items (c.as_bytes.ensures ∙ c.in_ok-head.ensures
     ∙ ap (λ (v : Verdict). texts head_text (head_pieces (verdict_line v))) c.verdict.ensures)
-    c.in_ok-marks.ensures (c.as_slice-2.ensures.value ∙ ended) (subst (λ (b : List ℕ). AppendsReport c.write_front.new.page.bytes b c.as_slice-2.result.now) (sym c.as_bytes-2.ensures) c.in_ok-write_report.ensures) c.in_ok-page.ensures
+    c.in_ok-marks.ensures (c.as_slice-2.ensures.value ∙ ended)
+    (subst (λ (b : List ℕ). AppendsReport c.write_front.new.page.bytes b c.as_slice-2.result.now)
+    (sym c.as_bytes-2.ensures) c.in_ok-write_report.ensures) c.in_ok-page.ensures
     (c.in_ok-extend_from_slice-2.ensures.items ∙ ap (λ (bytes : List ℕ). c.args.out.now.items ++ bytes) c.as_slice-4.ensures.value)

@@ -5,5 +5,6 @@ use Rattle.explain_page.proofs.report_lines.open_line.Goals as goal
 
 pub returns : goal.returns
 returns c =
-    AppendsText-marked (own.Tag tag.LineStart) c.args.number (own.Tag tag.LinkStart) c.args.page.now.bytes c.say.new.self.bytes c.number.new.self.bytes c.say-2.new.self.bytes
+    AppendsText-marked (own.Tag tag.LineStart) c.args.number
+    (own.Tag tag.LinkStart) c.args.page.now.bytes c.say.new.self.bytes c.number.new.self.bytes c.say-2.new.self.bytes
     c.in_ok-say.ensures.ok c.in_ok-number.ensures.ok c.in_ok-say-2.ensures.ok

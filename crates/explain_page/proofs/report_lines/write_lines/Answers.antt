@@ -13,12 +13,14 @@ loop-rest-preserved c = record {
   front = c.loop-rest.invariant.front ++ c.cut.result.0.now;
   is_text = c.loop-rest.invariant.is_text ∙ ap (λ (bytes : List ℕ). c.loop-rest.invariant.front ++ bytes) c.cut.ensures.whole
       ∙ sym (append_assoc c.loop-rest.invariant.front c.cut.result.0.now c.cut.result.1.now);
-  written = AppendsText-both c.args.page.now.bytes c.loop-rest.page.bytes c.write_line.new.page.bytes c.loop-rest.invariant.front c.cut.result.0.now c.loop-rest.invariant.written
+  written = AppendsText-both c.args.page.now.bytes c.loop-rest.page.bytes c.write_line.new.page.bytes
+      c.loop-rest.invariant.front c.cut.result.0.now c.loop-rest.invariant.written
       c.in_ok-write_line.ensures;
 }
 
 pub returns : goal.returns
 returns c =
     let over = nil_from_length c.loop-rest.rest.now (eqb-true (length c.loop-rest.rest.now) 0 (sym c.is_empty.ensures ∙ c.loop-rest-test.false)) in
-    let whole = sym (append-nil c.loop-rest.invariant.front) ∙ ap (λ (bytes : List ℕ). c.loop-rest.invariant.front ++ bytes) (sym over) ∙ sym c.loop-rest.invariant.is_text in
+    let whole = sym (append-nil c.loop-rest.invariant.front)
+    ∙ ap (λ (bytes : List ℕ). c.loop-rest.invariant.front ++ bytes) (sym over) ∙ sym c.loop-rest.invariant.is_text in
     subst (AppendsText c.args.page.now.bytes c.loop-rest.page.bytes) whole c.loop-rest.invariant.written

@@ -1,7 +1,6 @@
 -- CPU by CPU.
-use Rattle.std.proofs.Common.{◌≡◌, Bool, Result, Ok, Err, IsTrue, IfOk}
-use Rattle.rmm_spec.specs.HistoryText.{History}
-use Rattle.spec_machine.specs.View.{state_of}
+use Rattle.finding.proofs.Common.{◌≡◌, History, IsTrue, state_of}
+use Rattle.std.proofs.Common.{Bool, Result, Ok, Err, IfOk}
 use Rattle.finding.specs.Begun.{IsLost}
 use Rattle.finding.specs.declared.begun.Begun.{Begun}
 use Rattle.finding.proofs.BegunLaws.{IsLost-alike}
@@ -24,7 +23,8 @@ alike_lost : {E : Type 0} (history : History) (one longer other : Begun) (result
     → IfOk result (λ alike. IsTrue alike → longer.front.counts ≡ other.front.counts)
     → IfOk result (λ alike. IsTrue alike → state_of longer.machine ≡ state_of other.machine) → (IsLost history one → IsLost history longer)
     → IfOk result (λ alike. IsTrue alike → IsLost history one → IsLost history other)
-alike_lost history one longer other (Ok alike) counts state lost = λ same first. IsLost-alike history longer other (counts same) (state same) (lost first)
+alike_lost history one longer other (Ok alike) counts state lost =
+    λ same first. IsLost-alike history longer other (counts same) (state same) (lost first)
 alike_lost history one longer other (Err refused) counts state lost = tt
 
 pub returns : goal.returns

@@ -1,7 +1,6 @@
 -- One event more.
-use Rattle.std.proofs.Common.{List, [], ◌∷◌, ◌++◌, sym, ap, ◌∙◌}
+use Rattle.finding.proofs.Common.{◌++◌, ◌∙◌, ◌∷◌, History, List, [], ap, sym}
 use Rattle.rmm_spec.specs.declared.event.Event.{Event}
-use Rattle.rmm_spec.specs.HistoryText.{History}
 use Rattle.lemmas.proofs.Elements.{take-next_at}
 use Rattle.finding.proofs.first_part.first_part.Goals as goal
 

@@ -1,8 +1,7 @@
 -- Return by return.
-use Rattle.std.proofs.Common.{◌≡◌, length, sym, ◌∙◌, arith}
+use Rattle.finding.proofs.Common.{◌∙◌, ◌≡◌, IsBegun, arith, length, sym}
 use Rattle.std.proofs.lemmas.Bool.{eqb-true}
 use Rattle.std.proofs.lemmas.List.Elements.{All-nil}
-use Rattle.finding.specs.Begun.{IsBegun}
 use Rattle.finding.proofs.Rounds.{AllBegun-push, AllLost-pop}
 use Rattle.finding.proofs.forward.forward.Goals as goal
 

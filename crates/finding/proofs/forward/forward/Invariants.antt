@@ -1,7 +1,6 @@
 -- The orders that are kept: where they lead nowhere, all do.
-use Rattle.std.proofs.Common.{[]}
-use Rattle.order_laws.specs.Order.{LeadsNowhere}
-use Rattle.finding.specs.Begun.{AllBegun, AllLost}
+use Rattle.finding.proofs.Common.{AllLost, LeadsNowhere, []}
+use Rattle.finding.specs.Begun.{AllBegun}
 use Rattle.finding.proofs.forward.forward.Given as goal
 
 abbrev pub invariant-places : goal.invariant-places

@@ -1,8 +1,5 @@
-use Rattle.std.proofs.Common.{List, subst, sym}
+use Rattle.finding.proofs.Common.{Line, List, Passes, State, subst, sym}
 use Rattle.std.proofs.lemmas.Result.{IfOk-weaker}
-use Rattle.rmm_spec.specs.declared.line.Line.{Line}
-use Rattle.rmm_spec.specs.FirstFault.{Passes}
-use Rattle.rmm_spec.specs.State.{State}
 use Rattle.finding.proofs.longest.longest_order.Goals as goal
 
 pub returns : goal.returns

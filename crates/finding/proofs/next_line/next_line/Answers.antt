@@ -6,28 +6,34 @@ use Rattle.finding.proofs.next_line.next_line.Goals as goal
 
 pub returns-in_default : goal.returns-in_default
 returns-in_default c =
-    IsNextLine-none c.args.history.now.recorded c.requires.begun.front.is_history c.args.begun.now c.args.left c.args.first c.requires.first c.requires.least
+    IsNextLine-none c.args.history.now.recorded c.requires.begun.front.is_history
+    c.args.begun.now c.args.left c.args.first c.requires.first c.requires.least
     c.requires.returned (2 ^ 32) c.in_default.ensures.least (omega arith)
 
 pub returns-then-rank-choice : goal.returns-then-rank-choice
 returns-then-rank-choice c =
-    GoesBehind-late c.args.history.now.recorded c.requires.begun.front.is_history c.args.begun.now c.args.left c.args.first c.requires.first c.requires.least
+    GoesBehind-late c.args.history.now.recorded c.requires.begun.front.is_history
+    c.args.begun.now c.args.left c.args.first c.requires.first c.requires.least
     c.requires.returned c.in-Some.choice c.in-Some.ensures.next c.in-Some.ensures.least (omega (arith, c.rank.ensures.rank, c.if-rank-choice.true))
     c.behind.result c.behind.ensures.from c.behind.ensures.above
 
 pub behind-requires-in-Some-returned : goal.behind-requires-in-Some-returned
 behind-requires-in-Some-returned c =
-    rank_of_next c.args.history.now.recorded c.requires.begun.front.is_history c.args.begun.now.front.counts c.args.left.from c.in-Some.choice c.in-Some.ensures.next
+    rank_of_next c.args.history.now.recorded c.requires.begun.front.is_history
+    c.args.begun.now.front.counts c.args.left.from c.in-Some.choice c.in-Some.ensures.next
 
 pub pending_line-requires-clause-soon : goal.pending_line-requires-clause-soon
 pending_line-requires-clause-soon c =
-    IsSoon-called c.args.history.now.recorded c.requires.begun.front.is_history c.args.begun.now c.args.first c.requires.least c.args.left.from c.in-Some.choice
+    IsSoon-called c.args.history.now.recorded c.requires.begun.front.is_history
+    c.args.begun.now c.args.first c.requires.least c.args.left.from c.in-Some.choice
     c.in-Some.ensures.next (omega (arith, c.rank.ensures.rank, c.if-rank-choice.false))
 
 pub returns-in-Some-returned : goal.returns-in-Some-returned
 returns-in-Some-returned c =
     let history = c.args.history.now.recorded in
-    let soon = IsSoon-called history c.requires.begun.front.is_history c.args.begun.now c.args.first c.requires.least c.args.left.from c.in-Some.choice
+    let soon =
+    IsSoon-called history c.requires.begun.front.is_history c.args.begun.now c.args.first c.requires.least c.args.left.from c.in-Some.choice
     c.in-Some.ensures.next (omega (arith, c.rank.ensures.rank, c.if-rank-choice.false)) in
-    MayStand-kept history c.requires.begun.front.is_history c.args.begun.now c.args.left c.in-Some.choice c.in-Some.ensures.next c.in-Some.ensures.least soon
+    MayStand-kept history c.requires.begun.front.is_history c.args.begun.now
+    c.args.left c.in-Some.choice c.in-Some.ensures.next c.in-Some.ensures.least soon
     _ c.in-Some-returned.is _ c.behind-in-Some-returned.ensures.from c.behind-in-Some-returned.ensures.above

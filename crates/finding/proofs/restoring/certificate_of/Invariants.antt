@@ -1,6 +1,5 @@
 -- The lines so far.
-use Rattle.std.proofs.Common.{◌≡◌, take}
-use Rattle.finding.specs.Search.{lines_of}
+use Rattle.finding.proofs.Common.{◌≡◌, lines_of, take}
 use Rattle.finding.proofs.restoring.certificate_of.Given as goal
 
 abbrev pub invariant-loop-frame : goal.invariant-loop-frame

@@ -1,6 +1,4 @@
-use Rattle.spec_machine.specs.View.{state_of}
-use Rattle.checker.proofs.Judging.{HasOnePlaces-from_history}
-use Rattle.finding.specs.Search.{lines_of}
+use Rattle.finding.proofs.Common.{HasOnePlaces-from_history, lines_of, state_of}
 use Rattle.finding.proofs.LeftBehind.{Passes-left}
 use Rattle.finding.proofs.Searches.{Reaches-machine}
 use Rattle.finding.proofs.restoring.machine_behind.Goals as goal

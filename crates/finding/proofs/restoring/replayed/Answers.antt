@@ -1,8 +1,6 @@
-use Rattle.std.proofs.Common.{◌<◌, refl, subst, take, length, arith}
+use Rattle.finding.proofs.Common.{◌<◌, arith, length, lines_of, refl, state_of, subst, take}
 use Rattle.std.proofs.lemmas.Option.{slice_get_read}
 use Rattle.order_laws.specs.Order.{Reaches}
-use Rattle.spec_machine.specs.View.{state_of}
-use Rattle.finding.specs.Search.{lines_of}
 use Rattle.finding.proofs.Replayed.{Reaches-replayed}
 use Rattle.finding.proofs.restoring.replayed.Goals as goal
 

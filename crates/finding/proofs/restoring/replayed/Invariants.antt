@@ -1,8 +1,6 @@
 -- The lines so far.
-use Rattle.std.proofs.Common.{take}
+use Rattle.finding.proofs.Common.{lines_of, state_of, take}
 use Rattle.order_laws.specs.Order.{Reaches}
-use Rattle.spec_machine.specs.View.{state_of}
-use Rattle.finding.specs.Search.{lines_of}
 use Rattle.finding.proofs.restoring.replayed.Given as goal
 
 abbrev pub invariant-loop-at : goal.invariant-loop-at

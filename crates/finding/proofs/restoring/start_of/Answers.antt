@@ -1,5 +1,4 @@
-use Rattle.std.proofs.Common.{[], sym, ap, ◌∙◌, subst, arith}
-use Rattle.rmm_spec.specs.State.{opening}
+use Rattle.finding.proofs.Common.{◌∙◌, [], ap, arith, opening, subst, sym}
 use Rattle.order_laws.specs.Order.{Reaches}
 use Rattle.order_laws.proofs.Growth.{Reaches-nil}
 use Rattle.finding.proofs.restoring.start_of.Goals as goal

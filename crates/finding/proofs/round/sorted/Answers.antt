@@ -35,4 +35,5 @@ orders-preserved c =
 
 pub is_up_to-requires : goal.is_up_to-requires
 is_up_to-requires c =
-    (AllBegun-pop c.args.history.now.recorded c.orders.left.items c.pop.new.self.items c.in-Some.begun c.in-Some.ensures.items c.orders.invariant.left).1
+    (AllBegun-pop c.args.history.now.recorded c.orders.left.items c.pop.new.self.items
+    c.in-Some.begun c.in-Some.ensures.items c.orders.invariant.left).1

@@ -1,11 +1,8 @@
 -- One order more.
-use Rattle.std.proofs.Common.{sym, subst}
+use Rattle.finding.proofs.Common.{History, Passes, State, subst, sym}
 use Rattle.std.specs.List.{All}
 use Rattle.std.proofs.lemmas.List.Elements.{All-push}
 use Rattle.certificate.specs.declared.certificate.Certificate.{Certificate}
-use Rattle.rmm_spec.specs.FirstFault.{Passes}
-use Rattle.rmm_spec.specs.HistoryText.{History}
-use Rattle.rmm_spec.specs.State.{State}
 use Rattle.finding.proofs.survivors.first_orders.Goals as goal
 
 abbrev passes : History → Certificate → Type 0

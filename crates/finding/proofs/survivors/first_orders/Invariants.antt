@@ -1,7 +1,6 @@
 -- The orders so far.
+use Rattle.finding.proofs.Common.{Passes, State}
 use Rattle.std.specs.List.{All}
-use Rattle.rmm_spec.specs.FirstFault.{Passes}
-use Rattle.rmm_spec.specs.State.{State}
 use Rattle.finding.proofs.survivors.first_orders.Given as goal
 
 abbrev pub invariant-orders : goal.invariant-orders

@@ -18,4 +18,5 @@ give-requires-clause-held g c =
 
 pub returns-in-Free-clause-granules : goal.returns-in-Free-clause-granules
 returns-in-Free-clause-granules g c =
-    granules-without c.args.granules.now.granules c.in-Free.pa (hold_cells c.args.hold.now) (hold_cells c.give.new.hold) c.requires.granules c.give.ensures.cells
+    granules-without c.args.granules.now.granules c.in-Free.pa (hold_cells c.args.hold.now)
+    (hold_cells c.give.new.hold) c.requires.granules c.give.ensures.cells

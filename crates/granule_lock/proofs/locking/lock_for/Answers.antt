@@ -15,7 +15,8 @@ loop-step-init g c = record {
 pub loop-step-preserved : goal.loop-step-preserved
 loop-step-preserved g c = record {
   granules = c.goes_on.ensures.granules;
-  planned = reached-push _ _ _ (locking (hold_cells c.loop-step.hold) c.loop-step.learnt) (locking (hold_cells c.goes_on.new.hold) c.goes_on.new.learnt)
+  planned = reached-push _ _ _ (locking (hold_cells c.loop-step.hold) c.loop-step.learnt)
+      (locking (hold_cells c.goes_on.new.hold) c.goes_on.new.learnt)
       c.loop-step.invariant.planned
       (subst (λ (x : Call). IsPlannedStep c.args.config.now x (place_of c.args.place.now) (locking (hold_cells c.loop-step.hold) c.loop-step.learnt)
       (locking (hold_cells c.goes_on.new.hold) c.goes_on.new.learnt)) c.call-call.ensures (c.goes_on.ensures.planned (search rules)));

@@ -11,5 +11,6 @@ returns-clause-happened c = λ is. record {
   cpu = is.cpu;
   moment = subst IsMoment (sym c.renamed_moment-moment.ensures.seen)
       (IsMoment-renamed c.args.names.now c.args.granules c.args.last (moment_seen c.args.slot.moment)
-      (let few : length c.args.names.now ≤ granule_limit Large = omega (arith, c.len-fact.ensures.len, c.len-fact.ensures.most) in few) c.requires.granules is.moment);
+      (let few : length c.args.names.now ≤ granule_limit Large =
+      omega (arith, c.len-fact.ensures.len, c.len-fact.ensures.most) in few) c.requires.granules is.moment);
 }

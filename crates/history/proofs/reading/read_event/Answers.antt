@@ -22,7 +22,8 @@ returns-clause-read c =
 pub returns-in_err-record_line-clause-fault : goal.returns-in_err-record_line-clause-fault
 returns-in_err-record_line-clause-fault c =
     let p = err_from_is_err_and c.from_residual.result c.from_residual.ensures.1 in
-    rw (p.1, p.2) (λ more. IsFaultOf-next c.args.history.now.recorded c.args.line.now more c.well_formed-fact.ensures c.in_err-record_line.ensures.no_memory)
+    rw (p.1, p.2) (λ more. IsFaultOf-next c.args.history.now.recorded c.args.line.now
+    more c.well_formed-fact.ensures c.in_err-record_line.ensures.no_memory)
 
 pub returns-in_err-record_line-clause-memory : goal.returns-in_err-record_line-clause-memory
 returns-in_err-record_line-clause-memory c = λ _.

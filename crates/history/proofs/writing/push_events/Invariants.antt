@@ -7,7 +7,8 @@ use Rattle.history.proofs.writing.push_events.Given as goal
 -- what is written and what is left to write are the whole text
 abbrev pub invariant-loop-place : goal.invariant-loop-place
 invariant-loop-place l = record {
-  written : l.out.items ++ lines_text (map event_parts (drop l.place l.history.recorded.events)) ≡ l.fn.out.items ++ lines_text (map event_parts l.history.recorded.events);
+  written : l.out.items ++ lines_text (map event_parts (drop l.place l.history.recorded.events))
+      ≡ l.fn.out.items ++ lines_text (map event_parts l.history.recorded.events);
   left : length l.out.items + length (lines_text (map event_parts (drop l.place l.history.recorded.events)))
       ≡ length l.fn.out.items + length (lines_text (map event_parts l.history.recorded.events));
   kept : take (length l.fn.out.items) l.out.items ≡ l.fn.out.items;

@@ -11,5 +11,14 @@ returns-in_err-push_escaped_byte-clause-full c =
     let within = flat_map_within escaped_byte c.args.bytes.now c.loop-byte.byte-index 0 c.loop-byte-test.true in
     let longer = ap length c.loop-byte.invariant.written in
     let full : vec_capacity c.args.out.now < vec_len c.args.out.now + length (escaped c.args.bytes.now) =
-    omega (arith, within, longer, c.loop-byte.invariant.capacity, c.in_err-push_escaped_byte.ensures.full, length-append c.args.out.now.items (escaped (take c.loop-byte.byte-index c.args.bytes.now)), c.args.out.now.ok.0, c.loop-byte.out.ok.0) in
+    omega (
+      arith,
+      within,
+      longer,
+      c.loop-byte.invariant.capacity,
+      c.in_err-push_escaped_byte.ensures.full,
+      length-append c.args.out.now.items (escaped (take c.loop-byte.byte-index c.args.bytes.now)),
+      c.args.out.now.ok.0,
+      c.loop-byte.out.ok.0,
+    ) in
     grind (arith, common_steps, full)

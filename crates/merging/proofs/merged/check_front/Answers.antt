@@ -1,13 +1,10 @@
-use Rattle.std.proofs.Common.{◌≡◌, ℕ, ◌+◌, ◌≤◌, ◌<◌, length, Some, sym, ap, ◌∙◌, subst, arith}
-use Rattle.std.specs.Prelude.{slice_get}
+use Rattle.merging.proofs.Common.{◌+◌, ◌<◌, ◌∙◌, ◌≡◌, ◌≤◌, Some, ap, arith, happened_seen, known_front, lasts_in, length, no_lasts, slice_get, stand_at, stands_in, starts, subst, sym, ℕ}
 use Rattle.std.proofs.lemmas.Option.{none-some}
-use Rattle.granule_names.specs.Renamed.{lasts_in, lasts_with, no_lasts}
-use Rattle.recorded_events.specs.Seen.{happened_seen}
+use Rattle.granule_names.specs.Renamed.{lasts_with}
 use Rattle.merging.specs.Merge.{IsWalkedTo}
 use Rattle.merging.specs.Naming.{events_named, told_slot}
 use Rattle.merging.specs.Refusals.{Refuses, IsRefused}
-use Rattle.merging.specs.Run.{known_front, starts, stand_at}
-use Rattle.merging.specs.Seen.{stands_in, walked_seen}
+use Rattle.merging.specs.Seen.{walked_seen}
 use Rattle.merging.proofs.NamingLaws.{told-at, named_slot-cpu, named_slot-line, length-named_from, lasts_after-next}
 use Rattle.merging.proofs.RunLaws.{known_front-some, known_front-slot_at, length-known_front, IsWalkedTo-begun, IsWalkedTo-next, CanMerge-walked, AreFew-walked}
 use Rattle.merging.proofs.StepLaws.{IsRefused-next, stands_in-start}
@@ -51,7 +48,8 @@ returns-in-Err-clause-fault c =
     let within : stamp ≤ length front = omega (arith, c.loop-stamp-test.true, c.requires) in
     let is : slice_get front stamp ≡ Some slot = known_front-some c.args.table.now.slots stamp slot within (sym c.in-Some.ensures.seen) in
     let event_is : slice_get events stamp ≡ Some told =
-    told-at c.args.naming.now c.args.config.granules c.granules-granules.result (lasts_in c.loop-stamp.lasts) front stamp slot is c.granules-granules.ensures.count
+    told-at c.args.naming.now c.args.config.granules c.granules-granules.result
+    (lasts_in c.loop-stamp.lasts) front stamp slot is c.granules-granules.ensures.count
     c.loop-stamp.invariant.lasts in
     let last = lasts_in c.loop-stamp.lasts slot.cpu in
     let refused = subst (λ (cpu : ℕ). Refuses c.cpus-count.result walked.events walked.lines (stand_at walked.stands cpu) told c.in-Err.refusal)
@@ -74,7 +72,8 @@ loop-stamp-preserved c =
     let within : stamp ≤ length front = omega (arith, c.loop-stamp-test.true, c.requires) in
     let is : slice_get front stamp ≡ Some slot = known_front-some c.args.table.now.slots stamp slot within (sym c.in-Some.ensures.seen) in
     let event_is : slice_get events stamp ≡ Some told =
-    told-at c.args.naming.now c.args.config.granules c.granules-granules.result (lasts_in c.loop-stamp.lasts) front stamp slot is c.granules-granules.ensures.count
+    told-at c.args.naming.now c.args.config.granules c.granules-granules.result
+    (lasts_in c.loop-stamp.lasts) front stamp slot is c.granules-granules.ensures.count
     c.loop-stamp.invariant.lasts in
     record {
       walked = subst (λ (n : ℕ). IsWalkedTo (stamp + 1) events n next) cpus

@@ -1,8 +1,6 @@
-use Rattle.std.proofs.Common.{◌≡◌, take}
-use Rattle.granule_names.specs.Renamed.{lasts_in, no_lasts}
+use Rattle.merging.proofs.Common.{◌≡◌, known_front, lasts_in, no_lasts, take}
 use Rattle.merging.specs.Merge.{IsWalkedTo}
 use Rattle.merging.specs.Naming.{events_named, lasts_after}
-use Rattle.merging.specs.Run.{known_front}
 use Rattle.merging.specs.Seen.{walked_seen}
 use Rattle.merging.proofs.merged.check_front.Given as goal
 

@@ -1,6 +1,5 @@
-use Rattle.std.proofs.Common.{◌≡◌, length, arith}
+use Rattle.merging.proofs.Common.{◌≡◌, arith, known_front, length}
 use Rattle.std.proofs.lemmas.Result.{on_ok_weaker}
-use Rattle.merging.specs.Run.{known_front}
 use Rattle.merging.proofs.RunLaws.{length-known_front}
 use Rattle.merging.proofs.merged.check_whole.Goals as goal
 

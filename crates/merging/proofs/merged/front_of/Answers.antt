@@ -1,10 +1,6 @@
-use Rattle.std.proofs.Common.{◌≡◌, ◌∷◌, [], ◌++◌, take, Some, sym, subst, arith}
-use Rattle.std.specs.Prelude.{slice_get}
-use Rattle.std.proofs.lemmas.Option.{slice_get_within}
+use Rattle.merging.proofs.Common.{◌++◌, ◌∷◌, ◌≡◌, Some, [], arith, happened_seen, known_front, slice_get, slice_get_within, subst, sym, take}
 use Rattle.std.proofs.lemmas.List.{length-take}
-use Rattle.recorded_events.specs.Seen.{happened_seen}
 use Rattle.merging.specs.Merge.{AreReturns}
-use Rattle.merging.specs.Run.{known_front}
 use Rattle.merging.proofs.RunLaws.{known_front-none, known_front-some, length-known_front, returns_in-le, AreReturns-push, AreReturns-whole, take_next}
 use Rattle.merging.proofs.merged.front_of.Goals as goal
 

@@ -1,6 +1,5 @@
-use Rattle.std.proofs.Common.{◌≤◌, length, take}
+use Rattle.merging.proofs.Common.{◌≤◌, known_front, length, take}
 use Rattle.merging.specs.Merge.{AreReturns}
-use Rattle.merging.specs.Run.{known_front}
 use Rattle.merging.proofs.merged.front_of.Given as goal
 
 abbrev pub invariant-loop-stamp : goal.invariant-loop-stamp

@@ -1,13 +1,9 @@
-use Rattle.std.proofs.Common.{◌≡◌, length, take, Some, sym, ap, ◌∙◌, arith}
-use Rattle.std.specs.Prelude.{slice_get}
+use Rattle.merging.proofs.Common.{◌∙◌, ◌≡◌, Some, ap, arith, happened_seen, known_front, lasts_in, length, slice_get, slice_get_within, sym, take}
 use Rattle.std.proofs.Math.Seq.{take-length}
-use Rattle.std.proofs.lemmas.Option.{slice_get_within}
 use Rattle.std.proofs.lemmas.Result.{err_from_is_err_and}
 use Rattle.granule_names.specs.Names.{names_from}
-use Rattle.granule_names.specs.Renamed.{lasts_in, lasts_with, moment_addresses}
-use Rattle.recorded_events.specs.Seen.{happened_seen}
+use Rattle.granule_names.specs.Renamed.{lasts_with, moment_addresses}
 use Rattle.merging.specs.Naming.{names_of}
-use Rattle.merging.specs.Run.{known_front}
 use Rattle.merging.proofs.NamingLaws.{lasts_after-next, names_of-next, IsUnnamed-next}
 use Rattle.merging.proofs.RunLaws.{known_front-none, known_front-some, length-known_front}
 use Rattle.merging.proofs.naming.names_known.Goals as goal
@@ -58,4 +54,5 @@ returns-clause-names c =
       c.len-stamp-end.ensures.len,
       c.loop-stamp-test.false,
     ) in
-    c.loop-stamp.invariant.names ∙ ap (λ n. names_of c.args.limits.memory (take n front)) whole ∙ ap (names_of c.args.limits.memory) (take-length front)
+    c.loop-stamp.invariant.names ∙ ap (λ n. names_of c.args.limits.memory (take n front)) whole
+    ∙ ap (names_of c.args.limits.memory) (take-length front)

@@ -1,7 +1,5 @@
-use Rattle.std.proofs.Common.{◌≡◌, ◌≤◌, length, take}
-use Rattle.granule_names.specs.Renamed.{lasts_in, no_lasts}
+use Rattle.merging.proofs.Common.{◌≡◌, ◌≤◌, known_front, lasts_in, length, no_lasts, take}
 use Rattle.merging.specs.Naming.{names_of, lasts_after}
-use Rattle.merging.specs.Run.{known_front}
 use Rattle.merging.proofs.naming.names_known.Given as goal
 
 abbrev pub invariant-loop-stamp : goal.invariant-loop-stamp

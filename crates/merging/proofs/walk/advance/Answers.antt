@@ -1,7 +1,6 @@
-use Rattle.std.proofs.Common.{◌≤◌, ◌<◌, length, get_or, subst, arith}
+use Rattle.merging.proofs.Common.{◌<◌, ◌≤◌, Stand, arith, happened_seen, length, subst}
+use Rattle.std.proofs.Common.{get_or}
 use Rattle.std.proofs.lemmas.List.{get_or_default}
-use Rattle.recorded_events.specs.Seen.{happened_seen}
-use Rattle.merging.specs.Run.{Stand}
 use Rattle.merging.proofs.StepLaws.{stands_in-at, stands_in-advanced}
 use Rattle.merging.proofs.walk.advance.Goals as goal
 
@@ -11,7 +10,8 @@ after-next-requires-clause-calls c =
     let at = c.from-at.result in
     let cpu = get_or cpus at c.index-cpus-at.result in
     let within : at < length cpus = omega (arith, c.from-at.ensures, c.requires.cpu, c.told-cpus) in
-    let few = subst (λ (s : Stand). s.calls ≤ 2000000) (stands_in-at cpus at cpu within (get_or_default cpus at _ cpu within)) (c.requires.few_calls.calls at) in
+    let few = subst (λ (s : Stand). s.calls ≤ 2000000)
+    (stands_in-at cpus at cpu within (get_or_default cpus at _ cpu within)) (c.requires.few_calls.calls at) in
     omega (arith, few)
 
 pub after-next-requires-clause-returns : goal.after-next-requires-clause-returns
@@ -20,7 +20,8 @@ after-next-requires-clause-returns c =
     let at = c.from-at.result in
     let cpu = get_or cpus at c.index-cpus-at.result in
     let within : at < length cpus = omega (arith, c.from-at.ensures, c.requires.cpu, c.told-cpus) in
-    let few = subst (λ (s : Stand). s.returns ≤ 2000000) (stands_in-at cpus at cpu within (get_or_default cpus at _ cpu within)) (c.requires.few_calls.returns at) in
+    let few = subst (λ (s : Stand). s.returns ≤ 2000000)
+    (stands_in-at cpus at cpu within (get_or_default cpus at _ cpu within)) (c.requires.few_calls.returns at) in
     omega (arith, few)
 
 pub returns : goal.returns
@@ -29,4 +30,5 @@ returns c =
     let at = c.from-at.result in
     let cpu = get_or cpus at c.index-cpus-at.result in
     let within : at < length cpus = omega (arith, c.from-at.ensures, c.requires.cpu, c.told-cpus) in
-    stands_in-advanced cpus at cpu c.after-next.result (happened_seen c.args.slot) c.from-at.ensures within (get_or_default cpus at _ cpu within) c.after-next.ensures
+    stands_in-advanced cpus at cpu c.after-next.result (happened_seen c.args.slot) c.from-at.ensures within
+    (get_or_default cpus at _ cpu within) c.after-next.ensures

@@ -1,6 +1,4 @@
-use Rattle.std.proofs.Common.{arith}
-use Rattle.recorded_events.specs.Seen.{happened_seen}
-use Rattle.merging.specs.Seen.{stand_seen}
+use Rattle.merging.proofs.Common.{arith, happened_seen, stand_seen}
 use Rattle.merging.proofs.RoomLaws.{moment_short, refused_within}
 use Rattle.merging.proofs.writing.put_moment.Goals as goal
 

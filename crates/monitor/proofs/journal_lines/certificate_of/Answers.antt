@@ -22,16 +22,19 @@ loop-ticket-preserved g c =
     let entry = entry_of (logged_seen c.entry-entry.result) in
     let entry_at = c.entry-entry.ensures.entry in
     let number = numbers_of c.loop-ticket.numbers in
-    let is_number : 0 + count_of entry.cpu (take ticket entries) ≡ c.count-number.result = omega (arith, c.count-number.ensures.number, was.numbers entry.cpu) in
+    let is_number : 0 + count_of entry.cpu (take ticket entries) ≡ c.count-number.result =
+    omega (arith, c.count-number.ensures.number, was.numbers entry.cpu) in
     let line_at : slice_get (lines_for events entries) ticket ≡ Some c.line_of.result =
     slice_get-map_to (line_for events) (numbered entries) ticket _ (numbered-at (λ _. 0) entries ticket entry entry_at)
     ∙ ap (λ n. Some (line_for events (commitment entry n))) is_number ∙ ap Some (sym c.line_of.ensures.line) in
     record {
-      written = c.in_ok-push.ensures.ok ∙ ap (λ ls. ls ++ c.line_of.result ∷ []) was.written ∙ sym (take-next (lines_for events entries) ticket _ line_at);
+      written = c.in_ok-push.ensures.ok ∙ ap (λ ls. ls ++ c.line_of.result ∷ []) was.written
+          ∙ sym (take-next (lines_for events entries) ticket _ line_at);
       numbers = λ cpu. ap (λ next. next cpu) c.count-number.ensures.counted ∙ counted-push number (take ticket entries) entry was.numbers cpu
           ∙ ap (count_of cpu) (sym (take-next entries ticket entry entry_at));
       few = λ cpu. subst (λ n. n ≤ ticket + 1) (sym (ap (λ (next : ℕ → ℕ). next cpu) c.count-number.ensures.counted))
-          (put_elim (λ n. n ≤ ticket + 1) number entry.cpu (number entry.cpu + 1) cpu (λ _. omega (arith, was.few entry.cpu)) (λ _. omega (arith, was.few cpu)));
+          (put_elim (λ n. n ≤ ticket + 1) number entry.cpu (number entry.cpu + 1) cpu
+          (λ _. omega (arith, was.few entry.cpu)) (λ _. omega (arith, was.few cpu)));
     }
 
 pub returns-clause-written : goal.returns-clause-written

@@ -28,8 +28,8 @@ returns-clause-last g c =
     let waiting =
     subst (λ (ts : List TokenView). AreWaiting monitor programs ts (passes ++ pass ∷ []) (given ++ program ∷ [])) c.last_of-token.ensures
     (subst (λ (ps : List CpuView). AreWaiting monitor programs c.args.waiting.now.tokens.items ps (given ++ program ∷ [])) c.last_of-pass.ensures
-    (subst (λ (vs : List (Vec Command Global)). AreWaiting monitor programs c.args.waiting.now.tokens.items c.args.waiting.now.passes.items vs) c.last_of-program.ensures
-    c.requires.waiting)) in
+    (subst (λ (vs : List (Vec Command Global)). AreWaiting monitor programs c.args.waiting.now.tokens.items c.args.waiting.now.passes.items vs)
+    c.last_of-program.ensures c.requires.waiting)) in
     waiting-last monitor c.args._scenario.now tokens passes given token pass program c.requires.limits waiting
 
 pub returns-clause-count : goal.returns-clause-count

@@ -18,7 +18,8 @@ pub returns-then-not-can_call : goal.returns-then-not-can_call
 returns-then-not-can_call c = record {
   answer = λ s cpu inside held read.
       ap (λ condition. Err (Misplaced condition)) (c.misplacement.ensures ∙ ap (misplacement true) c.caller_of.ensures)
-      ∙ outcome-pending s cpu c.args.call.now c.args.rec.now inside held.has_rec (sym c.can_call.ensures ∙ c.if-not-can_call.true) c.in_default.not-Exit;
+      ∙ outcome-pending s cpu c.args.call.now c.args.rec.now inside held.has_rec
+      (sym c.can_call.ensures ∙ c.if-not-can_call.true) c.in_default.not-Exit;
   fits = tt;
 }
 
@@ -29,6 +30,7 @@ returns c = record {
       ap (λ (r : RecRecord). answer_at r.owner (rec_inside s cpu) c.answer_to_call.result) here
       ∙ (c.answer_to_call.ensures.answer s (rec_inside s cpu) (realm_at-IsHeld s (rec_inside s cpu) c.args.realm.now c.args.rec.now held)
       (subst (λ (r : RecRecord). IfSome c.args.ripas (IsRipasRead s r.owner c.args.call.now)) here read)
-      ∙ outcome-row s cpu c.args.call.now c.args.rec.now inside held.has_rec (sym c.can_call.ensures ∙ c.if-not-can_call.false) c.in_default.not-Exit);
+      ∙ outcome-row s cpu c.args.call.now c.args.rec.now inside held.has_rec
+      (sym c.can_call.ensures ∙ c.if-not-can_call.false) c.in_default.not-Exit);
   fits = c.answer_to_call.ensures.fits;
 }

@@ -7,7 +7,8 @@ use Rattle.recorded_events.proofs.reading.read_event.Goals as goal
 
 pub returns-then-count-eq-MOST_EVENTS-clause-fault : goal.returns-then-count-eq-MOST_EVENTS-clause-fault
 returns-then-count-eq-MOST_EVENTS-clause-fault c = λ front more of_text.
-    rw c.next_number-number.ensures (too_many front c.args.table.now of_text c.args.bytes.now more (sym c.count.ensures.count ∙ c.if-count-eq-MOST_EVENTS.true))
+    rw c.next_number-number.ensures
+    (too_many front c.args.table.now of_text c.args.bytes.now more (sym c.count.ensures.count ∙ c.if-count-eq-MOST_EVENTS.true))
 
 pub returns-in_default-clause-fault : goal.returns-in_default-clause-fault
 returns-in_default-clause-fault c = λ front more of_text.

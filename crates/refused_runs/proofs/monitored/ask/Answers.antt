@@ -20,4 +20,5 @@ returns g c =
     let is_its : c.execute.new.token.cpu ≡ c.args.cpu =
     cpu-left c.in_ok-command.command token c.execute.new.token pass c.execute.new.pass c.execute.result c.execute.ensures.leaves
     ∙ cpus.numbered c.args.cpu token (slice_get-get_or c.args.tokens.now c.args.cpu c.index-tokens-cpu.result has_token) in
-    cpus-set c.args.monitor.now c.args.tokens.now c.args.passes.now c.args.cpu c.execute.new.token c.execute.new.pass cpus is_its c.execute.ensures.pair
+    cpus-set c.args.monitor.now c.args.tokens.now c.args.passes.now c.args.cpu
+    c.execute.new.token c.execute.new.pass cpus is_its c.execute.ensures.pair

@@ -64,9 +64,11 @@ returns-clause-only c = λ d is e.
 pub returns-in_err-words-clause-fault : goal.returns-in_err-words-clause-fault
 returns-in_err-words-clause-fault c =
     let p = err_from_is_err_and c.from_residual.result c.from_residual.ensures.1 in
-    rw (p.1, p.2) (IsCommandFault-from_words c.in-Some.function _ c.next_function.new.self c.args.parts _ c.in-Some.ensures.found refl c.in_err-words.ensures.fault)
+    rw (p.1, p.2)
+    (IsCommandFault-from_words c.in-Some.function _ c.next_function.new.self c.args.parts _ c.in-Some.ensures.found refl c.in_err-words.ensures.fault)
 
 pub returns-then-words-words_of-clause-fault : goal.returns-then-words-words_of-clause-fault
 returns-then-words-words_of-clause-fault c =
     WordCount-from c.in-Some.function _ c.next_function.new.self c.args.parts c.in-Some.ensures.found refl
-    (λ e. c.if-words-words_of.true (sym (length-map c.in_ok-words.words.now word) ∙ ap length (sym c.in_ok-words.ensures.found) ∙ e ∙ sym c.words_of.ensures))
+    (λ e. c.if-words-words_of.true (sym (length-map c.in_ok-words.words.now word)
+    ∙ ap length (sym c.in_ok-words.ensures.found) ∙ e ∙ sym c.words_of.ensures))

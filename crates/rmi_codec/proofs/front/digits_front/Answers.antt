@@ -8,7 +8,8 @@ use Rattle.rmi_codec.proofs.front.digits_front.Goals as goal
 
 pub returns-then-first-eq0-clause-found : goal.returns-then-first-eq0-clause-found
 returns-then-first-eq0-clause-found c =
-    zero_front 10 c.args.text.now (omega (arith, c.requires)) (sym (c.digit_of-first.ensures.shown c.if-first-ge10.false) ∙ ap glyph c.if-first-eq0.true)
+    zero_front 10 c.args.text.now (omega (arith, c.requires))
+    (sym (c.digit_of-first.ensures.shown c.if-first-ge10.false) ∙ ap glyph c.if-first-eq0.true)
 
 pub loop-count-init : goal.loop-count-init
 loop-count-init c = record {
@@ -35,7 +36,9 @@ pub loop-count-preserved : goal.loop-count-preserved
 loop-count-preserved c =
     let loop = c.loop-count in
     record {
-      so_far = SpellsSoFar-more 10 c.args.text.now loop.count loop.number c.digit_of-digit.result (omega arith) (omega (arith, c.loop-count-test.true, c.requires)) loop.invariant.so_far c.if-digit-ge10.false (c.digit_of-digit.ensures.shown c.if-digit-ge10.false);
+      so_far = SpellsSoFar-more 10 c.args.text.now loop.count loop.number c.digit_of-digit.result (omega arith)
+          (omega (arith, c.loop-count-test.true, c.requires)) loop.invariant.so_far c.if-digit-ge10.false
+          (c.digit_of-digit.ensures.shown c.if-digit-ge10.false);
       some = omega arith;
       within = omega (arith, c.loop-count-test.true);
       below = omega (arith, pow_more 10 loop.count, loop.invariant.below, c.if-digit-ge10.false);

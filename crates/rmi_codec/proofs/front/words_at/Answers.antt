@@ -10,8 +10,10 @@ loop-end-preserved c =
     let here = c.if-count-eq10.false in
     let more = take_more_set loop.words loop.count c.in_ok-word.word (omega (arith, here, loop.invariant.within, loop.invariant.counted)) in
     record {
-      read = rw more (words_more c.args.text.now c.args.at loop.end c.in_ok-word.next (take loop.count loop.words) c.in_ok-word.word loop.invariant.inside c.loop-end-test.true loop.invariant.read c.in_ok-word.ensures.found);
-      words = rw more (AllByRecursion-append _ (take loop.count loop.words) (c.in_ok-word.word ∷ []) loop.invariant.words (c.in_ok-word.ensures.within, tt));
+      read = rw more (words_more c.args.text.now c.args.at loop.end c.in_ok-word.next
+          (take loop.count loop.words) c.in_ok-word.word loop.invariant.inside c.loop-end-test.true loop.invariant.read c.in_ok-word.ensures.found);
+      words = rw more (AllByRecursion-append _ (take loop.count loop.words)
+          (c.in_ok-word.word ∷ []) loop.invariant.words (c.in_ok-word.ensures.within, tt));
       inside = c.in_ok-word.ensures.inside;
       on = omega (arith, loop.invariant.on, c.in_ok-word.ensures.on);
       within = omega (arith, here, loop.invariant.within);

@@ -9,5 +9,6 @@ returns-in_err-function-clause-none c =
 
 pub returns-clause-found : goal.returns-clause-found
 returns-clause-found c =
-    function_front c.args.text.now c.in_ok-function.function c.from_be_bytes.result c.requires (λ i. omega (arith, c.type_inv.text i)) c.from_be_bytes.ensures
+    function_front c.args.text.now c.in_ok-function.function c.from_be_bytes.result c.requires
+    (λ i. omega (arith, c.type_inv.text i)) c.from_be_bytes.ensures
     c.in_ok-function.ensures.found

@@ -18,4 +18,5 @@ returns-in_err-function-clause-none c =
 
 pub returns-clause-found : goal.returns-clause-found
 returns-clause-found c =
-    function_read c.args.line.now c.in_ok-function.function (let short = c.if-line-lt8.false in omega arith) (c.if-not-is_end.ensures.ended refl) c.in_ok-function.ensures.found
+    function_read c.args.line.now c.in_ok-function.function (let short = c.if-line-lt8.false in omega arith)
+    (c.if-not-is_end.ensures.ended refl) c.in_ok-function.ensures.found

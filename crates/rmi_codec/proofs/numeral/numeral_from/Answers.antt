@@ -17,4 +17,5 @@ returns-then-end-part-clause-only c = λ n _ e.
 
 pub returns-else-end-part-clause-only : goal.returns-else-end-part-clause-only
 returns-else-end-part-clause-only c = λ n _ e.
-    absurd (no_parts_behind c.args.base c.args.part.now c.in_ok-number.end c.in_ok-number.number n c.requires.least c.if-end-part.false c.in_ok-number.ensures.found e)
+    absurd (no_parts_behind c.args.base c.args.part.now c.in_ok-number.end
+    c.in_ok-number.number n c.requires.least c.if-end-part.false c.in_ok-number.ensures.found e)

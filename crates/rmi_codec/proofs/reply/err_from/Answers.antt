@@ -55,9 +55,11 @@ returns-in_err-status-clause-fault c =
 pub returns-in_err-index-clause-fault : goal.returns-in_err-index-clause-fault
 returns-in_err-index-clause-fault c =
     let p = err_from_is_err_and c.from_residual-in_err-index.result c.from_residual-in_err-index.ensures.1 in
-    rw (p.1, p.2) (IsReplyFault-from_index _ (decimal c.in_ok-status.status) c.args.parts c.take_small.new.parts c.in_ok-status.ensures.found c.in_err-index.ensures.fault)
+    rw (p.1, p.2) (IsReplyFault-from_index _
+    (decimal c.in_ok-status.status) c.args.parts c.take_small.new.parts c.in_ok-status.ensures.found c.in_err-index.ensures.fault)
 
 pub returns-in_err-finish-clause-fault : goal.returns-in_err-finish-clause-fault
 returns-in_err-finish-clause-fault c =
     let p = err_from_is_err_and c.from_residual-in_err-finish.result c.from_residual-in_err-finish.ensures.1 in
-    rw (p.1, p.2) (IsReplyFault-from_err_end _ (decimal c.in_ok-status.status) (decimal c.in_ok-index.index) c.args.parts c.take_small.new.parts c.take_small-2.new.parts c.in_ok-status.ensures.found c.in_ok-index.ensures.found c.in_err-finish.ensures.fault)
+    rw (p.1, p.2) (IsReplyFault-from_err_end _ (decimal c.in_ok-status.status) (decimal c.in_ok-index.index) c.args.parts
+    c.take_small.new.parts c.take_small-2.new.parts c.in_ok-status.ensures.found c.in_ok-index.ensures.found c.in_err-finish.ensures.fault)

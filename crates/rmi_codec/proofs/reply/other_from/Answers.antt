@@ -12,7 +12,8 @@ returns-in_default-clause-only c = λ r is e.
 
 pub returns-then-is_empty-clause-only : goal.returns-then-is_empty-clause-only
 returns-then-is_empty-clause-only c = λ r is e.
-    absurd (no_empty_first_part c.in-Some.form.now _ _ (reply_parts r) (sym c.is_empty.ensures ∙ c.if-is_empty.true) c.in-Some.ensures.next e (reply_parts-are_parts r))
+    absurd (no_empty_first_part c.in-Some.form.now _ _ (reply_parts r)
+    (sym c.is_empty.ensures ∙ c.if-is_empty.true) c.in-Some.ensures.next e (reply_parts-are_parts r))
 
 pub returns-clause-only : goal.returns-clause-only
 returns-clause-only c = λ r is e.

@@ -1,5 +1,4 @@
-use Rattle.rmm_spec.specs.Script.{script_config}
-use Rattle.rmm_spec.specs.State.{opening}
+use Rattle.rmm_laws.proofs.Common.{opening, script_config}
 use Rattle.rmm_laws.proofs.Replays.{no_replay-no_run}
 use Rattle.rmm_laws.proofs.Scripts.{no_runs}
 use Rattle.rmm_laws.proofs.profile_laws.longer_stretches_are_no_runs.Goals as goal

@@ -1,5 +1,4 @@
-use Rattle.rmm_spec.specs.Script.{script_config}
-use Rattle.rmm_spec.specs.State.{opening}
+use Rattle.rmm_laws.proofs.Common.{opening, script_config}
 use Rattle.rmm_laws.proofs.Replays.{replayed-run, no_replay-no_run}
 use Rattle.rmm_laws.proofs.Scripts.{all_runs, no_runs}
 use Rattle.rmm_laws.proofs.profile_laws.version_one_has_no_sha512.Goals as goal

@@ -7,7 +7,8 @@ loop-reached-init g c = root_is_reached _ _ _ _ _ _ _ c.requires c.read-reached.
 
 pub returns-in_default : goal.returns-in_default
 returns-in_default g c =
-    walk_ends _ _ _ _ _ _ _ (g.met.C.Cells.are_placed c.args.cells.now) c.loop-reached.invariant (λ room next is_link. c.in_default.not-Table next is_link)
+    walk_ends _ _ _ _ _ _ _ (g.met.C.Cells.are_placed c.args.cells.now) c.loop-reached.invariant
+    (λ room next is_link. c.in_default.not-Table next is_link)
 
 pub read-reached-requires-in-loop-reached : goal.read-reached-requires-in-loop-reached
 read-reached-requires-in-loop-reached g c =

@@ -1,5 +1,5 @@
 -- The lines of one function more.
-use Rattle.std.proofs.Common.{◌≡◌, ◌++◌, ◌∷◌, [], ℕ, List, take, refl, sym, ◌∙◌, ap, subst, arith}
+use Rattle.std.proofs.Common.{[], List, refl, sym, subst}
 use Rattle.std.proofs.lemmas.List.{append-nil, take_all}
 use Rattle.std.proofs.lemmas.Option.{slice_get-get_or}
 use Rattle.rmm_spec.specs.declared.function_id.FunctionId.{FunctionId}

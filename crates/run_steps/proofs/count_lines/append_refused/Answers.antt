@@ -1,5 +1,5 @@
 -- One line more.
-use Rattle.std.proofs.Common.{◌≡◌, ◌++◌, ◌∷◌, [], ℕ, List, map, take, Some, length, refl, sym, ◌∙◌, ap, subst, arith}
+use Rattle.std.proofs.Common.{◌++◌, ℕ, List, map, Some, sym, ◌∙◌, ap}
 use Rattle.std.proofs.lemmas.List.{append-nil, take_all}
 use Rattle.std.proofs.lemmas.Option.{slice_get-get_or}
 use Rattle.rmm_spec.specs.declared.condition.Condition.{Condition}
@@ -13,8 +13,10 @@ loop-i-init c = sym (append-nil c.args.out.now.items)
 
 pub loop-i-preserved : goal.loop-i-preserved
 loop-i-preserved c =
-    let more = answer_lines-more c.args.command.now c.args.counts.now c.args.function conditions c.loop-i.i _ (slice_get-get_or conditions c.loop-i.i _ c.loop-i-test.true) in
-    appended_on c.args.out.now.items _ _ c.loop-i.out.items c.append_line.new.out.items c.loop-i.invariant (rw (c.condition_name.ensures, c.count-count.ensures) at c.in_ok-append_line.ensures)
+    let more = answer_lines-more c.args.command.now c.args.counts.now c.args.function conditions c.loop-i.i _
+    (slice_get-get_or conditions c.loop-i.i _ c.loop-i-test.true) in
+    appended_on c.args.out.now.items _ _ c.loop-i.out.items c.append_line.new.out.items c.loop-i.invariant
+    (rw (c.condition_name.ensures, c.count-count.ensures) at c.in_ok-append_line.ensures)
     ∙ ap (λ (t : List ℕ). c.args.out.now.items ++ t) (sym more)
 
 pub returns : goal.returns

@@ -9,4 +9,5 @@ use Rattle.run_steps.proofs.granule_history.keep_step.Goals as goal
 pub returns-in_ok-push-clause-calls : goal.returns-in_ok-push-clause-calls
 returns-in_ok-push-clause-calls c history lines each named told =
     let here : GranuleStep = record { step = c.args.step; call = c.args.taken.call; is_changed = c.answer_touches-is_changed.result } in
-    subst (All (IsNamedStep history lines)) (sym c.in_ok-push.ensures.items) (All-push (IsNamedStep history lines) c.args.steps.now.items here each (named, told))
+    subst (All (IsNamedStep history lines)) (sym c.in_ok-push.ensures.items)
+    (All-push (IsNamedStep history lines) c.args.steps.now.items here each (named, told))

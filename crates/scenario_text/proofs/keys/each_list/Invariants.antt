@@ -7,4 +7,5 @@ use Rattle.scenario_text.proofs.Items.{with_rest}
 use Rattle.scenario_text.proofs.keys.each_list.Given as goal
 
 abbrev pub invariant-loop-value : goal.invariant-loop-value
-invariant-loop-value l = each_value (texts toml_kinds) (items_in (array_view l.items)) ≡ with_rest (texts toml_kinds) (seen_lists l.lists.items) (drop l.value-index l.items.items)
+invariant-loop-value l = each_value (texts toml_kinds) (items_in (array_view l.items))
+    ≡ with_rest (texts toml_kinds) (seen_lists l.lists.items) (drop l.value-index l.items.items)

@@ -8,4 +8,5 @@ use Rattle.scenario_text.proofs.Items.{with_rest}
 use Rattle.scenario_text.proofs.keys.each_text.Given as goal
 
 abbrev pub invariant-loop-value : goal.invariant-loop-value
-invariant-loop-value l = each_value as_str (items_in (array_view l.items)) ≡ with_rest as_str (seen_texts l.list.items) (drop l.value-index l.items.items)
+invariant-loop-value l =
+    each_value as_str (items_in (array_view l.items)) ≡ with_rest as_str (seen_texts l.list.items) (drop l.value-index l.items.items)

@@ -9,5 +9,6 @@ use Rattle.scenario_text.proofs.keys.has_known_keys.Goals as goal
 pub returns : goal.returns
 returns c =
     let keys = keys_of c.args.table.now.entries in
-    all_from_yields_List (λ key. is_key (string_bytes key)) _ _ c.all.result c.all.ensures.ran (YieldsList-from_rest keys c.keys.ensures.rest) (λ x b q k. search (rules, tests))
+    all_from_yields_List (λ key. is_key (string_bytes key)) _ _ c.all.result c.all.ensures.ran
+    (YieldsList-from_rest keys c.keys.ensures.rest) (λ x b q k. search (rules, tests))
     ∙ sym (known_keys-view c.args.table.now.entries)

@@ -8,4 +8,5 @@ use Rattle.scenario_text.proofs.ReadTo.{IsReadTo}
 use Rattle.scenario_text.proofs.program.programs_from.Given as goal
 
 abbrev pub invariant-loop-texts : goal.invariant-loop-texts
-invariant-loop-texts l = IsReadTo (AllByRecursion IsCommand) (map command_text) (AllByRecursion IsCommandText) (λ list. seen_texts list.items) l.lists l.texts-index (seen_programs l.programs.items)
+invariant-loop-texts l = IsReadTo (AllByRecursion IsCommand) (map command_text) (AllByRecursion IsCommandText)
+    (λ list. seen_texts list.items) l.lists l.texts-index (seen_programs l.programs.items)

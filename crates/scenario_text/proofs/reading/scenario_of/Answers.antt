@@ -15,7 +15,8 @@ returns-in_default-3-clause-fault c =
     let texts : seen_lists c.as_slice.result.now ≡ map (map command_text) programs = rw c.in-Some-2.is at c.in_ok-programs.ensures.texts in
     let commands : AllByRecursion (AllByRecursion IsCommand) programs = rw c.in-Some-2.is at c.in_ok-programs.ensures.commands in
     let readable : HasCommands stated = rw (rw c.as_slice.ensures.value at texts) (IsCommandText-all programs commands) in
-    let refused = rw (c.in_default-3.is, c.cpus.ensures.count, ← c.in-Some.ensures.found.programs, c.as_slice-2.ensures.value) at c.in_ok-turns.ensures.none in
+    let refused =
+    rw (c.in_default-3.is, c.cpus.ensures.count, ← c.in-Some.ensures.found.programs, c.as_slice-2.ensures.value) at c.in_ok-turns.ensures.none in
     (AreInRange-sizes stated c.in-Some.sizes c.in-Some.ensures.found c.in-Some.ensures.version, readable, refused)
 
 -- what the parts make
@@ -31,8 +32,10 @@ stated_by c =
     let texts : seen_lists c.as_slice.result.now ≡ map (map command_text) programs = rw c.in-Some-2.is at c.in_ok-programs.ensures.texts in
     let commands : AllByRecursion (AllByRecursion IsCommand) programs = rw c.in-Some-2.is at c.in_ok-programs.ensures.commands in
     let turn_texts : seen_texts c.as_slice-2.result.now ≡ map turn_text c.in-Some-3.turns.items = rw c.in-Some-3.is at c.in_ok-turns.ensures.texts in
-    let cpus : AllByRecursion (λ turn. turn.cpu < c.in-Some.sizes.config.cpus) c.in-Some-3.turns.items = rw (c.in-Some-3.is, c.cpus.ensures.count) at c.in_ok-turns.ensures.cpus in
-    IsStatedBy-parts (stated_seen c.args.stated.now) c.in-Some.sizes programs c.in-Some-3.turns.items c.in-Some.ensures.found c.in-Some.ensures.version
+    let cpus : AllByRecursion (λ turn. turn.cpu < c.in-Some.sizes.config.cpus) c.in-Some-3.turns.items =
+    rw (c.in-Some-3.is, c.cpus.ensures.count) at c.in_ok-turns.ensures.cpus in
+    IsStatedBy-parts (stated_seen c.args.stated.now)
+    c.in-Some.sizes programs c.in-Some-3.turns.items c.in-Some.ensures.found c.in-Some.ensures.version
     (rw c.as_slice.ensures.value at texts) commands (rw c.as_slice-2.ensures.value at turn_texts) cpus
 
 pub new-requires : goal.new-requires

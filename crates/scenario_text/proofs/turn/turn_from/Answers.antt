@@ -26,7 +26,8 @@ returns-in-Some-clause-text c =
     let low : digit - 48 < 10 = omega (arith, c.if-cpu-cpus.false, c.requires) in
     let again : digit ≡ digit - 48 + 48 = omega (arith, c.if-digit-lt48.false) in
     sym c.as_bytes-bytes.ensures.value
-    ∙ turn_text-from c.as_bytes-bytes.result.now digit turn low (not_empty-length (length c.as_bytes-bytes.result.now) c.if-is_empty.ensures) refl again
+    ∙ turn_text-from c.as_bytes-bytes.result.now digit turn low
+    (not_empty-length (length c.as_bytes-bytes.result.now) c.if-is_empty.ensures) refl again
     (sym c.split_at.ensures.back ∙ c.in-Some.ensures.found)
 
 pub returns-in-None-clause-none : goal.returns-in-None-clause-none

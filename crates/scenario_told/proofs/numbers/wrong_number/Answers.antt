@@ -24,7 +24,8 @@ loop-number-init c = λ all. all
 pub loop-number-preserved : goal.loop-number-preserved
 loop-number-preserved c = λ rest.
     c.loop-number.invariant (subst (AllByRecursion (IsInRange c.args.numbers.now))
-    (sym (at_drop_more (λ numbers. numbers) all_numbers c.loop-number.number-index number.Granules c.loop-number-test.true)) (c.in_default.ensures.none, rest))
+    (sym (at_drop_more (λ numbers. numbers) all_numbers c.loop-number.number-index number.Granules c.loop-number-test.true))
+    (c.in_default.ensures.none, rest))
 
 pub returns-clause-none : goal.returns-clause-none
 returns-clause-none c =

@@ -11,7 +11,8 @@ returns-in-Ok c =
     let written : Members = table_view c.in_ok-table.table in
     let same = c.in_ok-table.ensures.members in
     let shallow = subst (λ (members : Members). members_depth members ≤ 80) (sym same) (scenario_members-depth c.args.scenario.now) in
-    IsScenarioText-members (string_bytes c.in-Ok.text) written c.args.scenario.now (IsUtf8-string_bytes c.in-Ok.text) (c.in-Ok.ensures.reads_back shallow) same
+    IsScenarioText-members (string_bytes c.in-Ok.text) written c.args.scenario.now
+    (IsUtf8-string_bytes c.in-Ok.text) (c.in-Ok.ensures.reads_back shallow) same
     c.in_ok-table.ensures.limits
 
 pub unreachable-requires : goal.unreachable-requires

@@ -17,7 +17,8 @@ pub returns-clause-upper_page : goal.returns-clause-upper_page
 unfolding place_number table_number table_size entry_size
 returns-clause-upper_page c = λ places shaped.
     let bad : 2 ^ 26 * 2 ^ 12 < 2 ^ 38 =
-    (shaped.tables.kinds 0x4000 0 (table_at 3 upper_half (upper_beginning (Assigned Empty 0x5000))) new_record (Assigned Empty 0x5000) refl refl refl).0 in
+    (shaped.tables.kinds 0x4000 0 (table_at 3 upper_half (upper_beginning (Assigned Empty 0x5000)))
+    new_record (Assigned Empty 0x5000) refl refl refl).0 in
     omega arith
 
 pub returns-clause-lower_host : goal.returns-clause-lower_host
@@ -36,7 +37,8 @@ returns-clause-lower_host_page c = λ places shaped.
 pub returns-clause-high_page : goal.returns-clause-high_page
 returns-clause-high_page c = λ places shaped.
     let bad : ◌≡◌ {A = ℕ} 1 3 =
-    (shaped.tables.kinds 0x2000 0 (table_at 1 0 (root_entries (Assigned Empty 0x5000) UnassignedNs)) new_record (Assigned Empty 0x5000) refl refl refl).1 in
+    (shaped.tables.kinds 0x2000 0 (table_at 1 0 (root_entries (Assigned Empty 0x5000) UnassignedNs))
+    new_record (Assigned Empty 0x5000) refl refl refl).1 in
     omega arith
 
 pub returns-clause-high_host_page : goal.returns-clause-high_host_page

@@ -18,4 +18,5 @@ pub returns-clause-page_of_two_tables : goal.returns-clause-page_of_two_tables
 returns-clause-page_of_two_tables c = λ places shaped.
     let first = table_at 3 0 (beginning (Assigned Empty 0x5000)) in
     let second = table_at 3 0x200000 (beginning (Assigned Empty 0x5000)) in
-    let bad : ◌≡◌ {A = ℕ} 0x4000 0x6000 = (shaped.data_granules.apart 0x4000 0x6000 0 0 0x5000 first second Empty Empty refl refl refl refl).0 in omega arith
+    let bad : ◌≡◌ {A = ℕ} 0x4000 0x6000 =
+    (shaped.data_granules.apart 0x4000 0x6000 0 0 0x5000 first second Empty Empty refl refl refl refl).0 in omega arith

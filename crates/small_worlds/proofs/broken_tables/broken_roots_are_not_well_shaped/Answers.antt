@@ -13,15 +13,18 @@ returns-clause-rootless c = λ places shaped. let held = shaped.tables.roots 0x1
 pub returns-clause-foreign_root : goal.returns-clause-foreign_root
 returns-clause-foreign_root c = λ places shaped.
     let held = shaped.tables.roots 0x1000 (record new_record { root = 0x4000 }) refl in
-    let bad : ◌≡◌ {A = ℕ} 0x3000 0x1000 = ap (λ (t : TableRecord). t.place.rd) (same_Some (second_root (Unassigned Empty)) held.table held.is_held) ∙ held.is_realm in omega arith
+    let bad : ◌≡◌ {A = ℕ} 0x3000 0x1000 =
+    ap (λ (t : TableRecord). t.place.rd) (same_Some (second_root (Unassigned Empty)) held.table held.is_held) ∙ held.is_realm in omega arith
 
 pub returns-clause-low_root : goal.returns-clause-low_root
 returns-clause-low_root c = λ places shaped.
     let held = shaped.tables.roots 0x1000 (record new_record { root = 0x3000 }) refl in
-    let bad : ◌≡◌ {A = ℕ} 2 1 = ap (λ (t : TableRecord). t.place.level) (same_Some linked_middle held.table held.is_held) ∙ held.is_level in omega arith
+    let bad : ◌≡◌ {A = ℕ} 2 1 =
+    ap (λ (t : TableRecord). t.place.level) (same_Some linked_middle held.table held.is_held) ∙ held.is_level in omega arith
 
 pub returns-clause-later_root : goal.returns-clause-later_root
 unfolding place_number table_number table_size
 returns-clause-later_root c = λ places shaped.
     let held = shaped.tables.roots 0x1000 (record new_record { root = 0x3000 }) refl in
-    let bad : ◌≡◌ {A = ℕ} 1 0 = ap (λ (t : TableRecord). place_number t.place) (same_Some table_behind held.table held.is_held) ∙ held.is_number in omega arith
+    let bad : ◌≡◌ {A = ℕ} 1 0 =
+    ap (λ (t : TableRecord). place_number t.place) (same_Some table_behind held.table held.is_held) ∙ held.is_number in omega arith

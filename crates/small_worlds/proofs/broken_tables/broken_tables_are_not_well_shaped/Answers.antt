@@ -37,7 +37,8 @@ returns-clause-behind_space c = λ places shaped.
 pub returns-clause-off_base : goal.returns-clause-off_base
 unfolding place_number table_number table_size
 returns-clause-off_base c = λ places shaped.
-    let bad : ◌≡◌ {A = ℕ} 0x1000 0 = (shaped.tables.placed 0x2000 (record new_root { place = record new_root.place { base = 0x1000 } }) refl).2.base in
+    let bad : ◌≡◌ {A = ℕ} 0x1000 0 =
+    (shaped.tables.placed 0x2000 (record new_root { place = record new_root.place { base = 0x1000 } }) refl).2.base in
     omega arith
 
 pub returns-clause-empty_table : goal.returns-clause-empty_table
@@ -47,5 +48,6 @@ returns-clause-empty_table c = λ places shaped.
 pub returns-clause-doubled : goal.returns-clause-doubled
 returns-clause-doubled c = λ places shaped.
     let bad : ◌≡◌ {A = ℕ} 0x2000 0x3000 =
-    shaped.tables.apart 0x2000 0x3000 new_root refl (record { table = new_root; is_held = refl; is_realm = refl; is_level = refl; is_number = refl }) in
+    shaped.tables.apart 0x2000 0x3000 new_root refl
+    (record { table = new_root; is_held = refl; is_realm = refl; is_level = refl; is_number = refl }) in
     omega arith

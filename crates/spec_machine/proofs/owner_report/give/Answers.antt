@@ -1,4 +1,4 @@
-use Rattle.spec_machine.proofs.Common.{◌≡◌, ◌+◌, ◌-◌, ◌*◌, ◌/◌, ◌++◌, List, Some, ap, arith, length, owner_rows, slice_index_or, slice_set, sym, ◌∙◌}
+use Rattle.spec_machine.proofs.Common.{◌*◌, ◌++◌, ◌+◌, ◌-◌, ◌/◌, ◌∙◌, ◌≡◌, List, Some, ap, arith, length, owner_rows, slice_index_or, slice_set, sym}
 use Rattle.std.proofs.lemmas.List.{get_or-append_right, length-append, set-append_right}
 use Rattle.rmm_spec.specs.Cell.{put}
 use Rattle.shape_laws.proofs.Finds.{granule-number}
@@ -21,7 +21,8 @@ returns-then-number-saturating_sub c s of before owner size tied at =
     ∙ ap (λ i. slice_index_or rows i c.index_mut.result.now) place ∙ get_or-owner_rows s owner n number c.index_mut.result.now is.0 in
     let written : OwnerRow = record { granule = number * 4096; tag = s.tag (number * 4096); realm = Some a.rd } in
     put-given s before owner a.granule a.rd _ tied of
-    (ap (λ (row : OwnerRow). slice_set a.rows.now.items (a.first + number) row) (λ i. record { granule = (row i).granule; tag = (row i).tag; realm = Some (c.new.ensures i) })
+    (ap (λ (row : OwnerRow). slice_set a.rows.now.items (a.first + number) row)
+    (λ i. record { granule = (row i).granule; tag = (row i).tag; realm = Some (c.new.ensures i) })
     ∙ ap (λ (all : List OwnerRow). slice_set all (a.first + number) written) at
     ∙ set-append_right before rows a.first (a.first + number) written size (omega arith)
     ∙ ap (λ i. before ++ slice_set rows i written) place
@@ -33,4 +34,14 @@ returns-else-number-saturating_sub c s of before owner size tied at =
     let n = s.config.granules in
     let is = granule-number n c.args.granule of.0 in
     let whole = ap length at ∙ length-append before (owner_rows s owner n) in
-    absurd (omega (arith, c.if-number-saturating_sub.false, c.saturating_sub.ensures, c.len.ensures, whole, size, length-owner_rows s owner n, is.0, c.args.rows.now.ok.0))
+    absurd (omega (
+      arith,
+      c.if-number-saturating_sub.false,
+      c.saturating_sub.ensures,
+      c.len.ensures,
+      whole,
+      size,
+      length-owner_rows s owner n,
+      is.0,
+      c.args.rows.now.ok.0,
+    ))

@@ -1,8 +1,8 @@
-use Rattle.spec_machine.proofs.Common.{◌≡◌, Some, ap, arith, subst, sym, ◌∙◌}
+use Rattle.spec_machine.proofs.Common.{◌∙◌, ◌≡◌, IsOf, Some, ap, arith, subst, sym}
 use Rattle.std.proofs.lemmas.Option.{slice_get_within}
 use Rattle.rmm_spec.specs.declared.entry.Entry.TheVariants.{Assigned}
 use Rattle.rmm_spec.specs.declared.place.Place.{Place}
-use Rattle.spec_machine.specs.Owners.{Assigns, IsOf, IsPageOf}
+use Rattle.spec_machine.specs.Owners.{Assigns, IsPageOf}
 use Rattle.spec_machine.proofs.Owners.{gives-both, gives-none, gives-same, page-next}
 use Rattle.spec_machine.proofs.owner_report.give_pages.Goals as goal
 
@@ -22,4 +22,5 @@ returns c s whole of =
     let l = c.loop-index in
     let entries = c.args.table.now.entries in
     gives-same s c.args.first _ (IsPageOf entries) c.args.rows.now.items l.rows.items (l.invariant s whole of)
-    (λ page there. (there.0, there.1, omega (arith, slice_get_within entries there.0 (Assigned there.1 page) there.2, whole, c.loop-index-test.false), there.2))
+    (λ page there.
+    (there.0, there.1, omega (arith, slice_get_within entries there.0 (Assigned there.1 page) there.2, whole, c.loop-index-test.false), there.2))

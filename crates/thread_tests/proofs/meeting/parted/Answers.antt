@@ -9,5 +9,7 @@ pub returns : goal.returns
 returns g c =
     let first = c.args.first in
     let second = c.args.second in
-    subst (λ (p : List TokenView × List CpuView). AreCpus c.args._monitor.now p.0 p.1) (λ i. (sym c.in_ok-tokens.ensures i, sym c.in_ok-passes.ensures i))
-    (cpus-of_two c.args._monitor.now first.token second.token first.pass second.pass c.requires.two c.requires.first.0 c.requires.second.0 c.requires.first.1 c.requires.second.1)
+    subst (λ (p : List TokenView × List CpuView). AreCpus c.args._monitor.now p.0 p.1)
+    (λ i. (sym c.in_ok-tokens.ensures i, sym c.in_ok-passes.ensures i))
+    (cpus-of_two c.args._monitor.now first.token second.token first.pass second.pass
+    c.requires.two c.requires.first.0 c.requires.second.0 c.requires.first.1 c.requires.second.1)

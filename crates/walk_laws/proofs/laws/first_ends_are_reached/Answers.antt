@@ -1,4 +1,4 @@
-use Rattle.walk_laws.specs.SeenState.{seen_state}
+use Rattle.walk_laws.proofs.Common.{seen_state}
 use Rattle.walk_laws.proofs.Settled.{first-reached}
 use Rattle.walk_laws.proofs.laws.first_ends_are_reached.Goals as goal
 

@@ -7,4 +7,5 @@ returns-clause-walk c = λ granules side held cells places way shaped agrees las
 
 pub returns-clause-command : goal.returns-clause-command
 returns-clause-command c = λ granules side held cells places command way shaped agrees walks last end kept part.
-    kept-settled (record { cells = cells; places = places; shaped = shaped; agrees = agrees }) command way end.granule walks last end.is_table end.is_there kept part
+    kept-settled (record { cells = cells; places = places; shaped = shaped; agrees = agrees })
+    command way end.granule walks last end.is_table end.is_there kept part

@@ -4,7 +4,8 @@ use Rattle.walk_tests.proofs.walkable.is_walkable.Goals as goal
 
 pub returns-then-not-is_sound_at : goal.returns-then-not-is_sound_at
 returns-then-not-is_sound_at g c =
-    let sound = sound_from_walkable (g.C.Cells.cells c.args.cells.now) c.args.root c.args.ipa c.args.max (c.loop-number.number * 4096) c.place-top.result
+    let sound =
+    sound_from_walkable (g.C.Cells.cells c.args.cells.now) c.args.root c.args.ipa c.args.max (c.loop-number.number * 4096) c.place-top.result
     c.in-Some.table.now c.in-Some.ensures c.place-top.ensures in
     (λ bad. absurd (cc), λ walkable. c.if-not-is_sound_at.ensures.1 (sound walkable))
 

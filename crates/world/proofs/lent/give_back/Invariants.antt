@@ -1,7 +1,5 @@
-use Rattle.std.proofs.Common.{◌≡◌, length, drop, vec_len}
-use Rattle.rmm_spec.specs.Local.{put_all}
+use Rattle.world.proofs.Common.{◌≡◌, cells_of, drop, length, put_all, vec_len}
 use Rattle.command_core.specs.Pairs.{paired, pair_cells}
-use Rattle.world.specs.Granules.{cells_of}
 use Rattle.world.proofs.lent.give_back.Given as goal
 
 abbrev pub invariant-loop-place : goal.invariant-loop-place

@@ -1,14 +1,10 @@
-use Rattle.std.proofs.Common.{◌≡◌, ◌<◌, [], ◌∷◌, ◌++◌, sym, ap, ◌∙◌, subst, arith, length, get_or, take}
-use Rattle.std.specs.Prelude.{Contains}
+use Rattle.world.proofs.Common.{◌++◌, ◌<◌, ◌∙◌, ◌∷◌, ◌≡◌, Contains, [], ap, arith, cells_at, cells_of, get_or, length, put, subst, sym, take}
 use Rattle.std.proofs.lemmas.List.{get_or_default, length-map, length-take-le, take_all}
 use Rattle.rmm_spec.specs.Cell as whole
-use Rattle.rmm_spec.specs.Cell.{put}
 use Rattle.rmm_spec.specs.Local.{granules_held}
 use Rattle.spec_lemmas.proofs.Members.{granules_held-cells_at}
 use Rattle.world_laws.specs.Replaced.{held_at}
 use Rattle.command_core.specs.Seen.{is_held}
-use Rattle.world.specs.Granules.{cells_of}
-use Rattle.world.specs.Lent.{cells_at}
 use Rattle.world.proofs.Lending.{cells_at-next, distinct-before, is_held-apart, kept-next}
 use Rattle.world.proofs.lent.lend.Goals as goal
 
@@ -45,7 +41,8 @@ loop-pa-preserved c =
     let inv = c.loop-pa.invariant in
     let within : i < length gs = c.loop-pa-test.true in
     let at : pa ≡ get_or gs i 0 = c.pa-item.is ∙ get_or_default gs i pa 0 within in
-    let given = c.replace-cell.ensures.given ∙ inv.kept pa (λ has. distinct-before gs i within c.requires.distinct (subst (Contains (take i gs)) at has)) in
+    let given =
+    c.replace-cell.ensures.given ∙ inv.kept pa (λ has. distinct-before gs i within c.requires.distinct (subst (Contains (take i gs)) at has)) in
     record {
       size = c.replace-cell.ensures.size ∙ inv.size;
       lent = c.push.ensures ∙ (λ j. inv.lent j ++ held_at pa (given j) ∷ []) ∙ sym (cells_at-next gs i pa start within c.pa-item.is);

@@ -1,8 +1,5 @@
-use Rattle.std.proofs.Common.{◌≡◌, ℕ, take, vec_len}
-use Rattle.std.specs.Prelude.{Contains}
+use Rattle.world.proofs.Common.{◌≡◌, Contains, cells_at, cells_of, take, vec_len, ℕ}
 use Rattle.command_core.specs.Pairs.{pair_cells}
-use Rattle.world.specs.Granules.{cells_of}
-use Rattle.world.specs.Lent.{cells_at}
 use Rattle.world.proofs.lent.lend.Given as goal
 
 abbrev pub invariant-loop-pa : goal.invariant-loop-pa

@@ -1,10 +1,9 @@
-use Rattle.std.proofs.Common.{sym, ap, ◌∙◌}
+use Rattle.world.proofs.Common.{◌∙◌, ap, place_of, side_of, sym}
 use Rattle.rmm_spec.specs.Ownership.{is_accepted}
 use Rattle.shape_laws.specs.Whole.{side_changed}
 use Rattle.command_core.specs.Changed.{hold_of, hold_changed}
 use Rattle.command_core.specs.Decided.{answer_on}
-use Rattle.command_core.specs.Seen.{place_of, known_cell}
-use Rattle.command_core.specs.Sides.{side_of}
+use Rattle.command_core.specs.Seen.{known_cell}
 use Rattle.certified_laws.proofs.Accepted.{refused-is_local}
 use Rattle.world.proofs.Commits.{refused-unchanged}
 use Rattle.world.proofs.stepping.step_on.Goals as goal

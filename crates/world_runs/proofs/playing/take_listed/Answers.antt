@@ -12,6 +12,11 @@ loop-due-preserved c =
     let new = world_of c.turn.new.self in (
       subst (λ dues. Plays old dues new) (sym (take_more c.args.turns.now c.loop-due.due-index _ c.loop-due-test.true))
           (Plays-push old _ mid _ new c.loop-due.invariant.0
-          (record { turned = c.in_ok-turn.ensures.turned; exact = c.in_ok-turn.ensures.exact; planned = c.in_ok-turn.ensures.planned; is_new = c.in_ok-turn.ensures.world })),
+          (record {
+            turned = c.in_ok-turn.ensures.turned;
+            exact = c.in_ok-turn.ensures.exact;
+            planned = c.in_ok-turn.ensures.planned;
+            is_new = c.in_ok-turn.ensures.world;
+          })),
       config-Turns mid _ _ _ new c.in_ok-turn.ensures.turned ∙ c.loop-due.invariant.1,
     )

@@ -20,4 +20,5 @@ returns c =
     let programs = c.in_ok-programs.programs.items in
     let same : seen_programs programs ≡ scenario.programs = c.in_ok-programs.ensures ∙ c.programs.ensures.programs in
     subst (λ config. IfOk c.new.result (λ w. world_of w ≡ opening_world config (program_of scenario))) c.config.ensures.config
-    (subst (λ of. IfOk c.new.result (λ w. world_of w ≡ opening_world c.config.result.now of)) (programs_of-scenario scenario programs same) c.new.ensures.world)
+    (subst (λ of. IfOk c.new.result (λ w. world_of w ≡ opening_world c.config.result.now of))
+    (programs_of-scenario scenario programs same) c.new.ensures.world)

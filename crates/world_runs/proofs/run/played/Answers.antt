@@ -16,7 +16,8 @@ take_listed-requires c =
     let cpus = scenario.config.cpus in
     let listed : c.up_to-listed.result.now ≡ take c.limit-limit.result scenario.turns =
     c.up_to-listed.ensures.first ∙ ap (λ turns. take c.limit-limit.result turns) c.turns.ensures.turns in
-    let size = ap (λ (w : World). w.config.cpus) c.in_ok-world.ensures ∙ ap (λ (k : Config). k.cpus) (config-opening scenario.config (program_of scenario)) in
+    let size =
+    ap (λ (w : World). w.config.cpus) c.in_ok-world.ensures ∙ ap (λ (k : Config). k.cpus) (config-opening scenario.config (program_of scenario)) in
     let all = All-from_recursion (λ (turn : Due). turn.cpu < cpus) scenario.turns c.turns.ensures.limits.turns in
     let first = All-take (λ (turn : Due). turn.cpu < cpus) c.limit-limit.result scenario.turns all in
     subst (λ cpus. All (λ (turn : Due). turn.cpu < cpus) c.up_to-listed.result.now) (sym size)

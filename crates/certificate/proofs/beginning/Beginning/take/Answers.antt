@@ -22,4 +22,5 @@ pub returns-clause-read : goal.returns-clause-read
 returns-clause-read c =
     rw (← c.self.view_is) (λ text lines read.
     IsReadTo-ended text c.args.piece.now c.in-Some.last.now c.in-Some._later.now c.ended_line.new.begun lines _ c.in-Some-ended_line.line
-    c.in-Some.ensures.line c.in-Some-ended_line.ensures.forgotten c.in-Some-ended_line.ensures.found (omega (arith, c.if-self-ge-MOST_LINES.false)) read)
+    c.in-Some.ensures.line c.in-Some-ended_line.ensures.forgotten c.in-Some-ended_line.ensures.found
+    (omega (arith, c.if-self-ge-MOST_LINES.false)) read)

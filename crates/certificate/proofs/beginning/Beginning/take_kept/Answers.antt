@@ -4,7 +4,8 @@ use Rattle.certificate.proofs.PieceLemmas.{IsReadTo-front, Takes-front}
 use Rattle.certificate.proofs.beginning.Beginning.take_kept.Goals as goal
 
 pub returns-clause-taken : goal.returns-clause-taken
-returns-clause-taken c = Takes-front c.args.piece.now c.in_ok-count.count (Keep c.in_ok-count.cpu c.in_ok-count.number) c.in_ok-count.ensures.inside c.in_ok-count.ensures.found
+returns-clause-taken c = Takes-front c.args.piece.now c.in_ok-count.count
+    (Keep c.in_ok-count.cpu c.in_ok-count.number) c.in_ok-count.ensures.inside c.in_ok-count.ensures.found
 
 pub returns-clause-read : goal.returns-clause-read
 returns-clause-read c =

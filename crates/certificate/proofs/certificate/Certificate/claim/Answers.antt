@@ -7,7 +7,8 @@ use Rattle.certificate.specs.declared.certificate.Named.TheVariants as named
 use Rattle.rmm_spec.specs.declared.line.Line.TheVariants as line
 
 -- the name behind the others has the claim behind the others
-names_are : (c : goal.After-push_reserved) → c.push_reserved.new.self.items ≡ c.self.inside.names.items ++ named.Unfinished c.args.cpu (length c.self.inside.claims.items) ∷ []
+names_are : (c : goal.After-push_reserved)
+    → c.push_reserved.new.self.items ≡ c.self.inside.names.items ++ named.Unfinished c.args.cpu (length c.self.inside.claims.items) ∷ []
 names_are c =
     let index_is : c.len-index.result ≡ length c.self.inside.claims.items = omega (arith, c.len-index.ensures, c.self.inside.claims.ok.0) in
     c.push_reserved.ensures.items ∙ ap (λ xs. xs ++ named.Unfinished c.args.cpu c.len-index.result ∷ []) c.in_ok-reserve.ensures.items

@@ -14,4 +14,5 @@ returns-clause-replay c =
     let n = c.len.result in
     let named : c.in_ok-named.named.items ≡ replicate n false = c.in_ok-named.ensures.items_if_clones_equal (λ flag same. same) in
     rw (c.in_ok-machine.ensures.opening, c.config.ensures, named)
-    (Progress-nil c.args.history.now.recorded (replicate n false) c.well_formed-fact.ensures (length-replicate n false ∙ c.len.ensures) (none-named n))
+    (Progress-nil c.args.history.now.recorded (replicate n false) c.well_formed-fact.ensures
+    (length-replicate n false ∙ c.len.ensures) (none-named n))

@@ -9,7 +9,8 @@ use Rattle.checker.proofs.Judging.{IsDue-kept, IsDue-unfinished, MatchOption-at_
 use Rattle.checker.proofs.replay.Replay.take_line.Goals as goal
 
 -- a kept line whose call is found and in time is due
-due_kept : (c : goal.After-take_reply) → IsDue c.args.self.now c.args.history.now.recorded (Keep c.in-Keep.cpu c.in-Keep.number) c.in-Keep.cpu c.in-Some.places.called (reply_seen c.in-Some-reply_at.reply)
+due_kept : (c : goal.After-take_reply) → IsDue c.args.self.now c.args.history.now.recorded
+    (Keep c.in-Keep.cpu c.in-Keep.number) c.in-Keep.cpu c.in-Some.places.called (reply_seen c.in-Some-reply_at.reply)
 due_kept c =
     let history = c.args.history.now.recorded in
     let keep = c.in-Keep in
@@ -23,15 +24,18 @@ due_kept c =
 
 pub returns-in-Some-reply_at-clause-judged : goal.returns-in-Some-reply_at-clause-judged
 returns-in-Some-reply_at-clause-judged c =
-    IfOk-weaker c.take_reply.result _ _ (λ why taken. rw c.in-Keep.is (taken (Keep c.in-Keep.cpu c.in-Keep.number) (due_kept c))) c.take_reply.ensures.judged
+    IfOk-weaker c.take_reply.result _ _
+    (λ why taken. rw c.in-Keep.is (taken (Keep c.in-Keep.cpu c.in-Keep.number) (due_kept c))) c.take_reply.ensures.judged
 
 pub returns-in-Some-reply_at-clause-refused : goal.returns-in-Some-reply_at-clause-refused
 returns-in-Some-reply_at-clause-refused c =
-    on_err_weaker c.take_reply.result (λ refused. rw c.in-Keep.is (refused (Keep c.in-Keep.cpu c.in-Keep.number) (due_kept c))) c.take_reply.ensures.refused
+    on_err_weaker c.take_reply.result
+    (λ refused. rw c.in-Keep.is (refused (Keep c.in-Keep.cpu c.in-Keep.number) (due_kept c))) c.take_reply.ensures.refused
 
 -- an unfinished line of a pending call is due
 due_unfinished : (c : goal.After-take_reply-in-Unfinished) → IsDue c.args.self.now c.args.history.now.recorded
-    (Unfinished c.in-Unfinished.cpu c.in-Unfinished.number c.in-Unfinished.reply.now) c.in-Unfinished.cpu c.in-Some.places.called c.in-Unfinished.reply.now
+    (Unfinished c.in-Unfinished.cpu c.in-Unfinished.number c.in-Unfinished.reply.now)
+    c.in-Unfinished.cpu c.in-Some.places.called c.in-Unfinished.reply.now
 due_unfinished c =
     let named = c.in-Unfinished in
     let places = rw named.is at c.in-Some.ensures.some in
@@ -42,11 +46,13 @@ due_unfinished c =
 pub returns-else-is_some-clause-judged : goal.returns-else-is_some-clause-judged
 returns-else-is_some-clause-judged c =
     let named = c.in-Unfinished in
-    IfOk-weaker c.take_reply-in-Unfinished.result _ _ (λ why taken. rw named.is (taken (Unfinished named.cpu named.number named.reply.now) (rw c.of.ensures.seen (due_unfinished c))))
+    IfOk-weaker c.take_reply-in-Unfinished.result _ _
+    (λ why taken. rw named.is (taken (Unfinished named.cpu named.number named.reply.now) (rw c.of.ensures.seen (due_unfinished c))))
     c.take_reply-in-Unfinished.ensures.judged
 
 pub returns-else-is_some-clause-refused : goal.returns-else-is_some-clause-refused
 returns-else-is_some-clause-refused c =
     let named = c.in-Unfinished in
-    on_err_weaker c.take_reply-in-Unfinished.result (λ refused. rw named.is (refused (Unfinished named.cpu named.number named.reply.now) (rw c.of.ensures.seen (due_unfinished c))))
+    on_err_weaker c.take_reply-in-Unfinished.result
+    (λ refused. rw named.is (refused (Unfinished named.cpu named.number named.reply.now) (rw c.of.ensures.seen (due_unfinished c))))
     c.take_reply-in-Unfinished.ensures.refused

@@ -26,13 +26,15 @@ loop-rest-preserved-in-Some c =
           subst (λ (t : List ℕ). HasJudgedBy c.next_kept.new.self c.judge_line.new.replay c.judge_line.new.failed session.history.recorded t)
           (append_assoc text so_far.front taken)
           (HasJudged-kept session.certificate c.next_kept.new.self count c.count-place.result line c.next_kept.result _ session.replay
-          c.judge_line.new.replay session.failed c.judge_line.new.failed session.history.recorded (text ++ so_far.front) c.loop-rest.rest.now c.in-Some.is
+          c.judge_line.new.replay session.failed c.judge_line.new.failed session.history.recorded
+          (text ++ so_far.front) c.loop-rest.rest.now c.in-Some.is
           c.next_kept.ensures.failed c.in-Some.ensures.answered c.in-Some.ensures.read c.count-place.ensures.count c.in-Ok.ensures.judged
           (so_far.judged text given));
       same_history = so_far.same_history;
       going = so_far.going;
       offers =
-          offers_further (offers_of c.args.self.now) (offers_of session) c.judge_line.new.replay.machine.offers so_far.front c.loop-rest.rest.now count
+          offers_further (offers_of c.args.self.now)
+          (offers_of session) c.judge_line.new.replay.machine.offers so_far.front c.loop-rest.rest.now count
           (Some line) so_far.offers c.judge_line.ensures.offers c.in-Some.ensures.taken;
     }
 
@@ -55,17 +57,22 @@ loop-rest-preserved c =
     let taken = take c.in-Ok-next.count c.loop-rest.rest.now in
     record {
       front = so_far.front ++ taken;
-      is_piece = cut_further c.args.piece.now so_far.front c.loop-rest.rest.now c.split_at-in-loop-rest.result.1.now c.in-Ok-next.count so_far.is_piece c.split_at-in-loop-rest.ensures.back;
+      is_piece = cut_further c.args.piece.now so_far.front c.loop-rest.rest.now c.split_at-in-loop-rest.result.1.now
+          c.in-Ok-next.count so_far.is_piece c.split_at-in-loop-rest.ensures.back;
       judged = λ text given.
           subst (λ (t : List ℕ). HasJudgedBy c.next.new.self c.judge_told.new.replay c.judge_told.new.failed session.history.recorded t)
           (append_assoc text so_far.front taken)
-          (HasJudged-next c.next_kept.new.self c.next.new.self c.in-Ok-next.count c.count-step.result c.in-Ok-next.told session.replay c.judge_told.new.replay
+          (HasJudged-next c.next_kept.new.self c.next.new.self c.in-Ok-next.count
+          c.count-step.result c.in-Ok-next.told session.replay c.judge_told.new.replay
           session.failed c.judge_told.new.failed session.history.recorded (text ++ so_far.front) c.loop-rest.rest.now c.in-Ok-next.ensures.answered
-          c.in-Ok-next.ensures.read c.in-Ok-next.ensures.failed c.count-step.ensures.count c.in-Ok-judge_told.ensures.judged (subst (λ (r : Result Begun ℕ). HasJudgedBy r session.replay session.failed session.history.recorded (text ++ so_far.front)) (sym c.in_default.ensures.none) (so_far.judged text given)));
+          c.in-Ok-next.ensures.read c.in-Ok-next.ensures.failed c.count-step.ensures.count c.in-Ok-judge_told.ensures.judged
+          (subst (λ (r : Result Begun ℕ). HasJudgedBy r session.replay session.failed session.history.recorded (text ++ so_far.front))
+          (sym c.in_default.ensures.none) (so_far.judged text given)));
       same_history = so_far.same_history;
       going = so_far.going;
       offers =
-          offers_further (offers_of c.args.self.now) (offers_of session) c.judge_told.new.replay.machine.offers so_far.front c.loop-rest.rest.now c.in-Ok-next.count
+          offers_further (offers_of c.args.self.now)
+          (offers_of session) c.judge_told.new.replay.machine.offers so_far.front c.loop-rest.rest.now c.in-Ok-next.count
           c.in-Ok-next.told so_far.offers c.judge_told.ensures.offers c.in-Ok-next.ensures.taken;
     }
 
@@ -80,7 +87,8 @@ returns-in_default-judge_line-clause-refused c = λ going.
 pub returns-in_default-judge_told-clause-refused : goal.returns-in_default-judge_told-clause-refused
 returns-in_default-judge_told-clause-refused c = λ going.
     IsRefusedIn-told c.args.self.now c.loop-rest.self c.args.piece.now c.loop-rest.rest.now c.next_kept.new.self c.next.new.self c.in-Ok-next.count
-    c.in-Ok-next.told c.loop-rest.invariant c.in_default.ensures.none c.in-Ok-next.ensures.failed c.in-Ok-next.ensures.answered c.in-Ok-next.ensures.taken
+    c.in-Ok-next.told c.loop-rest.invariant c.in_default.ensures.none
+    c.in-Ok-next.ensures.failed c.in-Ok-next.ensures.answered c.in-Ok-next.ensures.taken
     c.in-Ok-next.ensures.read c.in_default-judge_told.ensures.refused
 
 pub returns-in_default-next-clause-judged : goal.returns-in_default-next-clause-judged
@@ -90,13 +98,17 @@ returns-in_default-next-clause-judged c = λ text given.
     let rest = c.loop-rest.rest.now in
     subst (λ (t : List ℕ). HasJudgedBy c.next.new.self session.replay session.failed session.history.recorded t)
     (append_assoc text so_far.front rest ∙ ap (λ p. text ++ p) (sym so_far.is_piece))
-    (HasJudged-bad c.next_kept.new.self c.next.new.self c.next.result session.replay session.failed session.history.recorded (text ++ so_far.front) rest
-    c.in_default-next.not-Ok c.next.ensures.answered c.next.ensures.bad c.next.ensures.failed (subst (λ (r : Result Begun ℕ). HasJudgedBy r session.replay session.failed session.history.recorded (text ++ so_far.front)) (sym c.in_default.ensures.none) (so_far.judged text given)))
+    (HasJudged-bad c.next_kept.new.self c.next.new.self c.next.result session.replay
+    session.failed session.history.recorded (text ++ so_far.front) rest
+    c.in_default-next.not-Ok c.next.ensures.answered c.next.ensures.bad c.next.ensures.failed
+    (subst (λ (r : Result Begun ℕ). HasJudgedBy r session.replay session.failed session.history.recorded (text ++ so_far.front))
+    (sym c.in_default.ensures.none) (so_far.judged text given)))
 
 pub returns-in_default-next-clause-offers : goal.returns-in_default-next-clause-offers
 returns-in_default-next-clause-offers c =
     let so_far = c.loop-rest.invariant in
-    offers_within (offers_of c.args.self.now) (offers_of c.loop-rest.self) c.args.piece.now so_far.front c.loop-rest.rest.now so_far.is_piece so_far.offers
+    offers_within (offers_of c.args.self.now)
+    (offers_of c.loop-rest.self) c.args.piece.now so_far.front c.loop-rest.rest.now so_far.is_piece so_far.offers
 
 pub returns-in_default-judge_told-clause-offers : goal.returns-in_default-judge_told-clause-offers
 returns-in_default-judge_told-clause-offers c =
@@ -107,7 +119,8 @@ returns-in_default-judge_told-clause-offers c =
     let count = c.in-Ok-next.count in
     offers_within first next c.args.piece.now (so_far.front ++ take count rest) (drop count rest)
     (cut_further c.args.piece.now so_far.front rest (drop count rest) count so_far.is_piece refl)
-    (offers_further first (offers_of c.loop-rest.self) next so_far.front rest count c.in-Ok-next.told so_far.offers c.judge_told.ensures.offers c.in-Ok-next.ensures.taken)
+    (offers_further first (offers_of c.loop-rest.self)
+    next so_far.front rest count c.in-Ok-next.told so_far.offers c.judge_told.ensures.offers c.in-Ok-next.ensures.taken)
 
 pub returns-clause-judged : goal.returns-clause-judged
 returns-clause-judged c = λ text given.

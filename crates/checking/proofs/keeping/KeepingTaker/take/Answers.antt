@@ -6,7 +6,8 @@ use Rattle.checking.proofs.keeping.KeepingTaker.take.Goals as goal
 
 pub returns-in-Ok-clause-taken : goal.returns-in-Ok-clause-taken
 returns-in-Ok-clause-taken c = λ before text kept. record {
-  taken = HasTaken-next c.args.self.now.reader c.feed.new.self c.feed.result c.args.piece.now text c.feed.ensures.given c.feed.ensures.fault c.feed.ensures.fails
+  taken = HasTaken-next c.args.self.now.reader c.feed.new.self c.feed.result
+      c.args.piece.now text c.feed.ensures.given c.feed.ensures.fault c.feed.ensures.fails
       c.feed.ensures.failed (λ is. cc) kept.taken;
   is_text = c.in_ok-extend_from_slice.ensures.items ∙ ap (λ bytes. bytes ++ c.args.piece.now) kept.is_text;
   known = tt;
@@ -14,10 +15,12 @@ returns-in-Ok-clause-taken c = λ before text kept. record {
 
 pub returns-in-Err-BadLine-clause-taken : goal.returns-in-Err-BadLine-clause-taken
 returns-in-Err-BadLine-clause-taken c = λ before text kept. record {
-  taken = HasTaken-next c.args.self.now.reader c.feed.new.self c.feed.result c.args.piece.now text c.feed.ensures.given c.feed.ensures.fault c.feed.ensures.fails
+  taken = HasTaken-next c.args.self.now.reader c.feed.new.self c.feed.result
+      c.args.piece.now text c.feed.ensures.given c.feed.ensures.fault c.feed.ensures.fails
       c.feed.ensures.failed (λ is. cc) kept.taken;
   is_text = c.in_ok-extend_from_slice.ensures.items ∙ ap (λ bytes. bytes ++ c.args.piece.now) kept.is_text;
-  known = let told : c.feed.result ≡ Err (BadLine c.in-Err-BadLine.line) = cc in failed_with c.feed.new.self c.feed.result (BadLine c.in-Err-BadLine.line) told c.feed.ensures.fails;
+  known = let told : c.feed.result ≡ Err (BadLine c.in-Err-BadLine.line) = cc in
+      failed_with c.feed.new.self c.feed.result (BadLine c.in-Err-BadLine.line) told c.feed.ensures.fails;
 }
 
 pub returns-in-Err-NoMemory-clause-refused : goal.returns-in-Err-NoMemory-clause-refused

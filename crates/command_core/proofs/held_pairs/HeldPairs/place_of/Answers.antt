@@ -1,5 +1,4 @@
-use Rattle.std.proofs.Common.{sym, ◌∙◌}
-use Rattle.std.proofs.lemmas.Bool.{false≢true}
+use Rattle.command_core.proofs.Common.{◌∙◌, false≢true, sym}
 use Rattle.command_core.proofs.Pairs.{is_held-no_place}
 use Rattle.command_core.proofs.held_pairs.HeldPairs.place_of.Goals as goal
 

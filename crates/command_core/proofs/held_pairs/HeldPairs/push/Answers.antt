@@ -1,6 +1,4 @@
-use Rattle.std.proofs.Common.{sym, ◌∙◌, subst, arith}
-use Rattle.std.specs.Prelude.{IsTrue}
-use Rattle.command_core.specs.Seen.{are_distinct}
+use Rattle.command_core.proofs.Common.{◌∙◌, IsTrue, are_distinct, arith, subst, sym}
 use Rattle.command_core.proofs.Distinct.{distinct-push}
 use Rattle.command_core.specs.Pairs.{paired}
 use Rattle.command_core.specs.Pairs.{length-paired}
@@ -24,7 +22,8 @@ invariant_of-self c =
     record {
       same_count = omega (arith, c.push.ensures.len, c.push-2.ensures.len, s.same_count);
       few = omega (arith, c.push.ensures.len, c.requires.room, length-paired s.granules.items s.cells.items s.same_count);
-      distinct = subst (λ granules. IsTrue (are_distinct granules)) (sym c.push.ensures.items) (distinct-push s.granules.items c.args.pa s.distinct apart);
+      distinct = subst (λ granules. IsTrue (are_distinct granules)) (sym c.push.ensures.items)
+          (distinct-push s.granules.items c.args.pa s.distinct apart);
     }
 
 pub returns : goal.returns

@@ -1,6 +1,4 @@
-use Rattle.std.proofs.Common.{sym, ◌∙◌, subst, arith}
-use Rattle.std.specs.Prelude.{IsTrue}
-use Rattle.command_core.specs.Seen.{are_distinct}
+use Rattle.command_core.proofs.Common.{◌∙◌, IsTrue, are_distinct, arith, subst, sym}
 use Rattle.command_core.specs.Pairs.{paired}
 use Rattle.command_core.proofs.Pairs.{position-first, cell_in-place, paired-remove, distinct-remove}
 use Rattle.command_core.proofs.held_pairs.HeldPairs.remove.Goals as goal
@@ -12,7 +10,8 @@ invariant_of-self c =
     record {
       same_count = omega (arith, c.remove.ensures.len, c.remove-2.ensures.len, s.same_count);
       few = omega (arith, c.remove.ensures.len, s.few);
-      distinct = subst (λ granules. IsTrue (are_distinct granules)) (sym c.remove.ensures.items) (distinct-remove s.granules.items c.place_of-place.result first.0 s.distinct);
+      distinct = subst (λ granules. IsTrue (are_distinct granules)) (sym c.remove.ensures.items)
+          (distinct-remove s.granules.items c.place_of-place.result first.0 s.distinct);
     }
 
 pub returns-clause-cells : goal.returns-clause-cells

@@ -15,7 +15,8 @@ returns-clause-cells c =
     let place = c.place_of-place.result in
     let before = c.deref_mut.ensures.value in
     let written : List Cell = slice_set c.deref_mut.result.now place c.replace.new.dest in
-    let same : length written ≡ length s.cells.items = length-set c.deref_mut.result.now place c.replace.new.dest ∙ ap (λ (cells : List Cell). length cells) before in
+    let same : length written ≡ length s.cells.items =
+    length-set c.deref_mut.result.now place c.replace.new.dest ∙ ap (λ (cells : List Cell). length cells) before in
     let first = position-first s.granules.items c.args.pa place c.place_of-place.ensures in
     ap (λ (cells : List Cell). paired s.granules.items cells)
     (items-with_items s.cells written same ∙ ap (λ (cells : List Cell). slice_set cells place c.replace.new.dest) before)

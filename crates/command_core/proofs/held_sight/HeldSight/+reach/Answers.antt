@@ -1,5 +1,4 @@
-use Rattle.std.proofs.Common.{sym, ◌∙◌, arith}
-use Rattle.walk_laws.specs.SeenState.{seen_state}
+use Rattle.command_core.proofs.Common.{◌∙◌, arith, seen_state, sym}
 use Rattle.command_core.proofs.WalkEnds.{reach-top, reach-here, reach-above}
 use Rattle.command_core.proofs.held_sight.HeldSight.+reach.Goals as goal
 

@@ -1,9 +1,8 @@
-use Rattle.std.proofs.Common.{◌≡◌, ◌+◌, ◌*◌, false}
-use Rattle.rmm_spec.specs.Lookup.{any_below}
+use Rattle.command_core.proofs.Common.{◌*◌, ◌+◌, ◌≡◌, any_below, false, seen_state}
 use Rattle.rmm_spec.specs.Walk.{passes, entry_at}
-use Rattle.walk_laws.specs.SeenState.{seen_state}
 use Rattle.command_core.proofs.held_sight.HeldSight.finds_each.Given as goal
 
 abbrev pub invariant-loop-place : goal.invariant-loop-place
 invariant-loop-place g l =
-    any_below l.place (λ k. passes l.test (entry_at (seen_state l.self.config.now (g.H.Held.cells l.self.held.now)) l.rd l.level (512 * l.number + k))) ≡ false
+    any_below l.place (λ k. passes l.test
+    (entry_at (seen_state l.self.config.now (g.H.Held.cells l.self.held.now)) l.rd l.level (512 * l.number + k))) ≡ false

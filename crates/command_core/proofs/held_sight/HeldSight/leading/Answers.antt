@@ -1,5 +1,4 @@
-use Rattle.std.proofs.Common.{◌≡◌, ℕ, sym, subst, arith}
-use Rattle.walk_laws.specs.SeenState.{seen_state}
+use Rattle.command_core.proofs.Common.{◌≡◌, arith, seen_state, subst, sym, ℕ}
 use Rattle.command_core.specs.Furthest as spec
 use Rattle.command_core.proofs.Stretches.{leading-more, leading-ends}
 use Rattle.command_core.proofs.held_sight.HeldSight.leading.Goals as goal

@@ -1,5 +1,4 @@
-use Rattle.std.proofs.Common.{◌≡◌}
-use Rattle.walk_laws.specs.SeenState.{seen_state}
+use Rattle.command_core.proofs.Common.{◌≡◌, seen_state}
 use Rattle.command_core.specs.Furthest as spec
 use Rattle.command_core.proofs.held_sight.HeldSight.leading.Given as goal
 

@@ -23,13 +23,30 @@ invariant_of-self g c =
 pub returns-clause-pushed : goal.returns-clause-pushed
 returns-clause-pushed g c =
     logged_in-pushed _ _ _ _ _ _ _ _ (is_pushed g c) c.self.invariant
-    ∙ ap (λ log. log.logged ++ record { mark = c.args.mark; command = command_seen c.args.command; given = reply_seen c.args.reply } ∷ []) c.self.view_is
+    ∙ ap (λ log. log.logged ++ record { mark = c.args.mark; command = command_seen c.args.command; given = reply_seen c.args.reply } ∷ [])
+    c.self.view_is
 
 pub returns-clause-left : goal.returns-clause-left
 returns-clause-left g c =
     let pushed = is_pushed g c in
     let lines : spare c.self.inside.lines ≤ spare c.push_reserved.new.self + 1
-    = omega (arith, length-lines _ _ _ _ _ _ _ _ pushed c.self.invariant, c.push_reserved.ensures.capacity, c.push_reserved.new.self.ok.0, c.self.inside.lines.ok.0) in
+    = omega (
+      arith,
+      length-lines _ _ _ _ _ _ _ _ pushed c.self.invariant,
+      c.push_reserved.ensures.capacity,
+      c.push_reserved.new.self.ok.0,
+      c.self.inside.lines.ok.0,
+    ) in
     let words : spare c.self.inside.words ≤ spare c.append_given-given.new.words + 20
-    = omega (arith, length-words _ _ _ _ _ _ _ _ pushed c.self.invariant, c.requires.command, words_of-few (reply_seen c.args.reply) c.requires.reply, c.append.ensures.capacity, c.append_given-given.ensures.capacity, c.append_given-given.new.words.ok.0, c.self.inside.words.ok.0) in
-    subst (λ log. log.room ≤ room_of (spare c.push_reserved.new.self) (spare c.append_given-given.new.words) + 1) c.self.view_is (room_of-pushed _ _ _ _ lines words)
+    = omega (
+      arith,
+      length-words _ _ _ _ _ _ _ _ pushed c.self.invariant,
+      c.requires.command,
+      words_of-few (reply_seen c.args.reply) c.requires.reply,
+      c.append.ensures.capacity,
+      c.append_given-given.ensures.capacity,
+      c.append_given-given.new.words.ok.0,
+      c.self.inside.words.ok.0,
+    ) in
+    subst (λ log. log.room ≤ room_of (spare c.push_reserved.new.self) (spare c.append_given-given.new.words) + 1)
+    c.self.view_is (room_of-pushed _ _ _ _ lines words)

@@ -8,7 +8,8 @@ pub returns-in_default-clause-listed : goal.returns-in_default-clause-listed
 returns-in_default-clause-listed g c = (
   λ no. absurd (false≢true no),
   λ listed.
-      absurd (unlisted-cpu c.args.tokens.now c.args.self.now.entries c.loop-ticket.ticket (numbers_of c.loop-ticket.numbers) (entry_of (logged_seen c.entry-entry.result))
+      absurd (unlisted-cpu c.args.tokens.now c.args.self.now.entries c.loop-ticket.ticket
+      (numbers_of c.loop-ticket.numbers) (entry_of (logged_seen c.entry-entry.result))
       c.loop-ticket.invariant c.entry-entry.ensures.entry (omega (arith, c.in_default.ensures.lookup.3, c.from.ensures)) listed),
 )
 
@@ -17,14 +18,16 @@ returns-then-not-lists-clause-listed g c = (
   λ no. absurd (false≢true no),
   λ listed.
       absurd (iff_false c.lists.ensures c.if-not-lists.true
-      (listed-by_token c.args.tokens.now c.args.self.now.entries c.loop-ticket.ticket (numbers_of c.loop-ticket.numbers) (entry_of (logged_seen c.entry-entry.result))
+      (listed-by_token c.args.tokens.now c.args.self.now.entries c.loop-ticket.ticket
+      (numbers_of c.loop-ticket.numbers) (entry_of (logged_seen c.entry-entry.result))
       c.loop-ticket.invariant c.entry-entry.ensures.entry c.in-Some.token.now c.from.result c.count.result c.from.ensures c.in-Some.ensures.lookup.3.0
       c.in-Some.ensures.lookup.1 c.count.ensures.number listed)),
 )
 
 pub loop-ticket-preserved : goal.loop-ticket-preserved
 loop-ticket-preserved g c =
-    Remain-by_token c.args.tokens.now c.args.self.now.entries c.loop-ticket.ticket (numbers_of c.loop-ticket.numbers) (entry_of (logged_seen c.entry-entry.result))
+    Remain-by_token c.args.tokens.now c.args.self.now.entries c.loop-ticket.ticket
+    (numbers_of c.loop-ticket.numbers) (entry_of (logged_seen c.entry-entry.result))
     c.loop-ticket.invariant c.entry-entry.ensures.entry c.in-Some.token.now c.from.result c.count.result c.from.ensures c.in-Some.ensures.lookup.3.0
     c.in-Some.ensures.lookup.1 c.count.ensures.number (numbers_of c.count.new.self) c.count.ensures.counted (c.lists.ensures.0 c.if-not-lists.false)
 

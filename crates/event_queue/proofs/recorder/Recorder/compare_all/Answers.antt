@@ -23,7 +23,8 @@ loop-pass-preserved c =
           ∙ map_over_more hears c.args.passes.now c.loop-pass.passes place pass (slice_get_within c.args.passes.now place pass at) old.passes
           (sym (get_or_from_slice_get c.loop-pass.passes place pass pass read));
       begun = begun-more c.args.passes.now c.args.scribe.now.events place pass at
-          (subst (λ (y : ℕ × ScribeView). IsPrefix (subhistory_of y.0 y.1.events) pass.events) (λ i. (seat.1 i, old.scribe i)) compared.beginning) old.begun;
+          (subst (λ (y : ℕ × ScribeView). IsPrefix (subhistory_of y.0 y.1.events) pass.events)
+          (λ i. (seat.1 i, old.scribe i)) compared.beginning) old.begun;
     }
 
 pub returns-clause-begun : goal.returns-clause-begun

@@ -12,7 +12,8 @@ returns-clause-whole g c =
     let same = ap (λ (h : History). h.events) drained.history in
     let cpus = ap (λ (h : History). h.config.cpus) drained.history ∙ c.requires.can.same_cpus ∙ sym c.requires.count in
     on_ok_weaker c.drain_to-drained.result
-    (λ reached. are_whole _ _ (subst (λ n. AllByRecursion (IsEvent n) c.drain_to-drained.new.history.recorded.events) cpus c.well_formed-fact.ensures.events)
+    (λ reached. are_whole _ _
+    (subst (λ n. AllByRecursion (IsEvent n) c.drain_to-drained.new.history.recorded.events) cpus c.well_formed-fact.ensures.events)
     (subst (AreBegun c.args.passes.now) (sym same) c.compare_all.ensures.begun) (omega (arith, c.in-Some.ensures.some.0, reached))) drained.reached
 
 pub returns-clause-short : goal.returns-clause-short
@@ -20,7 +21,8 @@ returns-clause-short g c =
     let drained = c.drain_to-drained.ensures in
     let same = ap (λ (h : History). h.events) drained.history in
     let cpus = ap (λ (h : History). h.config.cpus) drained.history ∙ c.requires.can.same_cpus ∙ sym c.requires.count in
-    let most = at_most_recorded _ _ (subst (λ n. AllByRecursion (IsEvent n) c.drain_to-drained.new.history.recorded.events) cpus c.well_formed-fact.ensures.events)
+    let most = at_most_recorded _ _
+    (subst (λ n. AllByRecursion (IsEvent n) c.drain_to-drained.new.history.recorded.events) cpus c.well_formed-fact.ensures.events)
     (subst (AreBegun c.args.passes.now) (sym same) c.compare_all.ensures.begun) in
     let rest = drained.taken.0 in
     let longer = ap length (same ∙ ap (λ (s : ScribeView). s.events) drained.taken.1) in
@@ -35,8 +37,10 @@ returns-clause-seats g c =
 
 pub returns-clause-all : goal.returns-clause-all
 returns-clause-all g c =
-    let events = ap (λ (h : History). h.events) c.drain_to-drained.ensures.history ∙ ap (λ (s : ScribeView). s.events) (sym c.compare_all.ensures.heard.0) in
+    let events =
+    ap (λ (h : History). h.events) c.drain_to-drained.ensures.history ∙ ap (λ (s : ScribeView). s.events) (sym c.compare_all.ensures.heard.0) in
     on_ok_weaker c.drain_to-drained.result
     (λ whole. subst (λ (y : List CpuView × List Event). AreWhole y.0 y.1) (λ i. (sym c.compare_all.ensures.heard.1 i, events i))
-    (each_hearing (λ cpu pass. subhistory_of cpu c.drain_to-drained.new.history.recorded.events ≡ pass.events) c.drain_to-drained.new.scribe.events c.args.passes.now
+    (each_hearing (λ cpu pass. subhistory_of cpu c.drain_to-drained.new.history.recorded.events ≡ pass.events)
+    c.drain_to-drained.new.scribe.events c.args.passes.now
     (λ cpu pass is. is) whole)) (returns-clause-whole g c)

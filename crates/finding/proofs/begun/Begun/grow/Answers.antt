@@ -7,7 +7,8 @@ use Rattle.finding.proofs.begun.Begun.grow.Goals as goal
 
 pub overflow_add-choice : goal.overflow_add-choice
 overflow_add-choice c =
-    let few = number_of_next c.args.history.now.recorded c.requires.begun.front.is_history c.args.self.now.front.counts 0 c.args.choice c.requires.next in
+    let few =
+    number_of_next c.args.history.now.recorded c.requires.begun.front.is_history c.args.self.now.front.counts 0 c.args.choice c.requires.next in
     omega (arith, few)
 
 pub set-requires-clause-cpu : goal.set-requires-clause-cpu
@@ -16,12 +17,15 @@ set-requires-clause-cpu c = (of_a_line c.args.history.now.recorded c.requires.be
 pub returns-in_ok-push : goal.returns-in_ok-push
 returns-in_ok-push c =
     rw c.if-given.true
-    (IsGrown-given c.args.history.now.recorded c.requires.begun.front.is_history c.args.self.now _ c.args.choice c.args.line.now c.requires.next c.requires.of_cpu
-    c.requires.numbered c.requires.kind c.requires.soon (rw c.if-given.true at c.in_ok-given.ensures.given) c.set.ensures.counts c.requires.begun c.set.ensures.front)
+    (IsGrown-given c.args.history.now.recorded c.requires.begun.front.is_history
+    c.args.self.now _ c.args.choice c.args.line.now c.requires.next c.requires.of_cpu
+    c.requires.numbered c.requires.kind c.requires.soon
+    (rw c.if-given.true at c.in_ok-given.ensures.given) c.set.ensures.counts c.requires.begun c.set.ensures.front)
 
 pub returns-else-given : goal.returns-else-given
 returns-else-given c =
     rw c.if-given.false
-    (Stays-refused c.args.history.now.recorded c.requires.begun.front.is_history c.args.self.now _ c.args.choice c.args.line.now c.requires.next c.requires.of_cpu
+    (Stays-refused c.args.history.now.recorded c.requires.begun.front.is_history
+    c.args.self.now _ c.args.choice c.args.line.now c.requires.next c.requires.of_cpu
     c.requires.numbered c.requires.kind c.requires.soon c.requires.begun (rw c.if-given.false at c.in_ok-given.ensures.given) refl
     (c.in_ok-given.ensures.kept c.if-given.false))

@@ -1,5 +1,4 @@
-use Rattle.std.proofs.Common.{◌∙◌, [], ap}
-use Rattle.rmm_spec.specs.State.{opening}
+use Rattle.finding.proofs.Common.{◌∙◌, [], ap, opening}
 use Rattle.finding.proofs.BegunLaws.{Holds-nil}
 use Rattle.finding.proofs.begun.Begun.opening.Goals as goal
 

@@ -1,6 +1,5 @@
 -- CPU by CPU.
-use Rattle.std.proofs.Common.{inr, refl, arith}
-use Rattle.checker.proofs.Judging.{HasOnePlaces-from_history}
+use Rattle.finding.proofs.Common.{HasOnePlaces-from_history, arith, inr, refl}
 use Rattle.finding.proofs.Fronts.{IsLeast-looked}
 use Rattle.finding.proofs.front.Front.first_at.Goals as goal
 
@@ -31,7 +30,8 @@ loop-cpu-preserved c =
     record {
       least = IsLeast-looked history (HasOnePlaces-from_history history c.requires.is_history) c.args.self.now c.requires
           (omega (arith, c.cpus_of-cpu-end.ensures.count, c.cpus_of-cpu-end.ensures.few)) c.loop-cpu.cpu c.args.from c.loop-cpu.least _
-          (omega (arith, c.loop-cpu-test.true, c.cpus_of-cpu-end.ensures.count)) c.loop-cpu.invariant.least (omega (arith, c.if-least-rank.false)) (λ _. omega arith);
+          (omega (arith, c.loop-cpu-test.true, c.cpus_of-cpu-end.ensures.count)) c.loop-cpu.invariant.least
+          (omega (arith, c.if-least-rank.false)) (λ _. omega arith);
       found = record {
         found = inr (
           omega (arith, c.loop-cpu-test.true, c.cpus_of-cpu-end.ensures.count),

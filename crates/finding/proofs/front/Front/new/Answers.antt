@@ -13,7 +13,8 @@ loop-cpu-preserved c =
     rw c.rank_or_nowhere.ensures record {
       nexts = length-set c.loop-cpu.nexts c.loop-cpu.cpu next ∙ so_far.nexts;
       ranks = length-set c.loop-cpu.ranks c.loop-cpu.cpu _ ∙ so_far.ranks;
-      each = AreNexts-set c.args.history.now.recorded _ c.loop-cpu.nexts c.loop-cpu.ranks c.loop-cpu.cpu next within so_far.each c.next_of-next.ensures;
+      each = AreNexts-set c.args.history.now.recorded _ c.loop-cpu.nexts
+          c.loop-cpu.ranks c.loop-cpu.cpu next within so_far.each c.next_of-next.ensures;
     }
 
 pub returns-clause-front : goal.returns-clause-front

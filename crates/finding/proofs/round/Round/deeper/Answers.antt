@@ -13,7 +13,8 @@ orders-init c = record {
 
 pub take_each-requires-clause-begun : goal.take_each-requires-clause-begun
 take_each-requires-clause-begun c =
-    (AllBegun-pop c.args.history.now.recorded c.orders.left.items c.pop.new.self.items c.in-Some.begun c.in-Some.ensures.items c.orders.invariant.left).1
+    (AllBegun-pop c.args.history.now.recorded c.orders.left.items c.pop.new.self.items
+    c.in-Some.begun c.in-Some.ensures.items c.orders.invariant.left).1
 
 pub orders-preserved : goal.orders-preserved
 orders-preserved c =
@@ -25,5 +26,6 @@ orders-preserved c =
       left = popped.0;
       covers = λ lost left.
           c.orders.invariant.covers (taken.covers lost)
-          (AllLost-push history c.pop.new.self.items c.orders.left.items c.in-Some.begun c.in-Some.ensures.items left (taken.taken c.if-not-all.false lost));
+          (AllLost-push history c.pop.new.self.items c.orders.left.items c.in-Some.begun
+          c.in-Some.ensures.items left (taken.taken c.if-not-all.false lost));
     }

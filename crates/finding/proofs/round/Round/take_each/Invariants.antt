@@ -1,8 +1,6 @@
 -- The orders so far, and the lines that are left.
-use Rattle.rmm_spec.specs.declared.line.Line.{Line}
-use Rattle.std.proofs.Common.{List}
-use Rattle.finding.specs.Begun.{Covers, Holds, IsRound, RoundLost}
-use Rattle.finding.specs.Tried.{Tried}
+use Rattle.finding.proofs.Common.{IsRound, Line, List, RoundLost, Tried}
+use Rattle.finding.specs.Begun.{Covers, Holds}
 use Rattle.finding.proofs.round.Round.take_each.Given as goal
 
 abbrev pub invariant-lines : goal.invariant-lines

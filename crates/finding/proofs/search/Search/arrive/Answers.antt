@@ -1,8 +1,6 @@
 -- What is known to lead nowhere is taken back, and where nothing is settled the first call is tried.
-use Rattle.std.proofs.Common.{refl}
+use Rattle.finding.proofs.Common.{lines_of, refl, state_of}
 use Rattle.std.proofs.lemmas.Result.{IfOk-weaker}
-use Rattle.spec_machine.specs.View.{state_of}
-use Rattle.finding.specs.Search.{lines_of}
 use Rattle.finding.proofs.KeptLaws.{nowhere_kept}
 use Rattle.finding.proofs.Moving.{Continues-stale, few_frames}
 use Rattle.finding.proofs.Searches.{IsSearch-tried}
@@ -18,7 +16,8 @@ take_back-requires-clause-nowhere c =
 pub try_next-requires-clause-is_search : goal.try_next-requires-clause-is_search
 try_next-requires-clause-is_search c =
     let is_search = c.requires.is_search in
-    IsSearch-tried c.args.history.now.recorded c.requires.is_search.front.is_history c.args.self.now _ is_search refl refl is_search.machine is_search.tried is_search.kept
+    IsSearch-tried c.args.history.now.recorded c.requires.is_search.front.is_history
+    c.args.self.now _ is_search refl refl is_search.machine is_search.tried is_search.kept
     is_search.checkpoint
 
 pub returns : goal.returns
@@ -26,4 +25,5 @@ returns c =
     let history = c.args.history.now.recorded in
     let search = c.args.self.now in
     IfOk-weaker c.try_next.result _ _
-    (Continues-stale history search c.try_next.new.self (few_frames history c.requires.is_search.front.is_history search c.requires.is_search) c.requires.fresh) c.try_next.ensures
+    (Continues-stale history search c.try_next.new.self
+    (few_frames history c.requires.is_search.front.is_history search c.requires.is_search) c.requires.fresh) c.try_next.ensures

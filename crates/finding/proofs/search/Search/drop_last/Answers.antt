@@ -1,8 +1,7 @@
 -- The last line is taken off.
-use Rattle.std.proofs.Common.{◌≡◌, ◌≤◌, [], ◌∷◌, ◌++◌, length, refl, sym, ap, ◌∙◌, subst, arith}
+use Rattle.finding.proofs.Common.{◌++◌, ◌∙◌, ◌∷◌, ◌≡◌, ◌≤◌, Frame, [], ap, arith, length, refl, subst, sym}
 use Rattle.std.specs.Option.{IfSome}
 use Rattle.finding.specs.declared.checkpoint.Checkpoint.{Checkpoint}
-use Rattle.finding.specs.declared.frame.Frame.{Frame}
 use Rattle.finding.proofs.Searches.{IsShorter-drop, few_of_frame}
 use Rattle.finding.proofs.search.Search.drop_last.Goals as goal
 

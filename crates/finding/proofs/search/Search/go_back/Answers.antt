@@ -6,6 +6,7 @@ returns c =
     let search = c.args.self.now in
     let shorter = c.drop_last.ensures in (
       shorter.is_search,
-      Moves-back search _ shorter.frame (few_frames c.args.history.now.recorded c.requires.is_search.front.is_history search c.requires.is_search) shorter.frames shorter.fresh
+      Moves-back search _ shorter.frame
+          (few_frames c.args.history.now.recorded c.requires.is_search.front.is_history search c.requires.is_search) shorter.frames shorter.fresh
           shorter.offers,
     )

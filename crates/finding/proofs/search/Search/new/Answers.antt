@@ -1,5 +1,4 @@
-use Rattle.std.proofs.Common.{ap, ◌∙◌, refl}
-use Rattle.rmm_spec.specs.State.{opening}
+use Rattle.finding.proofs.Common.{◌∙◌, ap, opening, refl}
 use Rattle.finding.proofs.Searches.{IsSearch-nil}
 use Rattle.finding.proofs.search.Search.new.Goals as goal
 

@@ -13,8 +13,10 @@ returns-then-given c =
     let history = c.args.history.now.recorded in
     let search = c.args.self.now in
     let longer = rw c.in_ok-frame.ensures at c.in_ok-push.ensures in (
-      IsSearch-kept history c.requires.is_search.front.is_history search c.requires.is_search c.requires.stands c.args.choice c.push.new.self c.requires.next c.requires.returned
-          c.requires.soon c.offer.new.machine (rw c.if-given.true at c.in_ok-given.ensures.given) _ refl c.requires.resumes c.in_ok-before.ensures c.offer.new.offers longer,
+      IsSearch-kept history c.requires.is_search.front.is_history search c.requires.is_search
+          c.requires.stands c.args.choice c.push.new.self c.requires.next c.requires.returned
+          c.requires.soon c.offer.new.machine
+          (rw c.if-given.true at c.in_ok-given.ensures.given) _ refl c.requires.resumes c.in_ok-before.ensures c.offer.new.offers longer,
       Moves-offered search c.push.new.self c.requires.few (longer.offers ∙ c.in_ok-given.ensures.counted),
     )
 

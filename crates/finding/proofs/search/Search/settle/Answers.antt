@@ -16,7 +16,8 @@ returns c =
     let is_search = c.requires.is_search in
     let few = few_frames history c.requires.is_search.front.is_history search is_search in
     on_ok_weaker c.push.result (λ longer. (
-      IsSearch-settled history c.requires.is_search.front.is_history search is_search c.requires.stands c.args.choice c.push.new.self c.requires.next _
+      IsSearch-settled history c.requires.is_search.front.is_history search is_search
+          c.requires.stands c.args.choice c.push.new.self c.requires.next _
           c.requires.bound c.requires.refused c.requires.least c.in_ok-before.before c.in_ok-before.ensures (rw c.in_ok-frame.ensures at longer),
       Moves-settled search c.push.new.self _ few c.requires.fresh longer.fresh longer.frames (sym longer.offers),
     )) c.push.ensures

@@ -11,4 +11,5 @@ returns-in_ok-try_earlier-in-Some c =
 
 pub returns-in-None : goal.returns-in-None
 returns-in-None c =
-    IfOk-weaker c.go_on.result _ _ (Continues-standing c.args.history.now.recorded c.args.self.now c.stand.new.self _ c.in_ok-stand.ensures) c.go_on.ensures
+    IfOk-weaker c.go_on.result _ _
+    (Continues-standing c.args.history.now.recorded c.args.self.now c.stand.new.self _ c.in_ok-stand.ensures) c.go_on.ensures

@@ -10,7 +10,9 @@ returns c =
     let search = c.args.self.now in
     let shorter = c.drop_last-left.ensures in
     let is_search = shorter.is_search in (
-      IsSearch-tried history c.requires.is_search.front.is_history c.drop_last-left.new.self _ is_search refl refl is_search.machine (shorter.resumes c.requires.nowhere)
+      IsSearch-tried history c.requires.is_search.front.is_history c.drop_last-left.new.self
+          _ is_search refl refl is_search.machine (shorter.resumes c.requires.nowhere)
           is_search.kept is_search.checkpoint,
-      Moves-back search _ shorter.frame (few_frames history c.requires.is_search.front.is_history search c.requires.is_search) shorter.frames shorter.fresh shorter.offers,
+      Moves-back search _ shorter.frame
+          (few_frames history c.requires.is_search.front.is_history search c.requires.is_search) shorter.frames shorter.fresh shorter.offers,
     )

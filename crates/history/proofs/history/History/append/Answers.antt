@@ -12,16 +12,29 @@ returns-in_err-make_room-clause-succeeds c =
     let inside = c.self.inside in
     let follows = rw (← c.self.view_is) at c.requires.follows in
     let within : c.cpu_of.result < length inside.subhistories =
-    omega (arith, c.cpu_of.ensures, c.self.invariant.indexed.counted, has_subhistory inside.config (events_in inside.words.items inside.entries.items) inside.subhistories (event_seen c.args.event) c.self.invariant.indexed follows) in
+    omega (
+      arith,
+      c.cpu_of.ensures,
+      c.self.invariant.indexed.counted,
+      has_subhistory inside.config (events_in inside.words.items inside.entries.items) inside.subhistories
+          (event_seen c.args.event) c.self.invariant.indexed follows,
+    ) in
     rw (← c.self.view_is) (λ some.
-    let bad : false ≡ true = c.in_err-make_room.ensures.succeeds (room_at _ inside.subhistories c.cpu_of.result c.index-self-cpu_of.result within some) in absurd cc)
+    let bad : false ≡ true =
+    c.in_err-make_room.ensures.succeeds (room_at _ inside.subhistories c.cpu_of.result c.index-self-cpu_of.result within some) in absurd cc)
 
 pub returns-in_err-make_room-clause-left : goal.returns-in_err-make_room-clause-left
 returns-in_err-make_room-clause-left c =
     let inside = c.self.inside in
     let follows = rw (← c.self.view_is) at c.requires.follows in
     let within : c.cpu_of.result < length inside.subhistories =
-    omega (arith, c.cpu_of.ensures, c.self.invariant.indexed.counted, has_subhistory inside.config (events_in inside.words.items inside.entries.items) inside.subhistories (event_seen c.args.event) c.self.invariant.indexed follows) in
+    omega (
+      arith,
+      c.cpu_of.ensures,
+      c.self.invariant.indexed.counted,
+      has_subhistory inside.config (events_in inside.words.items inside.entries.items) inside.subhistories
+          (event_seen c.args.event) c.self.invariant.indexed follows,
+    ) in
     rw (← c.self.view_is)
     (room_left _ _ inside.subhistories c.cpu_of.result c.index-self-cpu_of.result _ within (omega arith) (omega (arith, c.make_room.ensures.grows)))
 
@@ -29,23 +42,37 @@ pub returns-in_err-store-clause-succeeds : goal.returns-in_err-store-clause-succ
 returns-in_err-store-clause-succeeds c =
     let inside = c.self.inside in
     rw (← c.self.view_is) (λ some.
-    let bad : false ≡ true = c.in_err-store.ensures.succeeds (omega (arith, some, least_spare-limit (room_of (spare inside.entries) (spare inside.words)) inside.subhistories)) in absurd cc)
+    let bad : false ≡ true = c.in_err-store.ensures.succeeds
+    (omega (arith, some, least_spare-limit (room_of (spare inside.entries) (spare inside.words)) inside.subhistories)) in absurd cc)
 
 pub returns-in_err-store-clause-left : goal.returns-in_err-store-clause-left
 returns-in_err-store-clause-left c =
     let inside = c.self.inside in
     let follows = rw (← c.self.view_is) at c.requires.follows in
     let within : c.cpu_of.result < length inside.subhistories =
-    omega (arith, c.cpu_of.ensures, c.self.invariant.indexed.counted, has_subhistory inside.config (events_in inside.words.items inside.entries.items) inside.subhistories (event_seen c.args.event) c.self.invariant.indexed follows) in
+    omega (
+      arith,
+      c.cpu_of.ensures,
+      c.self.invariant.indexed.counted,
+      has_subhistory inside.config (events_in inside.words.items inside.entries.items) inside.subhistories
+          (event_seen c.args.event) c.self.invariant.indexed follows,
+    ) in
     rw (← c.self.view_is)
-    (room_left _ _ inside.subhistories c.cpu_of.result c.index-self-cpu_of.result _ within c.store.ensures.left (omega (arith, c.make_room.ensures.grows)))
+    (room_left _ _ inside.subhistories c.cpu_of.result c.index-self-cpu_of.result _ within c.store.ensures.left
+    (omega (arith, c.make_room.ensures.grows)))
 
 pub returns-clause-left : goal.returns-clause-left
 returns-clause-left c =
     let inside = c.self.inside in
     let follows = rw (← c.self.view_is) at c.requires.follows in
     let within : c.cpu_of.result < length inside.subhistories =
-    omega (arith, c.cpu_of.ensures, c.self.invariant.indexed.counted, has_subhistory inside.config (events_in inside.words.items inside.entries.items) inside.subhistories (event_seen c.args.event) c.self.invariant.indexed follows) in
+    omega (
+      arith,
+      c.cpu_of.ensures,
+      c.self.invariant.indexed.counted,
+      has_subhistory inside.config (events_in inside.words.items inside.entries.items) inside.subhistories
+          (event_seen c.args.event) c.self.invariant.indexed follows,
+    ) in
     rw (← c.self.view_is)
     (room_left _ _ inside.subhistories c.cpu_of.result c.index-self-cpu_of.result _ within c.store.ensures.left
     (omega (arith, c.make_room.ensures.grows, c.enter.ensures.left)))
@@ -82,7 +109,8 @@ returns-clause-ok c =
     let inside = c.self.inside in
     let follows = rw (← c.self.view_is) at c.requires.follows in
     let ranked = next_rank (events_in inside.words.items inside.entries.items) (event_seen c.args.event) follows.record_goes_on in
-    rw (← c.self.view_is) (rw (events_in-stored inside.words.items _ inside.entries.items _ _ c.self.invariant.held c.in_ok-store.ensures.ok ranked) refl)
+    rw (← c.self.view_is)
+    (rw (events_in-stored inside.words.items _ inside.entries.items _ _ c.self.invariant.held c.in_ok-store.ensures.ok ranked) refl)
 
 pub invariant_of-self-in_err-store : goal.invariant_of-self-in_err-store
 invariant_of-self-in_err-store c =
@@ -90,10 +118,15 @@ invariant_of-self-in_err-store c =
     let follows = rw (← c.self.view_is) at c.requires.follows in
     let events = events_in inside.words.items inside.entries.items in
     let within : c.cpu_of.result < 8 =
-    omega (arith, c.cpu_of.ensures, has_subhistory inside.config events inside.subhistories (event_seen c.args.event) c.self.invariant.indexed follows) in
+    omega (
+      arith,
+      c.cpu_of.ensures,
+      has_subhistory inside.config events inside.subhistories (event_seen c.args.event) c.self.invariant.indexed follows,
+    ) in
     rw (c.in_err-store.ensures.same_entries, c.in_err-store.ensures.same_words) (record {
       held = c.self.invariant.held;
-      indexed = IsIndexed-refused inside.config events inside.subhistories c.cpu_of.result c.index-self-cpu_of.result _ c.self.invariant.indexed within
+      indexed = IsIndexed-refused inside.config events inside.subhistories
+          c.cpu_of.result c.index-self-cpu_of.result _ c.self.invariant.indexed within
           c.make_room.ensures.kept;
     })
 

@@ -28,5 +28,6 @@ returns-in_default c = record {
       let at =
       IsEntryAt-read inside.words.items inside.entries.items c.args.self.now.recorded.events c.args.place c.index.result.now c.self.invariant.held
       (ap (λ recording. recording.recorded.events) c.self.view_is) c.requires c.index.ensures in
-      event_of-no_call inside.words.items at.number c.index.result.now c.in_default.not-Called cpu number command (same_Some _ _ (sym at.is_event ∙ is_called));
+      event_of-no_call inside.words.items at.number c.index.result.now c.in_default.not-Called cpu number command
+      (same_Some _ _ (sym at.is_event ∙ is_called));
 }

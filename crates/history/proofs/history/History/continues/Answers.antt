@@ -6,5 +6,6 @@ use Rattle.history.proofs.history.History.continues.Goals as goal
 pub returns-in-Some : goal.returns-in-Some
 returns-in-Some c =
     let found = rw c.cpu_of.ensures at c.in-Some.ensures.some in
-    continues_iff c.args.self.now.recorded.config.cpus c.args.self.now.recorded.events (event_seen c.args.event) c.in-Some.subhistory.now c.takes.result found.0
+    continues_iff c.args.self.now.recorded.config.cpus c.args.self.now.recorded.events
+    (event_seen c.args.event) c.in-Some.subhistory.now c.takes.result found.0
     (c.subhistory.ensures.history.records _) found.1 c.takes.ensures

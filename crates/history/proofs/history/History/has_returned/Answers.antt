@@ -6,5 +6,6 @@ pub returns-in-None : goal.returns-in-None
 returns-in-None c = (
   λ bad. absurd (cc),
   λ finished.
-      absurd (c.in-None.ensures.none (finished_is_known c.args.cpu c.args.number c.args.self.now.recorded.events (c.well_formed-fact.ensures.records c.args.cpu) finished)),
+      absurd (c.in-None.ensures.none (finished_is_known c.args.cpu c.args.number c.args.self.now.recorded.events
+      (c.well_formed-fact.ensures.records c.args.cpu) finished)),
 )

@@ -9,7 +9,8 @@ use Rattle.history.proofs.history.History.make_room.Goals as goal
 pub returns-in_err-reserve_event-clause-grows : goal.returns-in_err-reserve_event-clause-grows
 returns-in_err-reserve_event-clause-grows c =
     rw (← c.self.view_is)
-    (room_grows _ _ c.self.inside.subhistories c.self.inside.subhistories c.self.invariant.indexed.counted c.self.invariant.indexed.counted c.reserve_event.ensures.grows (λ k other within. omega arith))
+    (room_grows _ _ c.self.inside.subhistories c.self.inside.subhistories c.self.invariant.indexed.counted
+    c.self.invariant.indexed.counted c.reserve_event.ensures.grows (λ k other within. omega arith))
 
 pub invariant_of-self-2 : goal.invariant_of-self-2
 invariant_of-self-2 c =
@@ -22,7 +23,8 @@ invariant_of-self-2 c =
 pub returns-clause-ok : goal.returns-clause-ok
 returns-clause-ok c =
     on_ok_weaker c.make_room_at.result
-    (λ each. room_made _ c.make_room_at.new.subhistories c.make_room_at.ensures.counted c.in_ok-reserve_event.ensures.ok each) c.make_room_at.ensures.ok
+    (λ each. room_made _ c.make_room_at.new.subhistories c.make_room_at.ensures.counted c.in_ok-reserve_event.ensures.ok each)
+    c.make_room_at.ensures.ok
 
 pub returns-clause-grows : goal.returns-clause-grows
 returns-clause-grows c =
@@ -33,9 +35,11 @@ returns-clause-grows c =
 pub returns-in_err-reserve_event-clause-succeeds : goal.returns-in_err-reserve_event-clause-succeeds
 returns-in_err-reserve_event-clause-succeeds c =
     rw (← c.self.view_is) (λ some.
-    let bad : false ≡ true = c.in_err-reserve_event.ensures.succeeds (omega (arith, some, least_spare-limit (room_of (spare c.self.inside.entries) (spare c.self.inside.words)) c.self.inside.subhistories)) in absurd cc)
+    let bad : false ≡ true = c.in_err-reserve_event.ensures.succeeds (omega
+    (arith, some, least_spare-limit (room_of (spare c.self.inside.entries) (spare c.self.inside.words)) c.self.inside.subhistories)) in absurd cc)
 
 pub returns-clause-succeeds : goal.returns-clause-succeeds
 returns-clause-succeeds c =
     rw (← c.self.view_is)
-    (λ some. c.make_room_at.ensures.succeeds (λ cpu other within. room_at _ c.self.inside.subhistories cpu other (omega (arith, c.self.invariant.indexed.counted)) some))
+    (λ some. c.make_room_at.ensures.succeeds (λ cpu other within.
+    room_at _ c.self.inside.subhistories cpu other (omega (arith, c.self.invariant.indexed.counted)) some))

@@ -16,7 +16,8 @@ counted_event-requires c =
     let at =
     IsEntryAt-read inside.words.items inside.entries.items history.events c.args.place c.index.result.now c.self.invariant.held
     (ap (λ recording. recording.recorded.events) c.self.view_is) c.requires.place c.index.ensures in
-    let few = count_few history inside.words.items c.args.place c.index.result.now c.args.counts.now c.well_formed-fact.ensures at c.requires.counts in
+    let few =
+    count_few history inside.words.items c.args.place c.index.result.now c.args.counts.now c.well_formed-fact.ensures at c.requires.counts in
     record {
       words = rw c.deref.ensures.value at.has_words;
       cpu = cpu_within history inside.words.items c.args.place c.index.result.now c.well_formed-fact.ensures at;
@@ -33,7 +34,9 @@ returns c =
     record {
       few = c.counted_event.ensures.few;
       event = rw (c.counted_event.ensures.event, c.deref.ensures.value)
-          (event_counted history inside.words.items c.args.place c.index.result.now c.args.counts.now c.well_formed-fact.ensures at c.requires.counts);
+          (event_counted history inside.words.items c.args.place c.index.result.now
+          c.args.counts.now c.well_formed-fact.ensures at c.requires.counts);
       counts = rw c.counted_event.ensures.counts
-          (AreCounts-next history inside.words.items c.args.place c.index.result.now c.args.counts.now c.well_formed-fact.ensures at c.requires.counts);
+          (AreCounts-next history inside.words.items c.args.place c.index.result.now
+          c.args.counts.now c.well_formed-fact.ensures at c.requires.counts);
     }

@@ -23,7 +23,8 @@ unreachable-requires c =
     IsEntryAt-read inside.words.items inside.entries.items c.args.self.now.recorded.events c.args.place c.index.result.now c.self.invariant.held
     (ap (λ recording. recording.recorded.events) c.self.view_is) c.requires c.index.ensures in
     let event = event_of inside.words.items at.number c.index.result.now in
-    let below = cpu_below history.config.cpus event (IsEvent-slice_get history.config.cpus history.events c.args.place event is_history.events at.is_event) in
+    let below =
+    cpu_below history.config.cpus event (IsEvent-slice_get history.config.cpus history.events c.args.place event is_history.events at.is_event) in
     omega (arith, below, cpu_of-event_of inside.words.items at.number c.index.result.now, c.entry_cpu.ensures, c.in_default.ensures.none)
 
 pub rank_of-requires-clause-rising : goal.rank_of-requires-clause-rising

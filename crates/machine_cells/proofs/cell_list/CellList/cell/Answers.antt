@@ -1,7 +1,4 @@
-use Rattle.std.proofs.Common.{◌/◌, Some, sym, arith}
-use Rattle.granule_places.specs.Placed.{place_in}
-use Rattle.granule_places.proofs.PlaceLaws.{place-within}
-use Rattle.machine_cells.specs.Whole.{cells_of}
+use Rattle.machine_cells.proofs.Common.{◌/◌, Some, arith, cells_of, place-within, place_in, sym}
 use Rattle.machine_cells.proofs.Kept.{cells_in-between, cells_in-granule}
 use Rattle.machine_cells.proofs.PlacedCells.{some-place}
 use Rattle.machine_cells.proofs.cell_list.CellList.cell.Goals as goal
@@ -29,4 +26,5 @@ returns-then-number-near-clause-cell c =
     let list = c.args.self.now in
     let number = c.args.address / 4096 in
     let is = some-place list c.args.address (Some number) c.if-address-ne0.false (sym (c.near.ensures number c.if-number-near.true)) in
-    cells_in-granule list.config.granules list.places list.cells.items c.args.address number c.index.result.now is.granule is.at is.within c.index.ensures
+    cells_in-granule list.config.granules list.places list.cells.items c.args.address
+    number c.index.result.now is.granule is.at is.within c.index.ensures

@@ -1,10 +1,8 @@
-use Rattle.std.proofs.Common.{arith, ap, refl, sym, ◌∙◌}
+use Rattle.machine_cells.proofs.Common.{◌∙◌, ap, arith, cell_of, cells_of, refl, sym}
 use Rattle.rmm_spec.specs.Cell as spec
 use Rattle.shape_laws.specs.Whole.{cell_with_entries, entries_changed}
 use Rattle.granule_cells.specs.declared.cell.Cell.{Cell}
 use Rattle.granule_cells.specs.declared.cell.Cell.TheVariants.{Rtt}
-use Rattle.granule_cells.specs.Seen.{cell_of}
-use Rattle.machine_cells.specs.Whole.{cells_of}
 use Rattle.machine_cells.proofs.OneChanged.{set-at, not_table-same}
 use Rattle.machine_cells.proofs.cell_list.CellList.change_entries_at.Goals as goal
 

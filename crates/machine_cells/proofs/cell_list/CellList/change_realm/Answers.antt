@@ -1,16 +1,14 @@
-use Rattle.std.proofs.Common.{ap, refl, sym, ◌∙◌}
+use Rattle.machine_cells.proofs.Common.{◌∙◌, ap, cell_of, cell_with_realm, cells_of, refl, sym}
 use Rattle.rmm_spec.specs.Cell as spec
-use Rattle.shape_laws.specs.Whole.{cell_with_realm}
 use Rattle.granule_cells.specs.declared.cell.Cell.{Cell}
 use Rattle.granule_cells.specs.declared.cell.Cell.TheVariants.{Rd}
-use Rattle.granule_cells.specs.Seen.{cell_of}
-use Rattle.machine_cells.specs.Whole.{cells_of}
 use Rattle.machine_cells.proofs.OneChanged.{outside-same, set-at, not_realm-same}
 use Rattle.machine_cells.proofs.cell_list.CellList.change_realm.Goals as goal
 
 pub returns-in_default-place-clause-cells : goal.returns-in_default-place-clause-cells
 returns-in_default-place-clause-cells c =
-    rw c.in-Some.is (outside-same c.args.self.now c.in-Some.field-0.rd (cell_with_realm c.in-Some.field-0.update) refl c.in_default-place.ensures.none)
+    rw c.in-Some.is (outside-same c.args.self.now c.in-Some.field-0.rd
+    (cell_with_realm c.in-Some.field-0.update) refl c.in_default-place.ensures.none)
 
 pub returns-in-Rd-clause-cells : goal.returns-in-Rd-clause-cells
 unfolding cells_of

@@ -1,11 +1,8 @@
-use Rattle.std.proofs.Common.{ap, refl, sym, ◌∙◌}
+use Rattle.machine_cells.proofs.Common.{◌∙◌, ap, cell_of, cell_with_realm, cells_of, refl, sym}
 use Rattle.rmm_spec.specs.declared.change.RealmUpdate.TheVariants.{RecCounted}
 use Rattle.rmm_spec.specs.Cell as spec
-use Rattle.shape_laws.specs.Whole.{cell_with_realm}
 use Rattle.granule_cells.specs.declared.cell.Cell.{Cell}
 use Rattle.granule_cells.specs.declared.cell.Cell.TheVariants.{Rd}
-use Rattle.granule_cells.specs.Seen.{cell_of}
-use Rattle.machine_cells.specs.Whole.{cells_of}
 use Rattle.machine_cells.proofs.OneChanged.{outside-same, set-at, not_realm-same, realm-read}
 use Rattle.machine_cells.proofs.cell_list.CellList.count_rec.Goals as goal
 

@@ -7,4 +7,5 @@ unfolding cells_of
 returns-in-Some-clause-cell c =
     let list = c.args.self.now in
     let is = c.in-Some.ensures.some in
-    cells_in-granule list.config.granules list.places list.cells.items c.args.address c.in-Some.place c.index.result.now is.granule is.at is.within c.index.ensures
+    cells_in-granule list.config.granules list.places list.cells.items c.args.address
+    c.in-Some.place c.index.result.now is.granule is.at is.within c.index.ensures

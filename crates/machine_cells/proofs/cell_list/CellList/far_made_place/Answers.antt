@@ -1,6 +1,4 @@
-use Rattle.std.proofs.Common.{◌≡◌, ◌/◌, Some, sym, ◌∙◌, arith}
-use Rattle.granule_places.specs.Placed.{place_in}
-use Rattle.granule_places.proofs.PlaceLaws.{place-within}
+use Rattle.machine_cells.proofs.Common.{◌/◌, ◌∙◌, ◌≡◌, Some, arith, place-within, place_in, sym}
 use Rattle.machine_cells.proofs.cell_list.CellList.far_made_place.Goals as goal
 
 pub returns-in-Some-clause-place : goal.returns-in-Some-clause-place

@@ -1,8 +1,6 @@
-use Rattle.std.proofs.Common.{◌/◌, Some, ap, sym, ◌∙◌, arith}
+use Rattle.machine_cells.proofs.Common.{◌/◌, ◌∙◌, Some, ap, arith, cell_of, place-within, sym}
 use Rattle.rmm_spec.specs.Cell as spec
 use Rattle.granule_cells.specs.declared.cell.Cell.{Cell}
-use Rattle.granule_cells.specs.Seen.{cell_of}
-use Rattle.granule_places.proofs.PlaceLaws.{place-within}
 use Rattle.machine_cells.proofs.OneChanged.{cell-read}
 use Rattle.machine_cells.proofs.PlacedCells.{some-place}
 use Rattle.machine_cells.proofs.cell_list.CellList.first_table_in.Goals as goal

@@ -1,5 +1,4 @@
-use Rattle.std.proofs.Common.{◌/◌, arith}
-use Rattle.granule_places.proofs.PlaceLaws.{place-within}
+use Rattle.machine_cells.proofs.Common.{◌/◌, arith, place-within}
 use Rattle.machine_cells.proofs.cell_list.CellList.made_place.Goals as goal
 
 pub returns-then-number-near-clause-place : goal.returns-then-number-near-clause-place

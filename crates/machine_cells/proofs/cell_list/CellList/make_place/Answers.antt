@@ -1,7 +1,6 @@
-use Rattle.std.proofs.Common.{◌≡◌, ◌/◌, length, ap, ◌∙◌, arith}
-use Rattle.granule_places.specs.Placed.{count_in, place_in}
-use Rattle.granule_places.proofs.PlaceLaws.{place-within}
-use Rattle.machine_cells.specs.Whole.{cells_of, cells_in}
+use Rattle.machine_cells.proofs.Common.{◌/◌, ◌∙◌, ◌≡◌, ap, arith, cells_of, length, place-within, place_in}
+use Rattle.granule_places.specs.Placed.{count_in}
+use Rattle.machine_cells.specs.Whole.{cells_in}
 use Rattle.machine_cells.proofs.Kept.{cells_in-further, place_within}
 use Rattle.machine_cells.proofs.cell_list.CellList.make_place.Goals as goal
 

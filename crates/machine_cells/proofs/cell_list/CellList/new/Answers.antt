@@ -1,5 +1,4 @@
-use Rattle.machine_cells.specs.Whole.{cells_of}
-use Rattle.granule_places.specs.Placed.{place_in}
+use Rattle.machine_cells.proofs.Common.{cells_of, place_in}
 use Rattle.machine_cells.proofs.Opening.{cells-new}
 use Rattle.machine_cells.proofs.cell_list.CellList.new.Goals as goal
 

@@ -1,6 +1,4 @@
-use Rattle.std.proofs.Common.{◌/◌, Some, sym}
-use Rattle.granule_places.specs.Placed.{place_in}
-use Rattle.machine_cells.specs.Whole.{cells_of}
+use Rattle.machine_cells.proofs.Common.{◌/◌, Some, cells_of, place_in, sym}
 use Rattle.machine_cells.proofs.Kept.{cells_in-between}
 use Rattle.machine_cells.proofs.PlacedCells.{some-place}
 use Rattle.machine_cells.proofs.cell_list.CellList.place.Goals as goal

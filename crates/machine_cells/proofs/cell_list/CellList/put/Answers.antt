@@ -1,7 +1,4 @@
-use Rattle.std.proofs.Common.{ap, ◌∙◌}
-use Rattle.rmm_spec.specs.Cell.{put}
-use Rattle.granule_cells.specs.Seen.{cell_of}
-use Rattle.machine_cells.specs.Whole.{cells_of}
+use Rattle.machine_cells.proofs.Common.{◌∙◌, ap, cell_of, cells_of, put}
 use Rattle.machine_cells.proofs.Kept.{cells_in-set}
 use Rattle.machine_cells.proofs.cell_list.CellList.put.Goals as goal
 

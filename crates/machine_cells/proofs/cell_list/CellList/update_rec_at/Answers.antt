@@ -1,10 +1,8 @@
-use Rattle.std.proofs.Common.{arith, ap, refl, sym, ◌∙◌}
+use Rattle.machine_cells.proofs.Common.{◌∙◌, ap, arith, cell_of, cells_of, refl, sym}
 use Rattle.rmm_spec.specs.Cell as spec
 use Rattle.shape_laws.specs.Whole.{cell_with_rec}
 use Rattle.granule_cells.specs.declared.cell.Cell.{Cell}
 use Rattle.granule_cells.specs.declared.cell.Cell.TheVariants.{Rec}
-use Rattle.granule_cells.specs.Seen.{cell_of}
-use Rattle.machine_cells.specs.Whole.{cells_of}
 use Rattle.machine_cells.proofs.OneChanged.{set-at, not_rec-same, rec-read}
 use Rattle.machine_cells.proofs.cell_list.CellList.update_rec_at.Goals as goal
 
@@ -13,7 +11,8 @@ index_mut-requires c = omega (arith, c.requires.place.within, c.args.self.now.ce
 
 pub update-requires : goal.update-requires
 update-requires c =
-    c.requires.can _ (rec-read c.args.self.now c.args.rec c.args.place c.index_mut.result.now c.in-Rec.record c.requires.place c.index_mut.ensures.value c.in-Rec.is)
+    c.requires.can _
+    (rec-read c.args.self.now c.args.rec c.args.place c.index_mut.result.now c.in-Rec.record c.requires.place c.index_mut.ensures.value c.in-Rec.is)
 
 pub returns-in-Rec-clause-cells : goal.returns-in-Rec-clause-cells
 unfolding cells_of

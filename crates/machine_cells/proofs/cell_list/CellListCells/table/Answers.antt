@@ -1,6 +1,5 @@
-use Rattle.std.proofs.Common.{ap, sym, ◌∙◌}
+use Rattle.machine_cells.proofs.Common.{◌∙◌, ap, cells_of, sym}
 use Rattle.rmm_spec.specs.Cell as spec
-use Rattle.machine_cells.specs.Whole.{cells_of}
 use Rattle.machine_cells.proofs.Found.{tables_in-same}
 use Rattle.machine_cells.proofs.cell_list.CellListCells.table.Goals as goal
 

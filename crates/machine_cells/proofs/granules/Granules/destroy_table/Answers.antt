@@ -1,9 +1,7 @@
-use Rattle.std.proofs.Common.{ap, ◌∙◌}
+use Rattle.machine_cells.proofs.Common.{◌∙◌, ap, cells_of, flat_state, put, state_in, whole_of}
 use Rattle.rmm_spec.specs.declared.change.EntryChange.TheVariants.{Replaced}
-use Rattle.rmm_spec.specs.Cell.{put, Delegated}
-use Rattle.rmm_spec.specs.Flat.{flat_state}
+use Rattle.rmm_spec.specs.Cell.{Delegated}
 use Rattle.shape_laws.specs.Whole.{cells_with_entries, entries_changed, cells_changed, side_changed, places_changed}
-use Rattle.machine_cells.specs.Whole.{cells_of, whole_of, state_in}
 use Rattle.machine_cells.proofs.CanMake.{table_granule}
 use Rattle.machine_cells.proofs.granules.Granules.destroy_table.Goals as goal
 
@@ -18,5 +16,6 @@ returns-clause-whole c =
     let a = c.args in
     let g = a.self.now in
     let cells = c.put.ensures.cells ∙ ap (λ x. put x a.rtt Delegated)
-    (c.change_entries.ensures.cells ∙ ap (cells_with_entries (cells_of g.list) (entries_changed (Replaced a.number a.entry))) c.table_at-above.ensures) in
+    (c.change_entries.ensures.cells
+    ∙ ap (cells_with_entries (cells_of g.list) (entries_changed (Replaced a.number a.entry))) c.table_at-above.ensures) in
     λ i. record { cells = cells i; side = (whole_of g).side; places = (whole_of g).places }

@@ -1,5 +1,4 @@
-use Rattle.std.proofs.Common.{refl}
-use Rattle.machine_cells.specs.Whole.{cells_of, state_in, config_of}
+use Rattle.machine_cells.proofs.Common.{cells_of, config_of, refl, state_in}
 use Rattle.machine_cells.proofs.OneCell.{has_tag-read}
 use Rattle.machine_cells.proofs.granules.Granules.has_tag.Goals as goal
 

@@ -1,8 +1,7 @@
-use Rattle.std.proofs.Common.{◌≡◌, ◌+◌, ◌-◌, ◌/◌, ◌<◌, refl, sym, subst, arith}
+use Rattle.machine_cells.proofs.Common.{◌+◌, ◌/◌, ◌<◌, ◌≡◌, arith, entry_number, refl, state_in, subst, sym}
+use Rattle.std.proofs.Common.{◌-◌}
 use Rattle.std.specs.Option.{option_copied}
-use Rattle.rmm_spec.specs.Walk.{entry_number}
 use Rattle.machine_cells.specs.Searches.{IsTable}
-use Rattle.machine_cells.specs.Whole.{state_in}
 use Rattle.machine_cells.proofs.FreeTables.{reached-free}
 use Rattle.machine_cells.proofs.Stretches.{end-order, in_table, reached-no_end, reached-fails, reached-more, reached-all}
 use Rattle.machine_cells.proofs.granules.Granules.is_reached.Goals as goal
@@ -13,7 +12,8 @@ returns-then-not-is_end c = reached-no_end (state_in c.args.self.now) c.args.str
 pub returns-then-is_free : goal.returns-then-is_free
 returns-then-is_free c =
     reached-free c.args.self.now c.requires.shaped c.args.stretch.now c.args.top c.requires.level (sym c.if-not-is_end.ensures)
-    c.entry_number-first.result (option_copied c.table_here-table.result) c.entry_number-first.ensures.number c.table_here-table.ensures (c.if-is_free.ensures refl)
+    c.entry_number-first.result (option_copied c.table_here-table.result)
+    c.entry_number-first.ensures.number c.table_here-table.ensures (c.if-is_free.ensures refl)
 
 pub overflow_sub-top : goal.overflow_sub-top
 overflow_sub-top c = omega (arith, end-order c.args.stretch.now c.args.top (sym c.if-not-is_end.ensures))
@@ -24,7 +24,8 @@ overflow_add-first c = omega (arith, c.entry_number-first.ensures.small, c.entry
 pub entry_in-entry-requires-clause-table : goal.entry_in-entry-requires-clause-table
 entry_in-entry-requires-clause-table c =
     let stretch = c.args.stretch.now in
-    let below : c.loop-place.place < entry_number stretch.level (c.args.top - stretch.base) = rw (← c.entry_number-count.ensures.number) c.loop-place-test.true in
+    let below : c.loop-place.place < entry_number stretch.level (c.args.top - stretch.base) =
+    rw (← c.entry_number-count.ensures.number) c.loop-place-test.true in
     let same : (c.entry_number-first.result + c.loop-place.place) / 512 ≡ c.entry_number-first.result / 512 =
     rw c.entry_number-first.ensures.number (in_table stretch c.args.top c.loop-place.place c.requires.level (sym c.if-not-is_end.ensures) below) in
     subst (λ n. IsTable c.args.self.now stretch.rd stretch.level n (option_copied c.table_here-table.result)) (sym same) c.table_here-table.ensures
@@ -32,7 +33,8 @@ entry_in-entry-requires-clause-table c =
 pub returns-then-not-can_be_set : goal.returns-then-not-can_be_set
 returns-then-not-can_be_set c =
     let stretch = c.args.stretch.now in
-    let below : c.loop-place.place < entry_number stretch.level (c.args.top - stretch.base) = rw (← c.entry_number-count.ensures.number) c.loop-place-test.true in
+    let below : c.loop-place.place < entry_number stretch.level (c.args.top - stretch.base) =
+    rw (← c.entry_number-count.ensures.number) c.loop-place-test.true in
     reached-fails (state_in c.args.self.now) stretch c.args.top c.entry_number-first.result c.loop-place.place c.entry_in-entry.result below
     c.entry_number-first.ensures.number c.entry_in-entry.ensures c.if-not-can_be_set.ensures
 

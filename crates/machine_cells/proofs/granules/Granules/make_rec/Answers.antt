@@ -1,13 +1,11 @@
-use Rattle.std.proofs.Common.{◌≡◌, ◌+◌, ap, sym, ◌∙◌, subst}
+use Rattle.machine_cells.proofs.Common.{◌+◌, ◌∙◌, ◌≡◌, ap, cell_with_realm, cells_of, put, subst, sym, whole_of}
 use Rattle.rmm_spec.specs.declared.change.RealmUpdate.TheVariants.{RecCounted}
 use Rattle.rmm_spec.specs.declared.tag.Tag.TheVariants.{Rd}
 use Rattle.rmm_spec.specs.Cell as spec
-use Rattle.rmm_spec.specs.Cell.{put}
 use Rattle.rmm_spec.specs.Change.{new_rec}
-use Rattle.shape_laws.specs.Whole.{changed_at, cell_with_realm, cells_changed, side_changed, places_changed}
+use Rattle.shape_laws.specs.Whole.{changed_at, cells_changed, side_changed, places_changed}
 use Rattle.granule_cells.specs.Sides.{with_count}
 use Rattle.machine_cells.specs.Changes.{TakesIndex}
-use Rattle.machine_cells.specs.Whole.{cells_of, whole_of}
 use Rattle.machine_cells.proofs.CanMake.{index-made, few_recs, within_limit}
 use Rattle.machine_cells.proofs.Tagged.{granule_tagged}
 use Rattle.machine_cells.proofs.granules.Granules.make_rec.Goals as goal
@@ -23,9 +21,11 @@ count_rec-requires-clause-limit c = few_recs c.args.self.now c.requires.shaped c
 pub count_rec-requires-2 : goal.count_rec-requires-2
 count_rec-requires-2 c =
     let a = c.args in
-    let three = c.put-3.ensures.cells ∙ ap (λ x. put x a.aux1 spec.RecAux) (c.put-2.ensures.cells ∙ ap (λ x. put x a.aux0 spec.RecAux) c.put.ensures.cells) in
+    let three =
+    c.put-3.ensures.cells ∙ ap (λ x. put x a.aux1 spec.RecAux) (c.put-2.ensures.cells ∙ ap (λ x. put x a.aux0 spec.RecAux) c.put.ensures.cells) in
     subst (λ x. TakesIndex x a.rd a.mpidr) (sym three)
-    (index-made a.self.now c.requires.shaped a.rd a.rec a.mpidr a.flags a.aux0 a.aux1 c.requires.can (spec.Rec c.new-made.result) spec.RecAux spec.RecAux)
+    (index-made a.self.now c.requires.shaped a.rd a.rec a.mpidr a.flags a.aux0 a.aux1 c.requires.can
+    (spec.Rec c.new-made.result) spec.RecAux spec.RecAux)
 
 pub returns-clause-whole : goal.returns-clause-whole
 unfolding cells_changed side_changed places_changed

@@ -1,8 +1,6 @@
-use Rattle.std.proofs.Common.{◌≡◌, ◌*◌, ◌^◌, ◌<◌, replicate, ap, ◌∙◌}
-use Rattle.rmm_spec.specs.Cell.{put, Rtt}
-use Rattle.rmm_spec.specs.Flat.{flat_state}
+use Rattle.machine_cells.proofs.Common.{◌*◌, ◌<◌, ◌^◌, ◌∙◌, ◌≡◌, ap, cells_of, flat_state, put, replicate, state_in, whole_of}
+use Rattle.rmm_spec.specs.Cell.{Rtt}
 use Rattle.shape_laws.specs.Whole.{cells_with_table, copied_table, width_in, cells_changed, side_changed, places_changed}
-use Rattle.machine_cells.specs.Whole.{cells_of, whole_of, state_in}
 use Rattle.machine_cells.proofs.CanMake.{place_fits}
 use Rattle.machine_cells.proofs.granules.Granules.make_table.Goals as goal
 

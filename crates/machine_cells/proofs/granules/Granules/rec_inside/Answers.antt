@@ -1,6 +1,5 @@
-use Rattle.std.proofs.Common.{sym}
+use Rattle.machine_cells.proofs.Common.{config_of, state_in, sym, whole_of}
 use Rattle.spec_lemmas.proofs.Placed.{is_inside-outside, is_inside-inside}
-use Rattle.machine_cells.specs.Whole.{whole_of, state_in, config_of}
 use Rattle.machine_cells.proofs.SideTold.{rec_inside-place}
 use Rattle.machine_cells.proofs.granules.Granules.rec_inside.Goals as goal
 

@@ -1,8 +1,5 @@
-use Rattle.std.proofs.Common.{◌≡◌, ◌<◌, sym, ◌∙◌, subst, arith}
-use Rattle.std.proofs.lemmas.Option.{none-some, same_Some}
-use Rattle.rmm_spec.specs.Flat.{flat_state}
+use Rattle.machine_cells.proofs.Common.{◌<◌, ◌∙◌, ◌≡◌, arith, flat_state, none-some, same_Some, state_in, subst, sym}
 use Rattle.rmm_spec.specs.Walk.{full}
-use Rattle.machine_cells.specs.Whole.{state_in}
 use Rattle.machine_cells.proofs.granules.Granules.start.Goals as goal
 
 pub returns-in_default-clause-none : goal.returns-in_default-clause-none

@@ -1,6 +1,5 @@
-use Rattle.std.proofs.Common.{refl, subst, arith}
+use Rattle.machine_cells.proofs.Common.{arith, refl, state_in, subst}
 use Rattle.rmm_spec.specs.Walk.{IsWalk}
-use Rattle.machine_cells.specs.Whole.{state_in}
 use Rattle.machine_cells.proofs.WalkEnds.{table-large, table-elsewhere, table-above, walk-here, walk-short}
 use Rattle.machine_cells.proofs.Found.{sound_in, start-walkable, start-walks}
 use Rattle.machine_cells.proofs.granules.Granules.table_from_root.Goals as goal
@@ -16,7 +15,8 @@ pub walk-end-requires : goal.walk-end-requires
 walk-end-requires c =
     let a = c.args in
     rw c.new.ensures
-    (start-walkable a.self.now c.requires a.rd c.in-Some.ipa a.level c.in-Some-start.start.root c.in-Some-start.start.level c.in-Some-start.ensures.found
+    (start-walkable a.self.now c.requires a.rd c.in-Some.ipa a.level
+    c.in-Some-start.start.root c.in-Some-start.start.level c.in-Some-start.ensures.found
     (omega (arith, c.if-start-level.false)))
 
 pub returns-in_default : goal.returns-in_default
@@ -27,13 +27,15 @@ returns-in_default c =
 pub returns-in_default-start : goal.returns-in_default-start
 returns-in_default-start c =
     let a = c.args in
-    table-elsewhere (state_in a.self.now) (sound_in a.self.now c.requires) a.rd a.level a.number c.in-Some.ipa c.in-Some.ensures.found.at c.in_default-start.ensures.none _ refl
+    table-elsewhere (state_in a.self.now)
+    (sound_in a.self.now c.requires) a.rd a.level a.number c.in-Some.ipa c.in-Some.ensures.found.at c.in_default-start.ensures.none _ refl
 
 pub returns-then-end-level : goal.returns-then-end-level
 returns-then-end-level c =
     let a = c.args in
     let end = c.walk-end.result in
-    let walks = start-walks a.self.now c.requires a.rd c.in-Some.ipa a.level c.in-Some-start.start.root c.in-Some-start.start.level end.level end.pa end.entry
+    let walks =
+    start-walks a.self.now c.requires a.rd c.in-Some.ipa a.level c.in-Some-start.start.root c.in-Some-start.start.level end.level end.pa end.entry
     c.in-Some-start.ensures.found (omega (arith, c.if-start-level.false)) (rw c.new.ensures at c.walk-end.ensures) in
     rw c.address.ensures
     (walk-here (state_in a.self.now) a.rd a.level a.number c.in-Some.ipa end.pa end.entry c.in-Some.ensures.found.last c.in-Some.ensures.found.at
@@ -43,7 +45,9 @@ pub returns-else-end-level : goal.returns-else-end-level
 returns-else-end-level c =
     let a = c.args in
     let end = c.walk-end.result in
-    let walks = start-walks a.self.now c.requires a.rd c.in-Some.ipa a.level c.in-Some-start.start.root c.in-Some-start.start.level end.level end.pa end.entry
+    let walks =
+    start-walks a.self.now c.requires a.rd c.in-Some.ipa a.level c.in-Some-start.start.root c.in-Some-start.start.level end.level end.pa end.entry
     c.in-Some-start.ensures.found (omega (arith, c.if-start-level.false)) (rw c.new.ensures at c.walk-end.ensures) in
-    walk-short (state_in a.self.now) a.rd a.level a.number c.in-Some.ipa end.level end.pa end.entry c.in-Some.ensures.found.last c.in-Some.ensures.found.at walks
+    walk-short (state_in a.self.now) a.rd a.level a.number c.in-Some.ipa end.level
+    end.pa end.entry c.in-Some.ensures.found.last c.in-Some.ensures.found.at walks
     c.if-end-level.false

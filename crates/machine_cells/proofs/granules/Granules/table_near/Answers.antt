@@ -6,6 +6,7 @@ pub returns-in-Some : goal.returns-in-Some
 returns-in-Some c =
     let a = c.args in
     record {
-      stands = near-table a.self.now c.requires a.rd a.level a.number c.granule-granule.result c.in-Some.table.now c.in-Some.ensures (c.if-is_placed.ensures refl);
+      stands = near-table a.self.now c.requires a.rd a.level a.number c.granule-granule.result
+          c.in-Some.table.now c.in-Some.ensures (c.if-is_placed.ensures refl);
       held = c.in-Some.ensures;
     }

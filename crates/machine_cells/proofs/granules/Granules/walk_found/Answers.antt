@@ -1,6 +1,5 @@
-use Rattle.std.proofs.Common.{refl, slice_get, sym, ap, ◌∙◌}
+use Rattle.machine_cells.proofs.Common.{◌∙◌, ap, refl, slice_get, sym, table_number}
 use Rattle.rmm_spec.specs.Table.{entry_index}
-use Rattle.rmm_spec.specs.Walk.{table_number}
 use Rattle.machine_cells.proofs.NearTables.{near-walk}
 use Rattle.machine_cells.proofs.granules.Granules.walk_found.Goals as goal
 

@@ -1,5 +1,4 @@
-use Rattle.std.proofs.Common.{arith}
-use Rattle.machine_cells.specs.Whole.{state_in}
+use Rattle.machine_cells.proofs.Common.{arith, state_in}
 use Rattle.machine_cells.proofs.WalkEnds.{walk-elsewhere, walk-above, walk-is}
 use Rattle.machine_cells.proofs.Found.{sound_in, start-walkable, start-walks}
 use Rattle.machine_cells.proofs.granules.Granules.walk_from_root.Goals as goal
@@ -13,14 +12,16 @@ pub returns-then-start-max : goal.returns-then-start-max
 returns-then-start-max c =
     let a = c.args in
     rw c.address.ensures
-    (walk-above (state_in a.self.now) (sound_in a.self.now c.requires.shaped) a.rd a.ipa a.max c.in-Some.start.root c.in-Some.start.level c.in-Some.ensures.found
+    (walk-above (state_in a.self.now)
+    (sound_in a.self.now c.requires.shaped) a.rd a.ipa a.max c.in-Some.start.root c.in-Some.start.level c.in-Some.ensures.found
     (omega (arith, c.if-start-max.true)))
 
 pub walk-end-requires : goal.walk-end-requires
 walk-end-requires c =
     let a = c.args in
     rw c.new.ensures
-    (start-walkable a.self.now c.requires.shaped a.rd a.ipa a.max c.in-Some.start.root c.in-Some.start.level c.in-Some.ensures.found (omega (arith, c.if-start-max.false)))
+    (start-walkable a.self.now c.requires.shaped a.rd a.ipa a.max c.in-Some.start.root
+    c.in-Some.start.level c.in-Some.ensures.found (omega (arith, c.if-start-max.false)))
 
 pub returns : goal.returns
 returns c =
@@ -28,5 +29,6 @@ returns c =
     let end = c.walk-end.result in
     rw c.address-2.ensures
     (walk-is (state_in a.self.now) a.rd a.ipa a.max end.level end.pa end.entry
-    (start-walks a.self.now c.requires.shaped a.rd a.ipa a.max c.in-Some.start.root c.in-Some.start.level end.level end.pa end.entry c.in-Some.ensures.found
+    (start-walks a.self.now c.requires.shaped a.rd a.ipa a.max c.in-Some.start.root
+    c.in-Some.start.level end.level end.pa end.entry c.in-Some.ensures.found
     (omega (arith, c.if-start-max.false)) (rw c.new.ensures at c.walk-end.ensures)))

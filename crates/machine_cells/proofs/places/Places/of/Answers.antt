@@ -10,5 +10,6 @@ pub returns : goal.returns
 unfolding places_of
 returns c =
     let p = c.args.self.now in
-    ap place_of (c.index.ensures ∙ get_or_default p.places.items c.from.result c.index.result.now Outside (omega (arith, p.cpus, p.places.ok.0, c.from.ensures))
+    ap place_of (c.index.ensures
+    ∙ get_or_default p.places.items c.from.result c.index.result.now Outside (omega (arith, p.cpus, p.places.ok.0, c.from.ensures))
     ∙ ap (λ i. slice_index_or p.places.items i Outside) c.from.ensures)

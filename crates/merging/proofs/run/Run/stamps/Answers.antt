@@ -1,6 +1,4 @@
-use Rattle.std.proofs.Common.{sym, ◌∙◌}
-use Rattle.granule_names.specs.Renamed.{no_lasts}
-use Rattle.merging.specs.Run.{known_front}
+use Rattle.merging.proofs.Common.{◌∙◌, known_front, no_lasts, sym}
 use Rattle.merging.proofs.NamingLaws.{length-named_from}
 use Rattle.merging.proofs.run.Run.stamps.Goals as goal
 

@@ -1,18 +1,10 @@
-use Rattle.std.proofs.Common.{◌≡◌, ℕ, ◌≤◌, ◌<◌, List, length, map, take, Some, refl, sym, ap, ◌∙◌, subst, arith}
-use Rattle.std.specs.Prelude.{slice_get}
-use Rattle.std.specs.Io.KnownBytes.{Appends}
+use Rattle.merging.proofs.Common.{◌<◌, ◌∙◌, ◌≡◌, ◌≤◌, Appends, Happened, List, Some, Stand, ap, arith, event_parts, events_from, happened_seen, known_front, lasts_in, length, line_parts, lines_from, lines_text, map, no_lasts, refl, returns_in, slice_get, stands_after, stands_with, starts, subst, sym, take, ℕ}
 use Rattle.std.proofs.Math.Seq.{take-length}
 use Rattle.std.proofs.lemmas.Option.{none-some}
 use Rattle.std.proofs.lemmas.Result.{err_from_is_err_and}
-use Rattle.rmm_spec.specs.CertificateText.{line_parts}
-use Rattle.rmm_spec.specs.HistoryText.{event_parts}
-use Rattle.rmm_spec.specs.Text.{lines_text}
-use Rattle.granule_names.specs.Renamed.{lasts_in, lasts_with, no_lasts}
-use Rattle.recorded_events.specs.Seen.{happened_seen}
-use Rattle.recorded_events.specs.Table.{Happened}
+use Rattle.granule_names.specs.Renamed.{lasts_with}
 use Rattle.merging.specs.Merge.{Merge, event_lines, commit_lines}
 use Rattle.merging.specs.Naming.{told_slot}
-use Rattle.merging.specs.Run.{Stand, known_front, starts, stands_with, stands_after, events_from, lines_from, returns_in}
 use Rattle.merging.proofs.CutLaws.{IsCut-at}
 use Rattle.merging.proofs.LineLaws.{appends_nothing}
 use Rattle.merging.proofs.NamingLaws.{told-at, length-named_from, lasts_after-next}
@@ -70,7 +62,8 @@ returns-in_err-write_told-clause-fault g c =
     let is : slice_get front stamp ≡ Some slot = known_front-some c.self.inside.table.slots stamp slot within (sym c.in-Some.ensures.seen) in
     let event_is : slice_get run.events stamp ≡ Some told =
     subst (λ (m : Merge). slice_get m.events stamp ≡ Some (told_slot m.naming m.config.granules lasts slot)) c.self.view_is
-    (told-at c.self.inside.naming c.self.inside.config.granules c.self.inside.config.granules lasts front stamp slot is refl c.loop-stamp.invariant.lasts) in
+    (told-at c.self.inside.naming c.self.inside.config.granules c.self.inside.config.granules
+    lasts front stamp slot is refl c.loop-stamp.invariant.lasts) in
     let p = err_from_is_err_and c.from_residual.result c.from_residual.ensures.1 in
     rw (p.1, p.2)
     (IsCut-at run.events stamp told event_is (λ (cpu : ℕ). returns_in cpu run.events) _ _ _ _ _ _ _ _ c.loop-stamp.invariant.stands
@@ -88,7 +81,8 @@ loop-stamp-preserved g c =
     let is : slice_get front stamp ≡ Some slot = known_front-some c.self.inside.table.slots stamp slot within (sym c.in-Some.ensures.seen) in
     let event_is : slice_get run.events stamp ≡ Some told =
     subst (λ (m : Merge). slice_get m.events stamp ≡ Some (told_slot m.naming m.config.granules lasts slot)) c.self.view_is
-    (told-at c.self.inside.naming c.self.inside.config.granules c.self.inside.config.granules lasts front stamp slot is refl c.loop-stamp.invariant.lasts) in
+    (told-at c.self.inside.naming c.self.inside.config.granules c.self.inside.config.granules
+    lasts front stamp slot is refl c.loop-stamp.invariant.lasts) in
     let returns = λ (cpu : ℕ). returns_in cpu run.events in
     record {
       history = history-next c.args.history.now.contents c.loop-stamp.history.contents c.write_told.new.history.contents

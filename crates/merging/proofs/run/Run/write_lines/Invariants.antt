@@ -1,12 +1,6 @@
-use Rattle.std.proofs.Common.{◌≡◌, ◌≤◌, false, map, take, vec_capacity}
-use Rattle.std.specs.Io.KnownBytes.{Appends}
-use Rattle.rmm_spec.specs.CertificateText.{line_parts}
-use Rattle.rmm_spec.specs.HistoryText.{event_parts}
-use Rattle.rmm_spec.specs.Text.{lines_text}
-use Rattle.granule_names.specs.Renamed.{lasts_in, no_lasts}
+use Rattle.merging.proofs.Common.{◌≡◌, ◌≤◌, Appends, event_parts, events_from, false, known_front, lasts_in, line_parts, lines_from, lines_text, map, no_lasts, returns_in, stand_at, stands_after, stands_in, starts, take}
+use Rattle.std.proofs.Common.{vec_capacity}
 use Rattle.merging.specs.Naming.{lasts_after}
-use Rattle.merging.specs.Run.{known_front, starts, stand_at, stands_after, events_from, lines_from, returns_in}
-use Rattle.merging.specs.Seen.{stands_in}
 use Rattle.merging.proofs.run.Run.write_lines.Given as goal
 
 abbrev pub invariant-loop-stamp : goal.invariant-loop-stamp

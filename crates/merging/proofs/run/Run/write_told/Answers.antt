@@ -1,17 +1,9 @@
-use Rattle.std.proofs.Common.{◌≡◌, ℕ, ◌<◌, length, map, get_or, sym, ap, ◌∙◌, subst, arith}
-use Rattle.std.specs.Io.KnownBytes.{Appends}
+use Rattle.merging.proofs.Common.{◌<◌, ◌∙◌, ◌≡◌, Appends, Happened, Stand, ap, arith, event_parts, events_of, happened_seen, known_front, lasts_in, length, line_parts, lines_of, lines_text, map, returns_in, stand_at, stand_seen, stands_in, subst, sym, ℕ}
+use Rattle.std.proofs.Common.{get_or}
 use Rattle.std.proofs.lemmas.List.{get_or_default}
 use Rattle.std.proofs.lemmas.Result.{err_from_is_err_and}
-use Rattle.rmm_spec.specs.CertificateText.{line_parts}
-use Rattle.rmm_spec.specs.HistoryText.{event_parts}
-use Rattle.rmm_spec.specs.Text.{lines_text}
-use Rattle.granule_names.specs.Renamed.{lasts_in}
-use Rattle.recorded_events.specs.Seen.{happened_seen}
-use Rattle.recorded_events.specs.Table.{Happened}
 use Rattle.merging.specs.Merge.{event_lines, commit_lines}
 use Rattle.merging.specs.Naming.{events_named, named_slot, told_slot}
-use Rattle.merging.specs.Run.{Stand, known_front, stand_at, events_of, lines_of, returns_in}
-use Rattle.merging.specs.Seen.{stand_seen, stands_in}
 use Rattle.merging.proofs.CutLaws.{IsCut-told}
 use Rattle.merging.proofs.NamingLaws.{AreReturns-named}
 use Rattle.merging.proofs.StepLaws.{stands_in-at}

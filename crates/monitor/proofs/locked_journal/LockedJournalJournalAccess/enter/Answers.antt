@@ -12,7 +12,8 @@ returns g c =
       shown = (
         refl,
         in_step c.args.command.now c.args.self.now.pass.now _ entry.before entry.after c.requires.ready.2 c.enter-entered.result c.args.token.now.cpu
-            (given_of c.enter-entered.new.draft.answer) c.requires.ready.1 entry.holds.journal entry.holds.kept_journal c.enter-entered.ensures.committed
+            (given_of c.enter-entered.new.draft.answer)
+            c.requires.ready.1 entry.holds.journal entry.holds.kept_journal c.enter-entered.ensures.committed
             c.enter-entered.ensures.kept,
       );
       holds = entry.holds;

@@ -19,14 +19,17 @@ pub returns-in-Err-clause-cause : goal.returns-in-Err-clause-cause
 returns-in-Err-clause-cause g c unlisted is =
     let same_size = sym c.self.invariant.1 ∙ ap (λ (m : MonitorView). m.config) c.self.view_is in
     let of_run = subst (λ (config : Config). IsOfRun config c.audit.new.self) same_size c.in-Err.ensures.of_run in
-    let counted = ap (λ (j : JournalView). length j.entries) c.audit.ensures.journal ∙ c.audit.ensures.counted ∙ ap count_committed c.as_mut_slice-tokens.ensures.value in
+    let counted = ap (λ (j : JournalView). length j.entries) c.audit.ensures.journal
+    ∙ c.audit.ensures.counted ∙ ap count_committed c.as_mut_slice-tokens.ensures.value in
     let same_unlisted : c.in-Err.unlisted ≡ unlisted = cc in
-    disagree c.args.self.config c.audit.new.self of_run c.args.tokens.items c.audit.new.tokens (c.audit.ensures.tokens ∙ c.as_mut_slice-tokens.ensures.value)
+    disagree c.args.self.config c.audit.new.self of_run c.args.tokens.items c.audit.new.tokens
+    (c.audit.ensures.tokens ∙ c.as_mut_slice-tokens.ensures.value)
     (unlisted_entries unlisted) (ap unlisted_entries (sym same_unlisted) ∙ c.in-Err.ensures.compared) counted c.in-Err.ensures.unlisted
 
 pub certificate_of-requires-clause-few : goal.certificate_of-requires-clause-few
 certificate_of-requires-clause-few g c =
-    let counted = ap (λ (j : JournalView). length j.entries) c.audit.ensures.journal ∙ c.audit.ensures.counted ∙ ap count_committed c.as_mut_slice-tokens.ensures.value in
+    let counted = ap (λ (j : JournalView). length j.entries) c.audit.ensures.journal
+    ∙ c.audit.ensures.counted ∙ ap count_committed c.as_mut_slice-tokens.ensures.value in
     omega (
       arith,
       counted,
@@ -37,7 +40,8 @@ certificate_of-requires-clause-few g c =
 
 pub certificate_of-requires-clause-cpus : goal.certificate_of-requires-clause-cpus
 certificate_of-requires-clause-cpus g c =
-    let most : length c.args.tokens.items ≤ 8 = omega (arith, c.requires.cpus.count, c.cpus-fact.ensures.limits.most_cpus, ap (λ (m : MonitorView). m.config.cpus) c.self.view_is) in
+    let most : length c.args.tokens.items ≤ 8 =
+    omega (arith, c.requires.cpus.count, c.cpus-fact.ensures.limits.most_cpus, ap (λ (m : MonitorView). m.config.cpus) c.self.view_is) in
     listed-below c.args.tokens.items c.audit.new.self.entries 8 most
     (subst (λ ts. AreListed ts c.audit.new.self.entries) (c.audit.ensures.tokens ∙ c.as_mut_slice-tokens.ensures.value) c.in_default.ensures.listed)
 
@@ -65,7 +69,8 @@ any_err P (Err fault) each = each fault
 
 pub returns-in_err-certificate-clause-short : goal.returns-in_err-certificate-clause-short
 returns-in_err-certificate-clause-short g c =
-    let counted = ap (λ (j : JournalView). length j.entries) c.audit.ensures.journal ∙ c.audit.ensures.counted ∙ ap count_committed c.as_mut_slice-tokens.ensures.value in
+    let counted = ap (λ (j : JournalView). length j.entries) c.audit.ensures.journal
+    ∙ c.audit.ensures.counted ∙ ap count_committed c.as_mut_slice-tokens.ensures.value in
     let some : 0 < count_committed c.args.tokens.items = omega (arith, c.in_err-certificate.ensures.short, counted) in
     any_err (λ fault. fault ≡ NoMemory → IsShort c.args.history c.args.tokens.items c.args.passes.items)
     c.from_residual-in_err-certificate.result (λ fault memory. inr some)

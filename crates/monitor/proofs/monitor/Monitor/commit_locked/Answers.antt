@@ -8,9 +8,12 @@ is_site : (g : Over) (c : goal.After-free_all-arg-1 g) → c.args.self.now.confi
 is_site g c = sym (ap (λ (m : MonitorView). m.config) c.self.view_is) ∙ c.self.invariant.1
 
 -- what is held was taken for the command
-taken : (g : Over) (c : goal.After-free_all-arg-1 g) → WereTaken c.args.self.now.config c.args.gated.now.command.now c.args.token.now (hold_cells c.lock_for.new.hold)
-taken g c = were-taken c.args.self.now.config _ _ c.args.gated.now.command.now c.args.token.now (place_of c.place-place.result) (hold_cells c.lock_for.new.hold)
-    (ap (λ (m : MonitorView). m.config) c.self.view_is) c.self.invariant.0 (ap place_of c.place-place.ensures) c.lock_for.ensures.granules c.lock_for.ensures.settled
+taken : (g : Over) (c : goal.After-free_all-arg-1 g)
+    → WereTaken c.args.self.now.config c.args.gated.now.command.now c.args.token.now (hold_cells c.lock_for.new.hold)
+taken g c = were-taken c.args.self.now.config _ _ c.args.gated.now.command.now c.args.token.now
+    (place_of c.place-place.result) (hold_cells c.lock_for.new.hold)
+    (ap (λ (m : MonitorView). m.config) c.self.view_is) c.self.invariant.0
+    (ap place_of c.place-place.ensures) c.lock_for.ensures.granules c.lock_for.ensures.settled
     c.lock_for.ensures.planned
 
 pub free_all-requires : goal.free_all-requires
@@ -22,20 +25,23 @@ free_all-requires g c =
 
 pub returns-clause-held : goal.returns-clause-held
 returns-clause-held g c =
-    subst (λ cells. WereHeld c.args.self.now.config c.args.gated.now.command.now c.args.token.now (place_of c.commit-done.new.token.place) cells c.commit-done.result)
+    subst (λ cells. WereHeld c.args.self.now.config c.args.gated.now.command.now c.args.token.now
+    (place_of c.commit-done.new.token.place) cells c.commit-done.result)
     (sym c.free_all.ensures.freed)
     (were-held c.args.self.now.config g.S.Site.config (is_site g c.before) c.args.gated.now.command.now _ _ c.args.token.now _ c.lock_for.new.hold
     c.commit-done.new.hold (taken g c.before) c.commit-done.result c.commit-done.ensures.holds)
 
 pub returns-clause-cause : goal.returns-clause-cause
 returns-clause-cause g c =
-    fault-had_cause c.args.self.now.config g.S.Site.config (is_site g c.before) c.args.gated.now.command.now _ _ c.args.token.now _ c.lock_for.new.hold
+    fault-had_cause c.args.self.now.config g.S.Site.config
+    (is_site g c.before) c.args.gated.now.command.now _ _ c.args.token.now _ c.lock_for.new.hold
     c.commit-done.new.hold (taken g c.before) c.commit-done.result c.commit-done.ensures.holds
 
 pub returns-clause-pass : goal.returns-clause-pass
 returns-clause-pass g c =
     let commit = c.commit-done.ensures in
     let deciding = ap (λ (p : CpuView). p.stage) c.requires.called.is_called in
-    let made = (stepped c.args.gated.now.command.now c.args.pass.now c.commit-done.new.journal.pass.now commit.before commit.after deciding c.commit-done.result
+    let made =
+    (stepped c.args.gated.now.command.now c.args.pass.now c.commit-done.new.journal.pass.now commit.before commit.after deciding c.commit-done.result
     (λ (d : Done). d.reply) c.args.token.now.cpu c.requires.called.same_cpu commit.holds.journal commit.holds.kept_journal commit.shown.1).0 in
     subst (λ (p : CpuView). IfOk c.commit-done.result (λ done. p ≡ committed c.args.pass.now done.reply)) (search rules) made

@@ -33,7 +33,8 @@ loop-command-preserved g c =
     let item = c.command-item.result in
     let within : place < length program = omega (arith, c.loop-command-test.true, c.deref-command-items.ensures.len, c.args.self.program.ok.0) in
     let same = c.command-item.is ∙ ap (λ xs. get_or xs place item) c.deref-command-items.ensures.value in
-    come-more c.args.monitor.now c.args.self.token.cpu program place item c.loop-command.token c.loop-command.pass c.execute.new.token c.execute.new.pass
+    come-more c.args.monitor.now c.args.self.token.cpu program place item
+    c.loop-command.token c.loop-command.pass c.execute.new.token c.execute.new.pass
     c.loop-command.invariant within (sym same) c.execute.ensures.pair _ c.in-Ok.ensures.leaves
 
 pub returns-in_default : goal.returns-in_default
@@ -43,12 +44,15 @@ returns-in_default g c =
     let item = c.command-item.result in
     let within : place < length program = omega (arith, c.loop-command-test.true, c.deref-command-items.ensures.len, c.args.self.program.ok.0) in
     let same = c.command-item.is ∙ ap (λ xs. get_or xs place item) c.deref-command-items.ensures.value in
-    come-refused c.args.monitor.now c.args.self.token.cpu program place item c.loop-command.token c.loop-command.pass c.execute.new.token c.execute.new.pass
-    c.loop-command.invariant within (sym same) c.execute.ensures.pair _ c.in_default.ensures.leaves c.in_default.ensures.stopped c.in_default.ensures.full
+    come-refused c.args.monitor.now c.args.self.token.cpu program place item
+    c.loop-command.token c.loop-command.pass c.execute.new.token c.execute.new.pass
+    c.loop-command.invariant within
+    (sym same) c.execute.ensures.pair _ c.in_default.ensures.leaves c.in_default.ensures.stopped c.in_default.ensures.full
 
 pub returns : goal.returns
 returns g c =
-    come-worked c.args.monitor.now c.args.self.token.cpu c.args.self.program.items c.loop-command.command-index c.loop-command.token c.loop-command.pass
+    come-worked c.args.monitor.now c.args.self.token.cpu c.args.self.program.items
+    c.loop-command.command-index c.loop-command.token c.loop-command.pass
     (omega (
       arith,
       c.loop-command-test.false,

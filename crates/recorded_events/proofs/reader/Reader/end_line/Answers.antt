@@ -7,7 +7,8 @@ use Rattle.recorded_events.proofs.reader.Reader.end_line.Goals as goal
 pub returns-then-not-extend-clause-fault : goal.returns-then-not-extend-clause-fault
 returns-then-not-extend-clause-fault c =
     rw c.number_after.ensures (λ text more read.
-    HasRead-too_long c.args.self.now text c.args.last.now (10 ∷ more) read c.extend.ensures.no_newline (c.extend.ensures.too_long c.if-not-extend.true))
+    HasRead-too_long c.args.self.now text c.args.last.now
+    (10 ∷ more) read c.extend.ensures.no_newline (c.extend.ensures.too_long c.if-not-extend.true))
 
 pub returns-in_err-read_line-clause-fault : goal.returns-in_err-read_line-clause-fault
 returns-in_err-read_line-clause-fault c =

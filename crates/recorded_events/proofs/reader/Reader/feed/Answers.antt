@@ -9,7 +9,8 @@ returns-in_default-clause-fault c =
     IfErr-weaker c.hold.result _ _ (λ fault told text more read.
     let at = c.loop-rest.invariant text read in
     subst (λ t. IsFaultOf t fault)
-    (sym (append_assoc at.0 c.loop-rest.rest.now more) ∙ ap (λ t. t ++ more) at.1.1 ∙ append_assoc text c.args.piece.now more) (told at.0 more at.1.0))
+    (sym (append_assoc at.0 c.loop-rest.rest.now more) ∙ ap (λ t. t ++ more) at.1.1
+    ∙ append_assoc text c.args.piece.now more) (told at.0 more at.1.0))
     c.hold.ensures.fault
 
 pub returns-in_err-end_line-clause-fault : goal.returns-in_err-end_line-clause-fault

@@ -12,8 +12,10 @@ is_stored c = record {
   first = c.place-first.result;
   kept = c.what_of-what.result;
   is_kept = c.what_of-what.ensures;
-  is_placed = subst (λ ws. IsPlaced ws c.place-first.new.words.items (moment_words (moment_seen c.args.moment)) c.place-first.result) c.reserve.ensures.items
-      (subst (λ own. IsPlaced c.reserve.new.self.items c.place-first.new.words.items own c.place-first.result) c.words_of.ensures c.place-first.ensures);
+  is_placed = subst
+      (λ ws. IsPlaced ws c.place-first.new.words.items (moment_words (moment_seen c.args.moment)) c.place-first.result) c.reserve.ensures.items
+      (subst (λ own. IsPlaced c.reserve.new.self.items c.place-first.new.words.items own c.place-first.result)
+      c.words_of.ensures c.place-first.ensures);
   is_slots =
       ap (λ slots. set slots c.args.stamp
       (record { line = c.self.inside.count + 2; first = c.place-first.result; cpu = c.args.cpu; what = c.what_of-what.result }))
@@ -23,7 +25,8 @@ is_stored c = record {
 
 pub place-first-requires-clause-few : goal.place-first-requires-clause-few
 place-first-requires-clause-few c =
-    subst (λ ws. length ws ≤ 10) (sym c.words_of.ensures) (moment_words-few (moment_seen c.args.moment) (HasFewWords-moment (moment_seen c.args.moment) c.requires.moment))
+    subst (λ ws. length ws ≤ 10) (sym c.words_of.ensures)
+    (moment_words-few (moment_seen c.args.moment) (HasFewWords-moment (moment_seen c.args.moment) c.requires.moment))
 
 pub what_of-what-requires : goal.what_of-what-requires
 what_of-what-requires c = HasFewWords-moment (moment_seen c.args.moment) c.requires.moment

@@ -7,7 +7,12 @@ use Rattle.rtt_table.proofs.table.Table.set_entry.Goals as goal
 pub recounted-self-inside-requires-clause-some : goal.recounted-self-inside-requires-clause-some
 recounted-self-inside-requires-clause-some c =
     let there = c.entry-old.ensures.value in
-    omega (arith, ap (λ (b : Bool). one_if b) c.is_live.ensures, count-at is_live c.self.inside.columns c.args.at c.entry-old.result there, c.self.invariant.of_live)
+    omega (
+      arith,
+      ap (λ (b : Bool). one_if b) c.is_live.ensures,
+      count-at is_live c.self.inside.columns c.args.at c.entry-old.result there,
+      c.self.invariant.of_live,
+    )
 
 pub recounted-self-inside-requires-clause-within : goal.recounted-self-inside-requires-clause-within
 recounted-self-inside-requires-clause-within c =
@@ -17,7 +22,12 @@ recounted-self-inside-requires-clause-within c =
 pub recounted-self-inside-requires-2-clause-some : goal.recounted-self-inside-requires-2-clause-some
 recounted-self-inside-requires-2-clause-some c =
     let there = c.entry-old.ensures.value in
-    omega (arith, ap (λ (b : Bool). one_if b) c.is_table.ensures, count-at is_table c.self.inside.columns c.args.at c.entry-old.result there, c.self.invariant.of_links)
+    omega (
+      arith,
+      ap (λ (b : Bool). one_if b) c.is_table.ensures,
+      count-at is_table c.self.inside.columns c.args.at c.entry-old.result there,
+      c.self.invariant.of_links,
+    )
 
 pub recounted-self-inside-requires-2-clause-within : goal.recounted-self-inside-requires-2-clause-within
 recounted-self-inside-requires-2-clause-within c =
@@ -31,7 +41,12 @@ invariant_of-self c =
     let live : c.recounted-self-inside.result + one_if (is_live c.entry-old.result) ≡ t.live + one_if (is_live c.args.entry) =
     omega (arith, c.recounted-self-inside.ensures, ap (λ (b : Bool). one_if b) c.is_live.ensures, ap (λ (b : Bool). one_if b) c.is_live-2.ensures) in
     let links : c.recounted-self-inside-2.result + one_if (is_table c.entry-old.result) ≡ t.links + one_if (is_table c.args.entry) =
-    omega (arith, c.recounted-self-inside-2.ensures, ap (λ (b : Bool). one_if b) c.is_table.ensures, ap (λ (b : Bool). one_if b) c.is_table-2.ensures) in
+    omega (
+      arith,
+      c.recounted-self-inside-2.ensures,
+      ap (λ (b : Bool). one_if b) c.is_table.ensures,
+      ap (λ (b : Bool). one_if b) c.is_table-2.ensures,
+    ) in
     rw c.set_entry.ensures (
     counts-set t.columns t.live t.links c.recounted-self-inside.result c.recounted-self-inside-2.result c.args.at
     c.entry-old.result c.args.entry c.self.invariant there live links

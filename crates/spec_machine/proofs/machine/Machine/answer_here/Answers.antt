@@ -1,12 +1,8 @@
-use Rattle.std.proofs.Common.{is_some, ap, sym, ◌∙◌}
+use Rattle.spec_machine.proofs.Common.{◌∙◌, Rd, RecRecord, ap, has_tag, is_some, rec_inside, sound_in, state_of, sym}
 use Rattle.std.proofs.lemmas.Bool.{false≢true}
-use Rattle.rmm_spec.specs.declared.tag.Tag.TheVariants.{Rd}
-use Rattle.rmm_spec.specs.Lookup.{has_tag, rec_inside}
-use Rattle.rmm_spec.specs.State.{RecRecord}
 use Rattle.rmm_sound.proofs.Applies.{inside_running}
 use Rattle.rec_steps.specs.Held.{IsHeld}
 use Rattle.rec_steps.proofs.Steps.{rec_at-held}
-use Rattle.spec_machine.proofs.Common.{sound_in, state_of}
 use Rattle.spec_machine.proofs.machine.Machine.answer_here.Goals as goal
 
 pub unreachable-requires : goal.unreachable-requires

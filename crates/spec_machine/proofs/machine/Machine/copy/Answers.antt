@@ -1,9 +1,6 @@
 -- What a machine keeps of its granules it keeps of the same granules.
-use Rattle.std.proofs.Common.{sym, subst₂}
-use Rattle.rmm_spec.specs.Flat.{flat_state}
+use Rattle.spec_machine.proofs.Common.{flat_state, state_in, state_of, subst₂, sym}
 use Rattle.shape_laws.specs.Whole.{IsShaped}
-use Rattle.machine_cells.specs.Whole.{state_in}
-use Rattle.spec_machine.specs.View.{state_of}
 use Rattle.spec_machine.proofs.machine.Machine.copy.Goals as goal
 
 pub invariant_of-result : goal.invariant_of-result

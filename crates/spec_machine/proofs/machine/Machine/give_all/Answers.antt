@@ -1,5 +1,4 @@
-use Rattle.spec_machine.proofs.Common.{◌≡◌, ◌*◌, ◌⊎◌, None, Some, arith, state_in, state_of}
-use Rattle.rmm_spec.specs.Flat.{flat_state}
+use Rattle.spec_machine.proofs.Common.{◌*◌, ◌≡◌, ◌⊎◌, None, Some, arith, flat_state, state_in, state_of}
 use Rattle.machine_cells.specs.Whole.{tables_at}
 use Rattle.spec_machine.specs.Owners.{CellGives, IsGivenBelow, RealmGives, RecGives, TableGives}
 use Rattle.spec_machine.proofs.Owners.{given-next, given-owners, gives-both, gives-none}
@@ -20,8 +19,10 @@ loop-number-preserved c =
     let first = c.args.first in
     let old = c.args.rows.now.items in
     gives-both s first (IsGivenBelow s (tables_at m.granules) l.number) (CellGives s (tables_at m.granules) at) _ old l.rows.items _ l.invariant
-    (gives-both s first (RealmGives s.realm at) (λ x. RecGives s.rec at x ⊎ TableGives (tables_at m.granules) at x) _ l.rows.items c.give_realm.new.rows.items _ c.give_realm.ensures
-    (gives-both s first (RecGives s.rec at) (TableGives (tables_at m.granules) at) _ c.give_realm.new.rows.items c.give_rec.new.rows.items _ c.give_rec.ensures c.give_table.ensures (λ x gives. gives))
+    (gives-both s first (RealmGives s.realm at)
+    (λ x. RecGives s.rec at x ⊎ TableGives (tables_at m.granules) at x) _ l.rows.items c.give_realm.new.rows.items _ c.give_realm.ensures
+    (gives-both s first (RecGives s.rec at) (TableGives (tables_at m.granules) at)
+    _ c.give_realm.new.rows.items c.give_rec.new.rows.items _ c.give_rec.ensures c.give_table.ensures (λ x gives. gives))
     (λ x gives. gives))
     (λ x given. given-next s (tables_at m.granules) l.number x given)
 
@@ -32,6 +33,7 @@ returns c before size at =
     let l = c.loop-number in
     let given = l.invariant before (λ _. None) size (λ x realm is. absurd (let bad : None ≡ Some realm = is in cc)) at in (
       given.next,
-      given-owners m.granules m.shaped given.next l.number (omega (arith, c.loop-number-test.false, l.auto.number-end, c.count-number-end.ensures.is)) given.are_tied given.given,
+      given-owners m.granules m.shaped given.next l.number
+          (omega (arith, c.loop-number-test.false, l.auto.number-end, c.count-number-end.ensures.is)) given.are_tied given.given,
       given.are_rows,
     )

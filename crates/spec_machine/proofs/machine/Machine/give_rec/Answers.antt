@@ -1,7 +1,6 @@
-use Rattle.spec_machine.proofs.Common.{◌≡◌, ◌⊎◌, RecRecord, Some, ap, inl, inr, state_of, subst, subst₂, sym, ◌∙◌}
+use Rattle.spec_machine.proofs.Common.{◌∙◌, ◌≡◌, ◌⊎◌, IsOf, RecRecord, Some, ap, inl, inr, state_of, subst, subst₂, sym}
 use Rattle.std.proofs.lemmas.Option.{same_Some}
 use Rattle.std.specs.Option.{option_copied}
-use Rattle.spec_machine.specs.Owners.{IsOf}
 use Rattle.spec_machine.proofs.Owners.{gives-both, rec-is_of}
 use Rattle.spec_machine.proofs.machine.Machine.give_rec.Goals as goal
 
@@ -17,7 +16,8 @@ returns-in-Some c =
     let first = c.give-in-Some.ensures s (subst₂ (IsOf s) (sym c.aux0.ensures) (sym c.owner-in-Some.ensures) of.1) in
     let second = c.give-in-Some-2.ensures s (subst₂ (IsOf s) (sym c.aux1.ensures) (sym c.owner-in-Some-2.ensures) of.2) in
     gives-both s c.args.first _ (λ x. x ≡ c.aux1.result) _ c.args.rows.now.items c.give-in-Some.new.rows.items _
-    (gives-both s c.args.first _ (λ x. x ≡ c.aux0.result) (λ x. (x ≡ c.args.granule) ⊎ (x ≡ c.aux0.result)) c.args.rows.now.items c.give.new.rows.items _ here first (λ x is. is))
+    (gives-both s c.args.first _ (λ x. x ≡ c.aux0.result)
+    (λ x. (x ≡ c.args.granule) ⊎ (x ≡ c.aux0.result)) c.args.rows.now.items c.give.new.rows.items _ here first (λ x is. is))
     second
     (λ x gives.
     let same : gives.0 ≡ rec = same_Some gives.0 rec (sym gives.1 ∙ is) in

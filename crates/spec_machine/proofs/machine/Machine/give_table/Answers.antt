@@ -1,10 +1,10 @@
-use Rattle.spec_machine.proofs.Common.{◌≡◌, ◌⊎◌, Some, ap, state_of, subst, sym, ◌∙◌}
+use Rattle.spec_machine.proofs.Common.{◌∙◌, ◌≡◌, ◌⊎◌, IsOf, Some, ap, state_of, subst, sym}
 use Rattle.std.proofs.lemmas.Option.{same_Some}
 use Rattle.std.specs.Option.{option_copied}
 use Rattle.rmm_spec.specs.declared.place.Place.{Place}
 use Rattle.rmm_spec.specs.Table.{TableRecord}
 use Rattle.machine_cells.specs.Whole.{tables_at}
-use Rattle.spec_machine.specs.Owners.{IsOf, IsPageOf}
+use Rattle.spec_machine.specs.Owners.{IsPageOf}
 use Rattle.spec_machine.proofs.Owners.{gives-both, page-is_of, table-is_of}
 use Rattle.spec_machine.proofs.machine.Machine.give_table.Goals as goal
 

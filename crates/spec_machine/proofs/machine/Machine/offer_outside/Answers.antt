@@ -1,4 +1,4 @@
-use Rattle.spec_machine.proofs.Common.{ap, outcome, refl, reply_seen, sound_in, state_of, subst, sym, CarriesOut, ◌∙◌}
+use Rattle.spec_machine.proofs.Common.{◌∙◌, CarriesOut, ap, outcome, refl, reply_seen, sound_in, state_of, subst, sym}
 use Rattle.std.proofs.lemmas.Bool.{false≢true}
 use Rattle.spec_machine.proofs.Memory.{owner_tagged}
 use Rattle.command_rows.proofs.Outcomes.{owned, outcome-outside}
@@ -13,15 +13,18 @@ answer_outside-requires c =
 pub take_accepted-requires : goal.take_accepted-requires
 take_accepted-requires c =
     let s = state_of c.args.self.now in
-    sym c.in-Ok.is ∙ c.answer_outside.ensures ∙ outcome-outside s c.args.cpu c.args.call.now c.requires.outside ∙ ap (outcome s c.args.cpu) c.requires.call
+    sym c.in-Ok.is ∙ c.answer_outside.ensures
+    ∙ outcome-outside s c.args.cpu c.args.call.now c.requires.outside ∙ ap (outcome s c.args.cpu) c.requires.call
 
 pub returns-in-Err : goal.returns-in-Err
 returns-in-Err c =
     let s = state_of c.args.self.now in
-    let is = sym c.in-Err.is ∙ c.answer_outside.ensures ∙ outcome-outside s c.args.cpu c.args.call.now c.requires.outside ∙ ap (outcome s c.args.cpu) c.requires.call in
+    let is = sym c.in-Err.is ∙ c.answer_outside.ensures
+    ∙ outcome-outside s c.args.cpu c.args.call.now c.requires.outside ∙ ap (outcome s c.args.cpu) c.requires.call in
     record {
       step = λ holds. subst (λ answer. CarriesOut answer s (reply_seen c.args.reply) s) is (c.is_refusal.ensures.0 holds, refl);
-      only = λ fails next carries. false≢true (sym fails ∙ c.is_refusal.ensures.1 (subst (λ answer. CarriesOut answer s (reply_seen c.args.reply) next) (sym is) carries).0);
+      only = λ fails next carries.
+          false≢true (sym fails ∙ c.is_refusal.ensures.1 (subst (λ answer. CarriesOut answer s (reply_seen c.args.reply) next) (sym is) carries).0);
       kept = λ _. refl;
       err = tt;
       only_tables = tt;

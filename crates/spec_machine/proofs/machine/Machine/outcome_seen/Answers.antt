@@ -1,4 +1,4 @@
-use Rattle.spec_machine.proofs.Common.{◌≡◌, true, false, ap, is_inside, outcome, rec_inside, sound_in, state_of, sym, ◌∙◌}
+use Rattle.spec_machine.proofs.Common.{◌∙◌, ◌≡◌, ap, false, is_inside, outcome, rec_inside, sound_in, state_of, sym, true}
 use Rattle.rmm_sound.proofs.Applies.{inside_running}
 use Rattle.spec_machine.proofs.Memory.{owner_tagged}
 use Rattle.command_rows.specs.Answers.{inside_answer}
@@ -18,7 +18,8 @@ answer_inside-requires c =
     let runs : is_inside (state_of m) c.args.cpu ≡ true = sym c.in-Some.ensures.is in
     let running = inside_running (state_of m) c.args.cpu (sound_in m.granules m.shaped) runs in
     record {
-      inside = rw (c.address.ensures, c.in-Some.ensures.at) (inside (state_of m) (rec_inside (state_of m) c.args.cpu) c.call-call.result running.tag running.owner);
+      inside = rw (c.address.ensures, c.in-Some.ensures.at)
+          (inside (state_of m) (rec_inside (state_of m) c.args.cpu) c.call-call.result running.tag running.owner);
     }
 
 pub returns-in-None : goal.returns-in-None

@@ -1,5 +1,4 @@
-use Rattle.spec_machine.proofs.Common.{arith, state_in, state_of}
-use Rattle.rmm_spec.specs.Flat.{flat_state}
+use Rattle.spec_machine.proofs.Common.{arith, flat_state, state_in, state_of}
 use Rattle.spec_machine.proofs.machine.Machine.owner_report.Goals as goal
 
 pub returns-in_default-clause-full : goal.returns-in_default-clause-full

@@ -1,5 +1,4 @@
-use Rattle.spec_machine.proofs.Common.{◌≡◌, ◌++◌, None, ap, append-nil, arith, count_of, owner_rows, state_in, state_of, sym, ◌∙◌}
-use Rattle.rmm_spec.specs.Flat.{flat_state}
+use Rattle.spec_machine.proofs.Common.{◌++◌, ◌∙◌, ◌≡◌, None, ap, append-nil, arith, count_of, flat_state, owner_rows, state_in, state_of, sym}
 use Rattle.spec_machine.proofs.Rows.{owner_rows-push}
 use Rattle.spec_machine.proofs.machine.Machine.push_rows.Goals as goal
 
@@ -25,5 +24,6 @@ pub returns : goal.returns
 unfolding state_of state_in flat_state
 returns c =
     let l = c.loop-number in
-    let all : l.number ≡ count_of c.args.self.now.granules = omega (arith, c.loop-number-test.false, l.auto.number-end, c.count-number-end.ensures.is) in
+    let all : l.number ≡ count_of c.args.self.now.granules =
+    omega (arith, c.loop-number-test.false, l.auto.number-end, c.count-number-end.ensures.is) in
     l.invariant.rows ∙ ap (λ k. c.args.rows.now.items ++ owner_rows (state_of c.args.self.now) (λ _. None) k) all

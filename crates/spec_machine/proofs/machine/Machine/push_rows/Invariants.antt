@@ -1,5 +1,5 @@
 -- The granules so far have their rows, and there is room for the others.
-use Rattle.spec_machine.proofs.Common.{◌≡◌, ◌+◌, ◌≤◌, ◌++◌, None, vec_len, vec_capacity, count_of, owner_rows, state_of}
+use Rattle.spec_machine.proofs.Common.{◌++◌, ◌+◌, ◌≡◌, ◌≤◌, None, count_of, owner_rows, state_of, vec_capacity, vec_len}
 use Rattle.spec_machine.proofs.machine.Machine.push_rows.Given as goal
 
 abbrev pub invariant-loop-number : goal.invariant-loop-number

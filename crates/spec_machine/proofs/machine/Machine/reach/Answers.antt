@@ -1,4 +1,4 @@
-use Rattle.spec_machine.proofs.Common.{IsTrue, ap, both_ways, changed, is_reached-reached, refl, reply_seen, state_of, sym, takes_memory, ◌∙◌}
+use Rattle.spec_machine.proofs.Common.{◌∙◌, IsTrue, ap, both_ways, changed, is_reached-reached, refl, reply_seen, state_of, sym, takes_memory}
 use Rattle.spec_machine.proofs.Memory.{reached_takes_none}
 use Rattle.spec_machine.proofs.Reached.{no_reach, not_taken}
 use Rattle.spec_machine.proofs.machine.Machine.reach.Goals as goal

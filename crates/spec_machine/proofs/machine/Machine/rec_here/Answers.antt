@@ -1,9 +1,6 @@
-use Rattle.std.proofs.Common.{is_some, ap, sym, ◌∙◌}
+use Rattle.spec_machine.proofs.Common.{◌∙◌, Rec, ap, has_tag, is_some, sound_in, state_of, sym}
 use Rattle.std.proofs.lemmas.Bool.{false≢true}
-use Rattle.rmm_spec.specs.declared.tag.Tag.TheVariants.{Rec}
-use Rattle.rmm_spec.specs.Lookup.{has_tag}
 use Rattle.rmm_sound.proofs.Applies.{inside_running}
-use Rattle.spec_machine.proofs.Common.{sound_in, state_of}
 use Rattle.spec_machine.proofs.machine.Machine.rec_here.Goals as goal
 
 pub unreachable-requires : goal.unreachable-requires

@@ -1,9 +1,5 @@
-use Rattle.std.proofs.Common.{◌≡◌, ℕ, Ok, ap, sym, ◌∙◌}
-use Rattle.rmm_spec.specs.declared.change.Change.{Change}
-use Rattle.rmm_spec.specs.Rows.{done}
-use Rattle.rmm_spec.specs.Step.{outcome}
+use Rattle.spec_machine.proofs.Common.{◌∙◌, ◌≡◌, Change, Ok, ap, command_seen, done, done_applies, outcome, rec_inside, sound_in, state_of, sym, ℕ}
 use Rattle.rec_steps.specs.Answers.{answer_at, change_at}
-use Rattle.spec_machine.proofs.Common.{command_seen, done_applies, rec_inside, sound_in, state_of}
 use Rattle.spec_machine.proofs.machine.Machine.step_inside.Goals as goal
 
 pub update-requires : goal.update-requires
@@ -17,5 +13,6 @@ update-requires c =
     let made : change c.rec_here-rec.result.now.owner (rec_inside s a.cpu) ≡ change c.owner-rd.result c.address.result =
     λ i. change (sym c.owner-rd.ensures i) (sym (c.address.ensures ∙ c.requires.at) i) in
     let is = ap (outcome s a.cpu) (sym c.requires.call) ∙ sym c.answer_here-answer.ensures
-    ∙ ap (answer_at c.rec_here-rec.result.now.owner (rec_inside s a.cpu)) c.in-Ok.is ∙ ap (λ (change : Change). Ok (done step.words.items change)) made in
+    ∙ ap (answer_at c.rec_here-rec.result.now.owner (rec_inside s a.cpu)) c.in-Ok.is
+    ∙ ap (λ (change : Change). Ok (done step.words.items change)) made in
     done_applies s a.cpu (command_seen a.command) _ _ (sound_in m.granules m.shaped) is

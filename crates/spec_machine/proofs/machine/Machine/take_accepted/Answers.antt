@@ -1,4 +1,4 @@
-use Rattle.spec_machine.proofs.Common.{Ok, ap, changed, command_seen, done_applies, reached_applies, refl, sound_in, state_of, sym, ◌∙◌}
+use Rattle.spec_machine.proofs.Common.{◌∙◌, Ok, ap, changed, command_seen, done_applies, reached_applies, refl, sound_in, state_of, sym}
 use Rattle.spec_machine.proofs.Memory.{done_makes, stretch_level}
 use Rattle.spec_machine.proofs.machine.Machine.take_accepted.Goals as goal
 

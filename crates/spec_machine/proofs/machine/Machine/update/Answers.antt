@@ -1,5 +1,4 @@
-use Rattle.std.proofs.Common.{refl}
-use Rattle.rmm_spec.specs.Change.{changed}
+use Rattle.spec_machine.proofs.Common.{changed, refl}
 use Rattle.spec_machine.proofs.machine.Machine.update.Goals as goal
 
 pub returns-in-None-None : goal.returns-in-None-None

@@ -1,4 +1,4 @@
-use Rattle.spec_machine.proofs.Common.{is_some, ap, sound_in, state_of, ◌∙◌}
+use Rattle.spec_machine.proofs.Common.{◌∙◌, ap, is_some, sound_in, state_of}
 use Rattle.spec_machine.proofs.sight.MachineSight.realm.Goals as goal
 
 pub returns-clause-tagged : goal.returns-clause-tagged

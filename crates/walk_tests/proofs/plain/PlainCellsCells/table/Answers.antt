@@ -7,9 +7,11 @@ pub returns-then-address-ne0 : goal.returns-then-address-ne0
 returns-then-address-ne0 c =
     elim c.then-address-ne0.branch [
       | then-address-ne0-via-then-address-ne0 w ↦
-          rw (← c.self.view_is, ← c.address-address.ensures) (sym (no_plain_table c.self.inside.tables.items c.address-address.result (inl (omega (arith, w.if-address-ne0.true)))))
+          rw (← c.self.view_is, ← c.address-address.ensures)
+          (sym (no_plain_table c.self.inside.tables.items c.address-address.result (inl (omega (arith, w.if-address-ne0.true)))))
       | then-address-ne0-via-else-address-ne0+then-place-len w ↦
-          rw (← c.self.view_is, ← c.address-address.ensures) (sym (no_plain_table c.self.inside.tables.items c.address-address.result (inr (omega (arith, w.if-place-len.true, w.len.ensures, c.self.inside.tables.ok.0)))))
+          rw (← c.self.view_is, ← c.address-address.ensures) (sym (no_plain_table c.self.inside.tables.items c.address-address.result
+          (inr (omega (arith, w.if-place-len.true, w.len.ensures, c.self.inside.tables.ok.0)))))
     ]
 
 pub returns : goal.returns

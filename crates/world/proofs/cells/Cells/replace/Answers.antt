@@ -1,9 +1,7 @@
-use Rattle.std.proofs.Common.{ap, ◌∙◌, arith}
-use Rattle.rmm_spec.specs.Cell.{put}
+use Rattle.world.proofs.Common.{◌∙◌, ap, arith, cells_of, put}
 use Rattle.command_core.specs.Seen.{cell_of}
 use Rattle.granule_cells.specs.declared.cell.Cell.{Cell}
 use Rattle.granule_cells.specs.declared.cell.Cell.TheVariants.{Undelegated}
-use Rattle.world.specs.Granules.{cells_of}
 use Rattle.world.proofs.Listed.{granule-within, item_at-set, item_at-granule}
 use Rattle.world.proofs.cells.Cells.replace.Goals as goal
 

@@ -1,6 +1,4 @@
-use Rattle.std.proofs.Common.{None, refl}
-use Rattle.rmm_spec.specs.Cell.{put}
-use Rattle.world.specs.Cpus.{Views, views_of, phase_in}
+use Rattle.world.proofs.Common.{None, Views, phase_in, put, refl, views_of}
 use Rattle.world.proofs.Views.{views-changed}
 use Rattle.world.proofs.cpus.Cpus.come_to.Goals as goal
 

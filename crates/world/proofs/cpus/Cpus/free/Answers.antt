@@ -1,10 +1,8 @@
-use Rattle.std.proofs.Common.{[], None, rules, sym, ap, ◌∙◌}
+use Rattle.world.proofs.Common.{◌∙◌, Cpu, None, Views, [], ap, phase_in, put, sym, views_of}
+use Rattle.std.proofs.Common.{rules}
 use Rattle.arrayvec.proofs.ArrayVecLemmas.{filter-from_retain}
 use Rattle.rmm_spec.specs.World.{without_granule, phase_learnt}
 use Rattle.rmm_spec.specs.World as world
-use Rattle.rmm_spec.specs.Cell.{put}
-use Rattle.world.specs.Cpus.{Views, views_of, phase_in}
-use Rattle.world.specs.declared.cpus.Cpu.{Cpu}
 use Rattle.world.proofs.Views.{told_there, views-changed, with_cpu}
 use Rattle.world.proofs.cpus.Cpus.free.Goals as goal
 
@@ -25,4 +23,5 @@ returns-clause-views c =
       taken = put v.taken cpu (without_granule c.args.pa (v.taken cpu));
       phase = put v.phase cpu (phase_learnt c.args.learnt (v.phase cpu));
     }) c.requires value
-    (λ i. record (with_cpu cpus.list.items cpu old) { waits = put v.waits cpu None; taken = put v.taken cpu (taken i); phase = put v.phase cpu (phase i) })
+    (λ i. record (with_cpu cpus.list.items cpu
+    old) { waits = put v.waits cpu None; taken = put v.taken cpu (taken i); phase = put v.phase cpu (phase i) })

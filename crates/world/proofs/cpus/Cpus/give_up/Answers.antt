@@ -1,7 +1,5 @@
-use Rattle.std.proofs.Common.{[], None, ap}
+use Rattle.world.proofs.Common.{None, Views, [], ap, put, views_of}
 use Rattle.rmm_spec.specs.World.{GivenUp}
-use Rattle.rmm_spec.specs.Cell.{put}
-use Rattle.world.specs.Cpus.{Views, views_of}
 use Rattle.world.proofs.Views.{views-changed, with_cpu}
 use Rattle.world.proofs.cpus.Cpus.give_up.Goals as goal
 

@@ -1,9 +1,8 @@
-use Rattle.std.proofs.Common.{◌≡◌, ◌∷◌, [], ◌++◌, List, None, length, refl, sym, ap, subst, ◌∙◌, append_assoc, append-nil, arith}
+use Rattle.world.proofs.Common.{◌++◌, ◌∙◌, ◌∷◌, ◌≡◌, Cpu, List, None, [], ap, arith, length, refl, subst, sym, views_of}
+use Rattle.std.proofs.Common.{append_assoc, append-nil}
 use Rattle.std.proofs.lemmas.List.{length_push}
 use Rattle.std.specs.Vec.Iter.{into_iter_items}
 use Rattle.granule_cells.specs.declared.cpu_place.CpuPlace.TheVariants.{Outside}
-use Rattle.world.specs.Cpus.{views_of}
-use Rattle.world.specs.declared.cpus.Cpu.{Cpu}
 use Rattle.world.specs.declared.phase.Phase.TheVariants.{Between}
 use Rattle.world.proofs.Opened.{AreOpened, AreOpened-push, views-opened}
 use Rattle.world.proofs.cpus.Cpus.new.Goals as goal
@@ -15,7 +14,8 @@ loop-program-preserved c =
     let steps = c.in-Some.ensures.steps in
     let cpu : Cpu = record { taken = c.new.result; place = Outside; phase = Between 0; program = c.in-Some.program; called = 0; waits = None } in
     record {
-      shared = append_assoc at.yielded (c.in-Some.program ∷ []) (into_iter_items c.next.new.self) ∙ ap (λ rest. at.yielded ++ rest) (sym steps.0) ∙ was.shared;
+      shared = append_assoc at.yielded (c.in-Some.program ∷ []) (into_iter_items c.next.new.self)
+          ∙ ap (λ rest. at.yielded ++ rest) (sym steps.0) ∙ was.shared;
       left = omega (arith, was.left, steps.1, ap length steps.0);
       count = omega (arith, was.count, c.push_reserved.ensures.len, length_push at.yielded c.in-Some.program);
       room = omega (arith, was.room, steps.1, c.push_reserved.ensures.len, c.push_reserved.ensures.capacity);

@@ -1,8 +1,5 @@
-use Rattle.std.proofs.Common.{[], Some, sym, ap, ◌∙◌, drop, arith}
-use Rattle.std.specs.Prelude.{slice_get}
+use Rattle.world.proofs.Common.{◌∙◌, Cpu, Some, [], ap, arith, drop, slice_get, sym, views_of}
 use Rattle.std.proofs.lemmas.Option.{slice_get_read, slice_get_past}
-use Rattle.world.specs.Cpus.{views_of}
-use Rattle.world.specs.declared.cpus.Cpu.{Cpu}
 use Rattle.world.proofs.Calls.{slice_get-drop}
 use Rattle.world.proofs.Views.{told_there}
 use Rattle.world.proofs.cpus.Cpus.next_command.Goals as goal

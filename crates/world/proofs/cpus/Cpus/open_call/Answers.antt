@@ -1,8 +1,5 @@
-use Rattle.std.proofs.Common.{[], None, sym, ap, ◌∙◌, drop}
+use Rattle.world.proofs.Common.{◌∙◌, Cpu, None, Views, [], ap, drop, phase_in, put, sym, views_of}
 use Rattle.std.proofs.lemmas.List.{drop-drop}
-use Rattle.rmm_spec.specs.Cell.{put}
-use Rattle.world.specs.Cpus.{Views, views_of, phase_in}
-use Rattle.world.specs.declared.cpus.Cpu.{Cpu}
 use Rattle.world.proofs.Views.{told_there, views-changed, with_cpu}
 use Rattle.world.proofs.cpus.Cpus.open_call.Goals as goal
 

@@ -1,6 +1,4 @@
-use Rattle.std.proofs.Common.{refl}
-use Rattle.rmm_spec.specs.Cell.{put}
-use Rattle.world.specs.Cpus.{Views, views_of}
+use Rattle.world.proofs.Common.{Views, put, refl, views_of}
 use Rattle.world.proofs.Views.{views-changed}
 use Rattle.world.proofs.cpus.Cpus.set_waits.Goals as goal
 

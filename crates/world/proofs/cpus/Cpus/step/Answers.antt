@@ -1,19 +1,12 @@
-use Rattle.std.proofs.Common.{◌≡◌, ℕ, IsTrue, refl, sym, ap, ◌∙◌, subst, vec_len}
-use Rattle.std.specs.Prelude.{Contains}
+use Rattle.world.proofs.Common.{◌∙◌, ◌≡◌, Contains, IsTrue, ap, are_distinct, call_of, cells_at, cells_of, place_of, put_all, refl, side_of, subst, sym, vec_len, views_of, ℕ}
 use Rattle.std.specs.List.{All}
-use Rattle.rmm_spec.specs.Call.{call_of}
-use Rattle.rmm_spec.specs.Local.{Hold, granules_held, put_all, LocalStep}
+use Rattle.rmm_spec.specs.Local.{Hold, granules_held, LocalStep}
 use Rattle.rmm_spec.specs.Lookup.{is_granule}
 use Rattle.command_core.specs.Changed.{hold_of}
-use Rattle.command_core.specs.Seen.{are_distinct, place_of}
 use Rattle.command_core.specs.Settled.{is_settled}
-use Rattle.command_core.specs.Sides.{side_of}
-use Rattle.world.specs.Cpus.{views_of}
-use Rattle.world.specs.Granules.{cells_of}
 use Rattle.world.specs.Recorded.{MakesTable}
 use Rattle.world.specs.Stepped.{IsAnswered}
 use Rattle.command_core.specs.Pairs.{pair_cells}
-use Rattle.world.specs.Lent.{cells_at}
 use Rattle.world.proofs.Lending.{put_all-given_back, put_all-lent}
 use Rattle.world.proofs.cpus.Cpus.step.Goals as goal
 
@@ -36,7 +29,8 @@ give_back-requires c =
     let taken = c.taken.ensures.taken in
     let same = sym taken ∙ sym c.lend-lent.ensures.granules ∙ sym c.step_on-replied.ensures.same in
     subst (All (λ pa. IsTrue (is_granule (vec_len c.lend-lent.new.cells.list) pa))) same
-    (subst (λ size. All (λ pa. IsTrue (is_granule size pa)) ((views_of c.args.self.now).taken c.args.cpu)) (sym c.lend-lent.ensures.size) c.requires.granules)
+    (subst (λ size. All (λ pa. IsTrue (is_granule size pa)) ((views_of c.args.self.now).taken c.args.cpu))
+    (sym c.lend-lent.ensures.size) c.requires.granules)
 
 pub returns-clause-ok : goal.returns-clause-ok
 returns-clause-ok c =

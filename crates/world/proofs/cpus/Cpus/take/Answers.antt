@@ -1,14 +1,12 @@
-use Rattle.std.proofs.Common.{◌<◌, List, [], ◌∷◌, ◌++◌, None, length, ℕ, arith, sym, ap, ◌∙◌, subst}
-use Rattle.rmm_spec.specs.Cell.{put}
-use Rattle.world.specs.Cpus.{Views, views_of}
-use Rattle.world.specs.declared.cpus.Cpu.{Cpu}
+use Rattle.world.proofs.Common.{◌++◌, ◌<◌, ◌∙◌, ◌∷◌, Cpu, List, None, Views, [], ap, arith, length, put, subst, sym, views_of, ℕ}
 use Rattle.world.proofs.Views.{told_there, views-changed, with_cpu}
 use Rattle.world.proofs.cpus.Cpus.take.Goals as goal
 
 pub push-requires : goal.push-requires
 unfolding views_of
 push-requires c =
-    let read = told_there (λ (cpu : Cpu). cpu.taken.items) [] c.args.self.now c.args.cpu c.index_mut-cpu.result.now c.requires.cpu c.index_mut-cpu.ensures.value in
+    let read = told_there (λ (cpu : Cpu). cpu.taken.items)
+    [] c.args.self.now c.args.cpu c.index_mut-cpu.result.now c.requires.cpu c.index_mut-cpu.ensures.value in
     (omega arith, subst (λ (xs : List ℕ). length xs < 6) read c.requires.room)
 
 pub returns-clause-views : goal.returns-clause-views

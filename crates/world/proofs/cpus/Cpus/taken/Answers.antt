@@ -1,6 +1,4 @@
-use Rattle.std.proofs.Common.{[], sym, ◌∙◌}
-use Rattle.world.specs.Cpus.{views_of}
-use Rattle.world.specs.declared.cpus.Cpu.{Cpu}
+use Rattle.world.proofs.Common.{◌∙◌, Cpu, [], sym, views_of}
 use Rattle.world.proofs.Views.{told_there}
 use Rattle.world.proofs.cpus.Cpus.taken.Goals as goal
 

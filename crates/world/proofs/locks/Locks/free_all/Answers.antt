@@ -1,6 +1,4 @@
-use Rattle.std.proofs.Common.{ap, ◌∙◌, None}
-use Rattle.rmm_spec.specs.Cell.{put}
-use Rattle.world.specs.Granules.{holder_of}
+use Rattle.world.proofs.Common.{◌∙◌, None, ap, holder_of, put}
 use Rattle.world.proofs.Locked.{freed_all-next}
 use Rattle.world.proofs.locks.Locks.free_all.Goals as goal
 

@@ -1,5 +1,4 @@
-use Rattle.std.proofs.Common.{◌≡◌, take, vec_len}
-use Rattle.world.specs.Granules.{holder_of}
+use Rattle.world.proofs.Common.{◌≡◌, holder_of, take, vec_len}
 use Rattle.world.specs.Kept.{freed_all}
 use Rattle.world.proofs.locks.Locks.free_all.Given as goal
 

@@ -1,5 +1,4 @@
-use Rattle.std.proofs.Common.{None, arith}
-use Rattle.world.specs.Granules.{holder_of}
+use Rattle.world.proofs.Common.{None, arith, holder_of}
 use Rattle.world.proofs.Listed.{granule-within, item_at-granule}
 use Rattle.world.proofs.locks.Locks.holder.Goals as goal
 

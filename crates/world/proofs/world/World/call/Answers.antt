@@ -1,12 +1,9 @@
-use Rattle.std.proofs.Common.{◌∷◌, ◌++◌, [], Some, sym, ap, ◌∙◌, subst, refl}
+use Rattle.world.proofs.Common.{◌++◌, ◌∙◌, ◌∷◌, Did, Some, [], ap, commit_room, event_room, refl, subst, sym, world_from, world_of}
 use Rattle.std.proofs.lemmas.Option.{slice_get_within}
 use Rattle.rmm_spec.specs.declared.event.Event.TheVariants.{Called}
 use Rattle.rmm_spec.specs.declared.turn.Will.TheVariants as wills
 use Rattle.rmm_spec.specs.Waits as turn
-use Rattle.rmm_spec.specs.Waits.{Did}
-use Rattle.world.specs.Recorded.{RecordsIn, IsShortIn, event_room, commit_room}
-use Rattle.world.specs.World.{world_of}
-use Rattle.world.specs.Whole.{world_from}
+use Rattle.world.specs.Recorded.{RecordsIn, IsShortIn}
 use Rattle.world.proofs.Calls.{all-called}
 use Rattle.world.proofs.Follows.{call-follows, none_left}
 use Rattle.world.proofs.Moves.{idle, made, called}

@@ -1,14 +1,11 @@
-use Rattle.std.proofs.Common.{◌∷◌, [], ◌++◌, get_or, sym, ap, subst, ◌∙◌, arith}
+use Rattle.world.proofs.Common.{◌++◌, ◌∙◌, ◌∷◌, [], ap, arith, get_or, subst, sym, views_of, world_from, world_of}
 use Rattle.std.proofs.lemmas.List.{map_more}
 use Rattle.std.proofs.lemmas.Option.{get_or_from_slice_get}
 use Rattle.rmm_spec.specs.CertificateText.{IsLine}
 use Rattle.rmm_spec.specs.declared.line.Line.{Line}
 use Rattle.rmm_spec.specs.World.{line_for}
 use Rattle.command_log.specs.Log.{logged_seen}
-use Rattle.world.specs.Cpus.{views_of}
 use Rattle.world.specs.Journal.{commitment_of}
-use Rattle.world.specs.World.{world_of}
-use Rattle.world.specs.Whole.{world_from}
 use Rattle.world.proofs.Lines.{known-reached, line-reached, room-reached}
 use Rattle.world.proofs.world.World.certificate.Goals as goal
 

@@ -1,18 +1,10 @@
-use Rattle.std.proofs.Common.{None, inl, inr, refl, sym, ap, ◌∙◌, subst, vec_len}
-use Rattle.rmm_spec.specs.Call.{call_of}
-use Rattle.rmm_spec.specs.HistoryText.{Config}
-use Rattle.rmm_spec.specs.Cell.{put}
-use Rattle.rmm_spec.specs.World.{Deciding, held_cells, hold_of}
+use Rattle.world.proofs.Common.{◌∙◌, Config, Deciding, None, Ready, Views, ap, call_of, cells_of, commit_room, event_room, held_cells, holder_of, inl, inr, phase_in, put, refl, side_of, subst, sym, vec_len, views_of, world_from, world_of, world_with}
+use Rattle.rmm_spec.specs.World.{hold_of}
 use Rattle.command_core.specs.Settled.{is_settled}
-use Rattle.command_core.specs.Sides.{side_of}
-use Rattle.command_core.specs.declared.next.Next.TheVariants.{Ready}
-use Rattle.world.specs.Granules.{cells_of, holder_of}
-use Rattle.world.specs.Cpus.{Views, views_of, phase_in}
-use Rattle.world.specs.Whole.{world_from, world_with}
-use Rattle.world.specs.World.{world_of, waits_of}
+use Rattle.world.specs.World.{waits_of}
 use Rattle.world.proofs.Locked.{locks-of_size}
 use Rattle.world.proofs.Taking.{not_deciding}
-use Rattle.world.specs.Recorded.{RecordsIn, IsShortIn, MakesTable, event_room, commit_room}
+use Rattle.world.specs.Recorded.{RecordsIn, IsShortIn, MakesTable}
 use Rattle.world.proofs.Commits.{records-commit, unchanged-kept, accepts-reached}
 use Rattle.world.proofs.Goes.{next-report}
 use Rattle.world.proofs.Moves.{committed}
@@ -52,8 +44,10 @@ unfolding world_from
 invariant_of-self-in_default-step-clause-kept c =
     let s = c.args.self.now in
     let same = c.in_default-step.ensures in
-    unchanged-kept (cells_of s.cells) (cells_of c.step.new.cells) (side_of s.side) (side_of c.step.new.side) (views_of s.cpus) (views_of c.step.new.self)
-    s.journal.items c.reserve.new.self.items s.history.recorded (holder_of s.locks) same.err_cells same.err_side same.err_views c.reserve.ensures.items s.kept
+    unchanged-kept (cells_of s.cells) (cells_of c.step.new.cells) (side_of s.side)
+    (side_of c.step.new.side) (views_of s.cpus) (views_of c.step.new.self)
+    s.journal.items c.reserve.new.self.items s.history.recorded
+    (holder_of s.locks) same.err_cells same.err_side same.err_views c.reserve.ensures.items s.kept
 
 pub returns-in_default-step-clause-err : goal.returns-in_default-step-clause-err
 unfolding world_of world_from
@@ -74,8 +68,10 @@ unfolding world_of world_from
 returns-in_default-step-clause-only_short c =
     let s = c.args.self.now in
     let w = world_of s in
-    let is_open = sym c.phase.ensures ∙ ap phase_in c.in-Deciding.is ∙ (λ i. Deciding c.in-Deciding.number (sym c.copied_command-command.ensures i) c.in-Deciding.learnt) in
-    let makes = subst (λ (config : Config). MakesTable config c.args.cpu c.copied_command-command.result (hold_of w c.args.cpu)) c.config-config.ensures
+    let is_open = sym c.phase.ensures ∙ ap phase_in c.in-Deciding.is
+    ∙ (λ i. Deciding c.in-Deciding.number (sym c.copied_command-command.ensures i) c.in-Deciding.learnt) in
+    let makes =
+    subst (λ (config : Config). MakesTable config c.args.cpu c.copied_command-command.result (hold_of w c.args.cpu)) c.config-config.ensures
     c.in_default-step.ensures.only in
     subst (IsShortIn (event_room s) (commit_room s) w c.args.cpu) (sym is_open)
     (inr (accepts-reached s.history.recorded.config w (views_of s.cpus).waits c.args.cpu c.copied_command-command.result s.kept.reached makes))
@@ -92,7 +88,8 @@ invariant_of-self-2-clause-kept c =
     let s = c.args.self.now in
     (committed s c.args.cpu c.requires.cpu c.step.new.cells c.step.new.side c.step.new.self c.come_to.new.self c.reserve.new.self.items
     c.push_reserved.new.self.items c.config-config.result _ _ c.copied_command-command.result _ c.in-Ok-step.reply
-    c.config-config.ensures (sym c.phase.ensures ∙ ap phase_in c.in-Deciding.is) c.copied_command-command.ensures c.in-Ok-step.ensures.ok c.come_to.ensures.views
+    c.config-config.ensures (sym c.phase.ensures ∙ ap phase_in c.in-Deciding.is)
+    c.copied_command-command.ensures c.in-Ok-step.ensures.ok c.come_to.ensures.views
     c.reserve.ensures.items c.push_reserved.ensures.items).0.kept
 
 pub returns-clause-turned : goal.returns-clause-turned
@@ -101,7 +98,8 @@ returns-clause-turned c =
     let s = c.args.self.now in
     (committed s c.args.cpu c.requires.cpu c.step.new.cells c.step.new.side c.step.new.self c.come_to.new.self c.reserve.new.self.items
     c.push_reserved.new.self.items c.config-config.result _ _ c.copied_command-command.result _ c.in-Ok-step.reply
-    c.config-config.ensures (sym c.phase.ensures ∙ ap phase_in c.in-Deciding.is) c.copied_command-command.ensures c.in-Ok-step.ensures.ok c.come_to.ensures.views
+    c.config-config.ensures (sym c.phase.ensures ∙ ap phase_in c.in-Deciding.is)
+    c.copied_command-command.ensures c.in-Ok-step.ensures.ok c.come_to.ensures.views
     c.reserve.ensures.items c.push_reserved.ensures.items).0.turned
 
 pub returns-clause-waits : goal.returns-clause-waits
@@ -119,6 +117,7 @@ returns-clause-does c =
       refl,
       (committed s c.args.cpu c.requires.cpu c.step.new.cells c.step.new.side c.step.new.self c.come_to.new.self c.reserve.new.self.items
           c.push_reserved.new.self.items c.config-config.result _ _ c.copied_command-command.result _ c.in-Ok-step.reply
-          c.config-config.ensures (sym c.phase.ensures ∙ ap phase_in c.in-Deciding.is) c.copied_command-command.ensures c.in-Ok-step.ensures.ok c.come_to.ensures.views
+          c.config-config.ensures (sym c.phase.ensures ∙ ap phase_in c.in-Deciding.is)
+          c.copied_command-command.ensures c.in-Ok-step.ensures.ok c.come_to.ensures.views
           c.reserve.ensures.items c.push_reserved.ensures.items).1,
     )

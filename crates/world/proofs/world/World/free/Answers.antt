@@ -1,5 +1,4 @@
-use Rattle.std.proofs.Common.{refl}
-use Rattle.world.specs.World.{world_of}
+use Rattle.world.proofs.Common.{refl, world_of}
 use Rattle.world.proofs.Taking.{held-next, learnt-next, free-next}
 use Rattle.command_core.specs.declared.next.Next.TheVariants as next
 use Rattle.world.proofs.Goes.{next-report}

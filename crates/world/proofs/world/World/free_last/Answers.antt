@@ -1,8 +1,7 @@
-use Rattle.std.proofs.Common.{◌≡◌, ◌<◌, ◌-◌, Some, length, slice_get, List, ℕ, sym, ap, ◌∙◌, subst}
+use Rattle.world.proofs.Common.{◌<◌, ◌∙◌, ◌≡◌, List, Some, ap, length, slice_get, subst, sym, world_from, world_of, ℕ}
+use Rattle.std.proofs.Common.{◌-◌}
 use Rattle.std.specs.Prelude.{option_copied}
 use Rattle.spec_lemmas.proofs.Members.{Contains-from_slice_get}
-use Rattle.world.specs.Whole.{world_from}
-use Rattle.world.specs.World.{world_of}
 use Rattle.world.proofs.Taking.{no_last, last-of, nothing_learnt, free-last}
 use Rattle.world.proofs.Goes.{freed-report}
 use Rattle.world.proofs.world.World.free_last.Goals as goal

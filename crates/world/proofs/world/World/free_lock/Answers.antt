@@ -1,9 +1,4 @@
-use Rattle.std.proofs.Common.{ap, vec_len}
-use Rattle.command_core.specs.Sides.{side_of}
-use Rattle.world.specs.Cpus.{views_of}
-use Rattle.world.specs.Granules.{cells_of}
-use Rattle.world.specs.Whole.{world_from, world_with}
-use Rattle.world.specs.World.{world_of}
+use Rattle.world.proofs.Common.{ap, cells_of, side_of, vec_len, views_of, world_from, world_of, world_with}
 use Rattle.world.proofs.Locked.{granule-taken}
 use Rattle.world.proofs.Moves.{freed}
 use Rattle.world.proofs.world.World.free_lock.Goals as goal

@@ -1,10 +1,6 @@
-use Rattle.std.proofs.Common.{sym, ap, ◌∙◌, vec_len}
+use Rattle.world.proofs.Common.{◌∙◌, ap, holder_of, sym, vec_len, views_of, world_from, world_of}
 use Rattle.rmm_spec.specs.declared.turn.Will.TheVariants as wills
-use Rattle.world.specs.Cpus.{views_of}
-use Rattle.world.specs.Granules.{holder_of}
 use Rattle.world.specs.Kept.{freed_all}
-use Rattle.world.specs.World.{world_of}
-use Rattle.world.specs.Whole.{world_from}
 use Rattle.world.proofs.Locked.{locks-of_size}
 use Rattle.world.proofs.Phases.{deciding-false}
 use Rattle.world.proofs.Moves.{idle, gave_up}
@@ -39,4 +35,5 @@ pub returns-clause-turned : goal.returns-clause-turned
 unfolding world_of world_from
 returns-clause-turned c =
     (gave_up c.args.self.now c.args.cpu c.requires c.give_up.new.self c.free_all.new.self (sym c.is_deciding.ensures ∙ c.if-not-is_deciding.false)
-    (c.free_all.ensures.holders ∙ ap (λ taken. freed_all taken (holder_of c.args.self.now.locks)) c.taken.ensures.taken) c.give_up.ensures.views).turned
+    (c.free_all.ensures.holders ∙ ap (λ taken. freed_all taken (holder_of c.args.self.now.locks)) c.taken.ensures.taken)
+    c.give_up.ensures.views).turned

@@ -1,17 +1,15 @@
-use Rattle.std.proofs.Common.{◌≡◌, ℕ, ◌<◌, ◌⊎◌, inl, inr, true, false, ◌==◌, length, Result, Ok, Err, sym, ap, ◌∙◌, subst, arith, eqb-true}
+use Rattle.world.proofs.Common.{◌<◌, ◌==◌, ◌∙◌, ◌≡◌, Decided, IsDeciding, IsGoing, ap, arith, eqb-true, false, inl, inr, is_deciding, length, phase_in, subst, sym, true, world_from, world_of, ℕ}
+use Rattle.std.proofs.Common.{◌⊎◌, Result, Ok, Err}
 use Rattle.std.specs.Prelude.{IfOk}
 use Rattle.std.proofs.lemmas.Bool.Decides.{nat_tests}
 use Rattle.std.proofs.lemmas.List.{nil_from_length}
-use Rattle.rmm_spec.specs.World.{Decided, IsDeciding, IsGoing}
 use Rattle.rmm_spec.specs.World as spec
 use Rattle.world.specs.declared.phase.Phase.{Phase}
 use Rattle.world.specs.declared.phase.Phase.TheVariants.{GivenUp, Stopped}
 use Rattle.world.specs.declared.turned.Turned.{Turned}
 use Rattle.world.specs.Next.{DoesPlanned}
 use Rattle.world.specs.Told.{report_of}
-use Rattle.world.specs.Cpus.{phase_in, is_decided, is_deciding}
-use Rattle.world.specs.Whole.{world_from}
-use Rattle.world.specs.World.{world_of}
+use Rattle.world.specs.Cpus.{is_decided}
 use Rattle.world.proofs.Phases.{deciding-false}
 use Rattle.world.proofs.world.World.go.Goals as goal
 

@@ -1,9 +1,6 @@
-use Rattle.std.proofs.Common.{sym, subst}
-use Rattle.command_core.specs.declared.next.Next.TheVariants.{Ready}
-use Rattle.world.specs.Next.{IsNext}
+use Rattle.world.proofs.Common.{IsNext, Ready, commit_room, event_room, subst, sym, world_of}
 use Rattle.std.specs.Prelude.{OnErr}
-use Rattle.world.specs.Recorded.{Records, IsShort, event_room, commit_room}
-use Rattle.world.specs.World.{world_of}
+use Rattle.world.specs.Recorded.{Records, IsShort}
 use Rattle.world.proofs.world.World.go_on.Goals as goal
 
 pub commit-requires-clause-ready : goal.commit-requires-clause-ready
@@ -22,4 +19,5 @@ returns-in-Ready-clause-only_short c =
     let s = c.args.self.now in
     subst (λ w. OnErr c.commit.result (IsShort (event_room s) (commit_room s) w c.args.cpu)) c.next_of.ensures.world
     (subst (λ room. OnErr c.commit.result (IsShort (event_room s) room (world_of mid) c.args.cpu)) c.next_of.ensures.commits
-    (subst (λ room. OnErr c.commit.result (IsShort room (commit_room mid) (world_of mid) c.args.cpu)) c.next_of.ensures.events c.commit.ensures.only_short))
+    (subst (λ room. OnErr c.commit.result (IsShort room (commit_room mid) (world_of mid) c.args.cpu))
+    c.next_of.ensures.events c.commit.ensures.only_short))

@@ -1,10 +1,6 @@
-use Rattle.std.proofs.Common.{sym, ap, ◌∙◌}
+use Rattle.world.proofs.Common.{◌∙◌, Views, ap, cells_of, holder_of, side_of, sym, views_of, world_from, world_of}
 use Rattle.rmm_spec.specs.HistoryText.{History}
-use Rattle.command_core.specs.Sides.{side_of}
-use Rattle.world.specs.Granules.{cells_of, holder_of}
-use Rattle.world.specs.Cpus.{Views, views_of}
-use Rattle.world.specs.Whole.{world_from}
-use Rattle.world.specs.World.{world_of, waits_of}
+use Rattle.world.specs.World.{waits_of}
 use Rattle.world.specs.Opening.{programs_of}
 use Rattle.world.proofs.Opened.{opened-world, opened-kept}
 use Rattle.world.proofs.world.World.new.Goals as goal

@@ -1,16 +1,7 @@
-use Rattle.std.proofs.Common.{refl, sym, ap, ◌∙◌, subst, vec_len}
-use Rattle.std.specs.Prelude.{IsTrue}
-use Rattle.rmm_spec.specs.Local.{granules_held, put_all}
+use Rattle.world.proofs.Common.{◌∙◌, IsTrue, ap, are_distinct, cells_at, cells_of, commit_room, event_room, holder_of, phase_in, place_of, put_all, refl, side_of, subst, sym, vec_len, views_of, world_from, world_of, world_with}
+use Rattle.rmm_spec.specs.Local.{granules_held}
 use Rattle.command_core.specs.Pairs.{pair_cells}
-use Rattle.command_core.specs.Seen.{are_distinct, place_of}
-use Rattle.command_core.specs.Sides.{side_of}
-use Rattle.world.specs.Granules.{cells_of, holder_of}
-use Rattle.world.specs.Cpus.{views_of, phase_in}
 use Rattle.world.specs.Kept.{IsKept}
-use Rattle.world.specs.Lent.{cells_at}
-use Rattle.world.specs.Recorded.{event_room, commit_room}
-use Rattle.world.specs.Whole.{world_with, world_from}
-use Rattle.world.specs.World.{world_of}
 use Rattle.world.proofs.Locked.{locks-of_size}
 use Rattle.world.proofs.Lending.{put_all-given_back}
 use Rattle.world.proofs.Taking.{not_deciding, next-planned}
@@ -64,7 +55,8 @@ returns-clause-next c =
     next-planned (world_of s) c.args.cpu c.next_lock-next.result c.config-config.result (place_of c.place.result.now)
     (pair_cells c.lend-lent.result) c.in-Deciding.number c.in-Deciding.command c.in-Deciding.learnt
     (sym c.phase.ensures ∙ ap phase_in c.in-Deciding.is) c.config-config.ensures c.place.ensures
-    (c.lend-lent.ensures.lent ∙ ap (cells_at (cells_of s.cells)) c.taken.ensures.taken) c.next_lock-next.ensures.exact c.next_lock-next.ensures.planned c.next_lock-next.ensures.settled
+    (c.lend-lent.ensures.lent ∙ ap (cells_at (cells_of s.cells)) c.taken.ensures.taken)
+    c.next_lock-next.ensures.exact c.next_lock-next.ensures.planned c.next_lock-next.ensures.settled
 
 pub returns-clause-events : goal.returns-clause-events
 unfolding event_room

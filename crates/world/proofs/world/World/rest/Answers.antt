@@ -1,7 +1,5 @@
-use Rattle.std.proofs.Common.{inl}
+use Rattle.world.proofs.Common.{inl, world_from, world_of}
 use Rattle.rmm_spec.specs.declared.turn.Will.TheVariants as wills
-use Rattle.world.specs.World.{world_of}
-use Rattle.world.specs.Whole.{world_from}
 use Rattle.world.proofs.Moves.{idle}
 use Rattle.world.proofs.Goes.{ended-report}
 use Rattle.world.proofs.world.World.rest.Goals as goal

@@ -1,10 +1,7 @@
-use Rattle.std.proofs.Common.{sym, subst, arith, refl}
+use Rattle.world.proofs.Common.{Did, arith, commit_room, event_room, refl, subst, sym, world_from, world_of}
 use Rattle.rmm_spec.specs.declared.turn.Will.TheVariants as wills
 use Rattle.rmm_spec.specs.Waits as turn
-use Rattle.rmm_spec.specs.Waits.{Did}
-use Rattle.world.specs.Recorded.{RecordsIn, IsShortIn, event_room, commit_room}
-use Rattle.world.specs.World.{world_of}
-use Rattle.world.specs.Whole.{world_from}
+use Rattle.world.specs.Recorded.{RecordsIn, IsShortIn}
 use Rattle.world.proofs.Follows.{return-follows, next-number, none_left}
 use Rattle.world.proofs.Moves.{made, returned}
 use Rattle.world.proofs.Goes.{returned-report}
@@ -42,14 +39,16 @@ pub invariant_of-self-2-clause-kept : goal.invariant_of-self-2-clause-kept
 unfolding world_of world_from
 invariant_of-self-2-clause-kept c =
     let s = c.args.self.now in
-    (made s c.args.cpu wills.Go (Did turn.Return) c.come_to.new.self c.push.new.self.recorded s.locks _ _ _ c.come_to.ensures.views c.in-Ok.ensures.ok refl
+    (made s c.args.cpu wills.Go (Did turn.Return)
+    c.come_to.new.self c.push.new.self.recorded s.locks _ _ _ c.come_to.ensures.views c.in-Ok.ensures.ok refl
     (returned s c.args.cpu c.requires.cpu c.args.number c.requires.decided.0 c.args.reply c.requires.decided.1 c.requires.none)).kept
 
 pub returns-clause-turned : goal.returns-clause-turned
 unfolding world_of world_from
 returns-clause-turned c =
     let s = c.args.self.now in
-    (made s c.args.cpu wills.Go (Did turn.Return) c.come_to.new.self c.push.new.self.recorded s.locks _ _ _ c.come_to.ensures.views c.in-Ok.ensures.ok refl
+    (made s c.args.cpu wills.Go (Did turn.Return)
+    c.come_to.new.self c.push.new.self.recorded s.locks _ _ _ c.come_to.ensures.views c.in-Ok.ensures.ok refl
     (returned s c.args.cpu c.requires.cpu c.args.number c.requires.decided.0 c.args.reply c.requires.decided.1 c.requires.none)).turned
 
 pub returns-clause-exact : goal.returns-clause-exact

@@ -1,7 +1,5 @@
-use Rattle.std.proofs.Common.{sym, ◌∙◌}
+use Rattle.world.proofs.Common.{◌∙◌, sym, world_from, world_of}
 use Rattle.rmm_spec.specs.declared.turn.Will.TheVariants as wills
-use Rattle.world.specs.World.{world_of}
-use Rattle.world.specs.Whole.{world_from}
 use Rattle.world.proofs.Phases.{going-false}
 use Rattle.world.proofs.Moves.{idle, stopped}
 use Rattle.world.proofs.world.World.stop.Goals as goal
@@ -26,4 +24,5 @@ invariant_of-self-2-clause-kept c =
 pub returns-clause-turned : goal.returns-clause-turned
 unfolding world_of world_from
 returns-clause-turned c =
-    (stopped c.args.self.now c.args.cpu c.requires c.come_to.new.self (sym c.is_going.ensures ∙ c.if-not-is_going.false) c.come_to.ensures.views).turned
+    (stopped c.args.self.now c.args.cpu c.requires c.come_to.new.self
+    (sym c.is_going.ensures ∙ c.if-not-is_going.false) c.come_to.ensures.views).turned

@@ -1,8 +1,4 @@
-use Rattle.std.proofs.Common.{refl, sym, ap, ◌∙◌, true, false}
-use Rattle.command_core.specs.Sides.{side_of}
-use Rattle.world.specs.Granules.{cells_of}
-use Rattle.world.specs.Whole.{world_from, world_with}
-use Rattle.world.specs.World.{world_of}
+use Rattle.world.proofs.Common.{◌∙◌, ap, cells_of, false, refl, side_of, sym, true, world_from, world_of, world_with}
 use Rattle.world.proofs.Taking.{lock-next, rising-next, room-rising}
 use Rattle.world.proofs.Moves.{blocked, took}
 use Rattle.command_core.specs.declared.next.Next.TheVariants as next

@@ -1,15 +1,11 @@
-use Rattle.std.proofs.Common.{◌≡◌, Result, Ok, Err, Bool, true, false, refl, sym, ap, ◌∙◌, subst}
-use Rattle.std.specs.Prelude.{ℕ, IfOk, OnErr}
-use Rattle.std.proofs.lemmas.Bool.{false≢true}
+use Rattle.world.proofs.Common.{◌∙◌, ◌≡◌, Bool, IsDeciding, Turns, Will, World, ap, false, false≢true, refl, subst, sym, true, world_of, ℕ}
+use Rattle.std.proofs.Common.{Result, Ok, Err}
+use Rattle.std.specs.Prelude.{IfOk, OnErr}
 use Rattle.std.proofs.lemmas.Result.{IfOk-weaker}
-use Rattle.rmm_spec.specs.World.{World, IsDeciding}
-use Rattle.rmm_spec.specs.Waits.{Turns}
-use Rattle.rmm_spec.specs.declared.turn.Will.{Will}
 use Rattle.rmm_spec.specs.declared.turn.Will.TheVariants.{Go, GiveUp, Stop}
 use Rattle.world.specs.Next.{DoesPlanned, go_report}
 use Rattle.world.specs.Told.{report_of}
 use Rattle.world.specs.declared.turned.Turned.{Turned}
-use Rattle.world.specs.World.{world_of}
 use Rattle.world.specs.TurnedWorld.{turned_world}
 use Rattle.world.proofs.TurnedWorld.{turned-world}
 use Rattle.world.proofs.world.World.turn.Goals as goal

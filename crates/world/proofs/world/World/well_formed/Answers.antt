@@ -1,14 +1,8 @@
-use Rattle.std.proofs.Common.{sym, ap, ◌∙◌, true}
+use Rattle.world.proofs.Common.{◌∙◌, IsReached, Take, ap, holder_of, opening_world, sym, true, views_of, world_from, world_of}
 use Rattle.std.proofs.Math.Logic.{∥∥₁_map, ∥∥₁_elim}
-use Rattle.rmm_spec.specs.World.{opening_world}
 use Rattle.world_laws.proofs.Turned.{moves_of_turns}
-use Rattle.command_core.specs.declared.next.Next.TheVariants.{Take}
-use Rattle.world.specs.Cpus.{views_of}
-use Rattle.world.specs.Granules.{holder_of}
 use Rattle.world.specs.Next.{blocking}
-use Rattle.world.specs.Whole.{world_from}
-use Rattle.world.specs.Kept.{IsReached}
-use Rattle.world.specs.World.{world_of, waits_of}
+use Rattle.world.specs.World.{waits_of}
 use Rattle.world.proofs.Goes.{planned-report, take-report, is_taken-held}
 use Rattle.world.proofs.Stuck.{blocking-rises, stuck-still}
 use Rattle.world.proofs.Waiting.{HasOneHolder-locks}

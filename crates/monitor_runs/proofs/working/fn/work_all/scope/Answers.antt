@@ -19,12 +19,14 @@ loop-cpu-preserved g c =
     let left = length c.last_cpu-cpu.new.waiting.tokens.items in
     let worker = c.in_ok-worker.worker in
     let promise = c.in_ok-worker.ensures.ok in
-    let Holds : PromisedHandle (CpuToken g.row.S.Denot × CpuPass) (Works g.row.S.Denot) → Type 0 = λ w. w.promise.monitor.now ≡ c.captures.monitor.now in
+    let Holds : PromisedHandle (CpuToken g.row.S.Denot × CpuPass) (Works g.row.S.Denot) → Type 0 =
+    λ w. w.promise.monitor.now ≡ c.captures.monitor.now in
     let view : PromisedHandle (CpuToken g.row.S.Denot × CpuPass) (Works g.row.S.Denot) → ℕ × List Command =
     λ w. (w.promise.cpu, w.promise.program.value.items) in
     let is_left : left ≡ cpus - (count + 1) = omega (arith, c.last_cpu-cpu.ensures.count, c.loop-cpu.invariant.1) in
     let is_cpu = ap (λ (p : Works g.row.S.Denot). p.cpu) promise ∙ c.cpu.ensures ∙ last.same_cpu in
-    let is_program = ap (λ (p : Works g.row.S.Denot). p.program.value.items) promise ∙ ap (λ (v : Vec Command Global). v.items) c.of.ensures ∙ last.same_program in (
+    let is_program =
+    ap (λ (p : Works g.row.S.Denot). p.program.value.items) promise ∙ ap (λ (v : Vec Command Global). v.items) c.of.ensures ∙ last.same_program in (
       last.others,
       is_left,
       All-same Holds _ _ c.push_reserved.ensures.items
