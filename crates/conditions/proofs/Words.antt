@@ -1,5 +1,5 @@
 -- The conditions on words ask what its words have to say.
-use Rattle.std.proofs.Common.{◌≡◌, ℕ, ◌+◌, ◌-◌, ◌*◌, ◌^◌, ◌++◌, ◌&&◌, ◌==◌, Bool, true, false, not, nat_le, min, List, [], ◌∷◌, Option, Some, None, if◌then◌else◌, refl, sym, ◌∙◌, ap, arith}
+use Rattle.std.proofs.Common.{◌≡◌, ℕ, ◌+◌, ◌-◌, ◌*◌, ◌^◌, ◌++◌, ◌&&◌, Bool, true, false, nat_le, min, List, [], ◌∷◌, Option, Some, None, if◌then◌else◌, refl, sym, ◌∙◌, ap, arith}
 use Rattle.rmm_spec.specs.declared.call.Call.{Call}
 use Rattle.rmm_spec.specs.declared.call.Call.TheVariants as call
 use Rattle.rmm_spec.specs.declared.condition.Condition.{Condition}
@@ -42,19 +42,17 @@ level-same level unit ipa later =
     ap (λ (size : ℕ). if nat_le level 3 then if is_multiple ipa size then later else Some condition.IpaAlign else Some condition.LevelBound)
     (entry-last unit)
 
+if-two-next : (a b c : Bool) (later other first : Option Condition)
+    → (if a then if b then if c then later else other else other else first) ≡ (if a then if b && c then later else other else first)
+if-two-next true b c later other first = if-two b c later other
+if-two-next false b c later other first = refl
+
 -- the first that fails is that of the first word that isn't allowed
 pub first_failing-words : (s : State) (c : Call) (rest : List Asked)
     → first_failing s (word_conditions c ++ rest) ≡ first_word (words_of c) (first_failing s rest)
 unfolding passes word_conditions words_of
-first_failing-words s (call.RecCreate rd rec mpidr flags aux0 aux1) rest =
-    if-three (not (rec == aux0)) (not (rec == aux1)) (not (aux0 == aux1)) _ (Some condition.AuxAlias)
-first_failing-words s (call.RttCreate rd rtt ipa level) rest = level-same level (level - 1) ipa (first_failing s rest)
-first_failing-words s (call.RttRemove removal rd ipa level) rest = level-same level (level - 1) ipa (first_failing s rest)
-first_failing-words s (call.RttMapUnprotected rd ipa page) rest =
-    ap (λ (later : Option Condition). if is_multiple ipa 4096 then later else Some condition.IpaAlign)
-    (if-two _ _ (first_failing s rest) (Some condition.OwnPage))
-first_failing-words s (call.RttReadEntry rd ipa level) rest = level-same level level ipa (first_failing s rest)
-first_failing-words s _ rest = refl
+first_failing-words s (call.GranuleDelegate granule) rest = refl
+first_failing-words s _ rest = first_of (assumption, search (if-three, if-two-next, level-same))
 
 -- where none is found, each is allowed
 allowed-none : (words : List Word) → first_word words None ≡ None → all_allowed words ≡ true

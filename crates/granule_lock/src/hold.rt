@@ -56,7 +56,7 @@ pub struct Hold {
 }
 
 impl Hold {
-    ghost use Rattle.std.specs.Prelude.{◌≡◌, ◌++◌, ◌∷◌, [], ◌<◌, false, Some, length};
+    ghost use Rattle.std.specs.Prelude.{◌≡◌, ◌++◌, ◌∷◌, [], ◌<◌, false, Some, length, IsTrue};
     ghost use Rattle.world_laws.specs.Replaced.{held_at};
     ghost use Rattle.command_core.specs.Pairs.{without_cell};
     ghost use Rattle.command_core.specs.Seen.{cell_of, cell_in, is_held};

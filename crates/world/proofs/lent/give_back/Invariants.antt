@@ -5,7 +5,7 @@ use Rattle.world.proofs.lent.give_back.Given as goal
 abbrev pub invariant-loop-place : goal.invariant-loop-place
 invariant-loop-place l = record {
   size : vec_len l.cells.list ≡ vec_len l.fn.cells.list;
-  same_count : length l.left.items ≡ length l.granules.items;
-  left : put_all (cells_of l.cells) (paired (drop l.place l.granules.items) (drop l.place l.left.items))
+  same_count : length l.left.items ≡ length l.pa-items;
+  left : put_all (cells_of l.cells) (paired (drop l.place l.pa-items) (drop l.place l.left.items))
       ≡ put_all (cells_of l.fn.cells) (pair_cells l.fn.lent);
 }
