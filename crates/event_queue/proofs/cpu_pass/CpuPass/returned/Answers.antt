@@ -11,7 +11,7 @@ push_as-requires-clause-rule c = λ c'.
     let seated = c'.self.invariant.1 in
     let opened = rw (← c'.self.view_is) at c'.requires.«open» in
     let can = can_return _ _ _ _ _ seated opened (rw (← c'.self.view_is) at c'.requires.committed) in
-    (records _ _ _ _ seated.holder (seated.within, c'.reply_has_text.ensures) can.goes_on can.is_next, finds _ _)
+    (records _ _ _ _ seated.holder (seated.within, c'.reply_has_text-fact.ensures) can.goes_on can.is_next, finds _ _)
 
 pub invariant_of-self : goal.invariant_of-self
 invariant_of-self c = λ c'.
