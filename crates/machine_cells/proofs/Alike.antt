@@ -1,6 +1,5 @@
 -- Lists that are compared or copied element by element.
-use Rattle.machine_cells.proofs.Common.{◌+◌, ◌<◌, ◌∙◌, ◌≡◌, ◌≤◌, List, Some, [], arith, cases_lt, inl, inr, length, refl, same_Some, slice_get, subst, suc, sym, ℕ}
-use Rattle.std.proofs.Common.{◌∷◌}
+use Rattle.machine_cells.proofs.Common.{◌+◌, ◌<◌, ◌∙◌, ◌∷◌, ◌≡◌, ◌≤◌, List, Some, [], arith, cases_lt, inl, inr, length, refl, same_Some, slice_get, subst, suc, sym, ℕ}
 use Rattle.std.specs.Prelude.{slice_set}
 use Rattle.shape_laws.proofs.Slices.{slice_get-set_same, slice_get-set_other}
 

@@ -1,6 +1,6 @@
 -- Where a table's counts tell of no entry that a stretch may not set, each end of the stretch is reached.
-use Rattle.machine_cells.proofs.Common.{◌%◌, ◌+◌, ◌/◌, ◌<◌, ◌∙◌, ◌≡◌, ◌≤◌, Bool, Entry, Granules, IsShapedIn, List, None, Option, Some, TableRecord, [], ap, arith, entry_at, entry_number, false, none-some, refl, same_Some, slice_get, state_in, subst, suc, sym, true, zero, ℕ}
-use Rattle.std.proofs.Common.{◌-◌, not, ◌∷◌}
+use Rattle.machine_cells.proofs.Common.{◌%◌, ◌+◌, ◌-◌, ◌/◌, ◌<◌, ◌∙◌, ◌∷◌, ◌≡◌, ◌≤◌, Bool, Entry, Granules, IsShapedIn, List, None, Option, Some, TableRecord, [], ap, arith, entry_at, entry_number, false, none-some, refl, same_Some, slice_get, state_in, subst, suc, sym, true, zero, ℕ}
+use Rattle.std.proofs.Common.{not}
 use Rattle.std.specs.List.{list_any}
 use Rattle.std.proofs.lemmas.Bool.{or_parts, and_from}
 use Rattle.rmm_spec.specs.declared.accepted.Stretch.{Stretch}

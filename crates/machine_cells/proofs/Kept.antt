@@ -1,19 +1,19 @@
 -- What is kept of each granule, read and changed at its place.
-use Rattle.machine_cells.proofs.Common.{◌%◌, ◌*◌, ◌++◌, ◌/◌, ◌<◌, ◌==◌, ◌∙◌, ◌≡◌, Bool, IsTrue, List, None, Option, Some, [], ap, arith, cell_of, eqb-true, false, if◌then◌else◌, inl, inr, is_granule, length, lt-ltb, nat_lt, none-some, place_in, put, refl, replicate, slice_get, suc, sym, true, zero, ℕ}
-use Rattle.std.proofs.Common.{◌≢◌, ◌&&◌, ◌∷◌, slice_set}
-use Rattle.std.specs.Prelude.{option_map, unwrap_or, slice_index_or}
+use Rattle.machine_cells.proofs.Common.{◌%◌, ◌*◌, ◌++◌, ◌/◌, ◌<◌, ◌==◌, ◌∙◌, ◌∷◌, ◌≡◌, Bool, HeldCells, IsTrue, List, None, Option, Some, [], ap, arith, eqb-true, false, if◌then◌else◌, inl, inr, is_granule, length, lt-ltb, nat_lt, none-some, place_in, put, refl, replicate, slice_get, slice_index_or, suc, sym, true, zero, ℕ}
+use Rattle.std.proofs.Common.{◌≢◌, ◌&&◌, slice_set}
+use Rattle.std.specs.Prelude.{option_map, unwrap_or}
 use Rattle.std.proofs.lemmas.Bool.{and_from, and_parts, eq-eqb, eqb-false, ltb-false, ltb-true}
-use Rattle.std.proofs.lemmas.List.{get_or-replicate, get_or-set_other, get_or-set_same, get_or_default, get_or_past, length-replicate}
+use Rattle.std.proofs.lemmas.List.{get_or-replicate, get_or-set_other, get_or-set_same, get_or_past, length-replicate}
 use Rattle.lemmas.proofs.Tests.{both_ways}
 use Rattle.rmm_spec.specs.Cell as spec
-use Rattle.granule_cells.specs.declared.cell.Cell.{Cell}
-use Rattle.granule_cells.specs.declared.cell.Cell.TheVariants.{Undelegated}
 use Rattle.granule_places.specs.declared.places.GranulePlaces.{GranulePlaces}
 use Rattle.granule_places.specs.Placed.{count_in, IsFurther}
 use Rattle.granule_places.proofs.PlaceLaws.{place-apart}
 use Rattle.granule_cells.specs.declared.cpu_place.CpuPlace.{CpuPlace}
 use Rattle.granule_cells.specs.declared.cpu_place.CpuPlace.TheVariants.{Outside}
 use Rattle.granule_cells.specs.Seen.{place_of}
+use Rattle.shape_laws.specs.Whole.{changed_at}
+use Rattle.machine_cells.specs.Held.{cell_at, changed_in}
 use Rattle.machine_cells.specs.Whole.{cells_in, placed_at, places_in}
 
 -- what is read at a place, or what is there
@@ -69,17 +69,18 @@ read-more (x ∷ items) n (suc i) default = read-more items n i default
 -- ---- cells at places
 
 -- one cell is changed, seen at a granule's own address and at another
-cells_in-set_cases : (granules : ℕ) (places : GranulePlaces) (items : List Cell) (item : Cell) (address place other : ℕ) (granule same : Bool)
+cells_in-set_cases : (granules : ℕ) (places : GranulePlaces) (items : List spec.Cell)
+    (item : spec.Cell) (address place other : ℕ) (granule same : Bool)
     → IsTrue (is_granule granules address) → place_in places (address / 4096) ≡ Some place → place < length items
     → is_granule granules other ≡ granule → (other == address) ≡ same
     → cells_in granules (place_in places) (slice_set items place item) other
-    ≡ (if same then cell_of item else cells_in granules (place_in places) items other)
+    ≡ (if same then item else cells_in granules (place_in places) items other)
 cells_in-set_cases granules places items item address place other true true first at within second same =
     let equal : other ≡ address = eqb-true other address same in
     let here : place_in places (other / 4096) ≡ Some place = ap (λ a. place_in places (a / 4096)) equal ∙ at in
-    rw (second, here) (ap cell_of (get_or-set_same items place item Undelegated within))
+    rw (second, here) (get_or-set_same items place item spec.Undelegated within)
 cells_in-set_cases granules places items item address place other true false first at within second apart =
-    rw second (ap cell_of (by (place_in places (other / 4096)) refl))
+    rw second (by (place_in places (other / 4096)) refl)
   where
     elsewhere : (o : ℕ) → place_in places (other / 4096) ≡ Some o → o ≢ place
     elsewhere o is same =
@@ -88,66 +89,77 @@ cells_in-set_cases granules places items item address place other true false fir
 
     by : (o : Option ℕ) → place_in places (other / 4096) ≡ o → placed_at (slice_set items place item) o ≡ placed_at items o
     by None is = refl
-    by (Some o) is = get_or-set_other items place o item Undelegated (elsewhere o is)
+    by (Some o) is = get_or-set_other items place o item spec.Undelegated (elsewhere o is)
 cells_in-set_cases granules places items item address place other false true first at within second same =
     both_ways (rw (← eqb-true other address same) at first) second
 cells_in-set_cases granules places items item address place other false false first at within second apart = rw second refl
 
-pub cells_in-set : (granules : ℕ) (places : GranulePlaces) (items : List Cell) (item : Cell) (address place : ℕ)
+pub cells_in-set : (granules : ℕ) (places : GranulePlaces) (items : List spec.Cell) (item : spec.Cell) (address place : ℕ)
     → IsTrue (is_granule granules address) → place_in places (address / 4096) ≡ Some place → place < length items
-    → cells_in granules (place_in places) (slice_set items place item) ≡ put (cells_in granules (place_in places) items) address (cell_of item)
+    → cells_in granules (place_in places) (slice_set items place item) ≡ put (cells_in granules (place_in places) items) address item
 cells_in-set granules places items item address place granule at within = λ i other.
     cells_in-set_cases granules places items item address place other (is_granule granules other) (other == address) granule at within refl refl i
 
--- what is read at a granule's place is what is kept of it
-pub cells_in-granule : (granules : ℕ) (places : GranulePlaces) (items : List Cell) (address place : ℕ) (read : Cell)
-    → IsTrue (is_granule granules address) → place_in places (address / 4096) ≡ Some place → place < length items
-    → read ≡ slice_index_or items place read → cell_of read ≡ cells_in granules (place_in places) items address
-cells_in-granule granules places items address place read granule at within is_read =
-    rw (granule, at) (ap cell_of (is_read ∙ get_or_default items place read Undelegated within))
+-- what is at a granule's place is what is kept of it
+pub cell-read : (granules : ℕ) (places : GranulePlaces) (items : List spec.Cell) (address place : ℕ)
+    → IsTrue (is_granule granules address) → place_in places (address / 4096) ≡ Some place
+    → slice_index_or items place spec.Undelegated ≡ cells_in granules (place_in places) items address
+cell-read granules places items address place granule at = rw (granule, at) refl
+
+-- a granule's cell is changed in its place
+pub cells_in-changed : (granules : ℕ) (places : GranulePlaces) (old new : HeldCells) (address place : ℕ) (change : spec.Cell → spec.Cell)
+    → IsTrue (is_granule granules address) → place_in places (address / 4096) ≡ Some place
+    → place < length old.items → new ≡ changed_in old place change
+    → cells_in granules (place_in places) new.items ≡ changed_at (cells_in granules (place_in places) old.items) address change
+cells_in-changed granules places old new address place change granule at within is =
+    ap (λ (held : HeldCells). cells_in granules (place_in places) held.items) is
+    ∙ cells_in-set granules places old.items (change (cell_at old place)) address place granule at within
+    ∙ ap (λ (cell : spec.Cell). put (cells_in granules (place_in places) old.items) address (change cell))
+    (cell-read granules places old.items address place granule at)
 
 -- a granule without a place is the host's, and so is what is no granule
-pub cells_in-none : (granules : ℕ) (place : ℕ → Option ℕ) (items : List Cell) (address : ℕ) → place (address / 4096) ≡ None
+pub cells_in-none : (granules : ℕ) (place : ℕ → Option ℕ) (items : List spec.Cell) (address : ℕ) → place (address / 4096) ≡ None
     → cells_in granules place items address ≡ spec.Undelegated
 cells_in-none granules place items address none = by (is_granule granules address)
   where
-    by : (b : Bool) → cell_of (if b then placed_at items (place (address / 4096)) else Undelegated) ≡ spec.Undelegated
+    by : (b : Bool) → (if b then placed_at items (place (address / 4096)) else spec.Undelegated) ≡ spec.Undelegated
     by true = rw none refl
     by false = refl
 
-pub cells_in-between : (granules : ℕ) (place : ℕ → Option ℕ) (items : List Cell) (address : ℕ) → (address % 4096 ≡ 0 → ⊥)
+pub cells_in-between : (granules : ℕ) (place : ℕ → Option ℕ) (items : List spec.Cell) (address : ℕ) → (address % 4096 ≡ 0 → ⊥)
     → cells_in granules place items address ≡ spec.Undelegated
 unfolding is_granule
 cells_in-between granules place items address between = by (address % 4096 == 0) refl
   where
     by : (b : Bool) → (address % 4096 == 0) ≡ b
-        → cell_of (if b && nat_lt address (granules * 4096) then placed_at items (place (address / 4096)) else Undelegated) ≡ spec.Undelegated
+        → (if b && nat_lt address (granules * 4096) then placed_at items (place (address / 4096)) else spec.Undelegated) ≡ spec.Undelegated
     by true even = absurd (between (eqb-true (address % 4096) 0 even))
     by false odd = refl
 
 -- a new block of the host's changes nothing
-pub cells_in-further : (granules n : ℕ) (old new : GranulePlaces) (items : List Cell) → IsFurther old new → count_in old ≡ length items
-    → cells_in granules (place_in new) (items ++ replicate n Undelegated) ≡ cells_in granules (place_in old) items
+pub cells_in-further : (granules n : ℕ) (old new : GranulePlaces) (items : List spec.Cell) → IsFurther old new → count_in old ≡ length items
+    → cells_in granules (place_in new) (items ++ replicate n spec.Undelegated) ≡ cells_in granules (place_in old) items
 cells_in-further granules n old new items further count = λ i address. by address (is_granule granules address) i
   where
-    more : (o : Option ℕ) → placed_at (items ++ replicate n Undelegated) o ≡ placed_at items o
+    more : (o : Option ℕ) → placed_at (items ++ replicate n spec.Undelegated) o ≡ placed_at items o
     more None = refl
-    more (Some o) = read-more items n o Undelegated
+    more (Some o) = read-more items n o spec.Undelegated
 
-    fresh : (k : ℕ) (o : Option ℕ) → place_in old k ≡ None → place_in new k ≡ o → placed_at items o ≡ Undelegated
+    fresh : (k : ℕ) (o : Option ℕ) → place_in old k ≡ None → place_in new k ≡ o → placed_at items o ≡ spec.Undelegated
     fresh k None unplaced is = refl
     fresh k (Some o) unplaced is = elim (further.fresh k o is) [
       | inl placed ↦ absurd (none-some o (sym unplaced ∙ placed))
-      | inr behind ↦ get_or_past items o Undelegated (omega (arith, behind, count))
+      | inr behind ↦ get_or_past items o spec.Undelegated (omega (arith, behind, count))
     ]
 
     same : (k : ℕ) (o : Option ℕ) → place_in old k ≡ o → placed_at items (place_in new k) ≡ placed_at items o
     same k None is = fresh k (place_in new k) is refl
     same k (Some o) is = ap (placed_at items) (further.kept k o is)
 
-    by : (address : ℕ) (b : Bool) → cell_of (if b then placed_at (items ++ replicate n Undelegated) (place_in new (address / 4096)) else Undelegated)
-        ≡ cell_of (if b then placed_at items (place_in old (address / 4096)) else Undelegated)
-    by address true = ap cell_of (more (place_in new (address / 4096)) ∙ same (address / 4096) (place_in old (address / 4096)) refl)
+    by : (address : ℕ) (b : Bool)
+        → (if b then placed_at (items ++ replicate n spec.Undelegated) (place_in new (address / 4096)) else spec.Undelegated)
+        ≡ (if b then placed_at items (place_in old (address / 4096)) else spec.Undelegated)
+    by address true = (more (place_in new (address / 4096)) ∙ same (address / 4096) (place_in old (address / 4096)) refl)
     by address false = refl
 
 -- ---- CPUs

@@ -16,3 +16,6 @@ pub mod CanMake
 pub mod Made
 pub mod Alike
 mod PlacedCells
+pub mod Slots
+pub mod BesideChanged
+pub mod KeptLists

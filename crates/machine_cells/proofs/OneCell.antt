@@ -1,6 +1,5 @@
 -- What is read of one granule is what the flat state tells of it.
-use Rattle.machine_cells.proofs.Common.{◌*◌, ◌++◌, ◌+◌, ◌/◌, ◌<◌, ◌==◌, ◌∙◌, ◌≡◌, Bool, CellList, Config, IsTrue, List, Option, Some, State, TableRecord, [], ap, arith, cell_of, cells_of, false, flat_state, if◌then◌else◌, is_granule, length, nat_lt, place_in, refl, slice_get, suc, true, zero, ℕ}
-use Rattle.std.proofs.Common.{◌∷◌}
+use Rattle.machine_cells.proofs.Common.{◌*◌, ◌++◌, ◌+◌, ◌/◌, ◌<◌, ◌==◌, ◌∙◌, ◌∷◌, ◌≡◌, Bool, CellList, Config, IsTrue, List, Option, Some, State, TableRecord, [], ap, arith, cells_of, false, flat_state, if◌then◌else◌, is_granule, length, nat_lt, place_in, refl, slice_get, suc, true, zero, ℕ}
 use Rattle.std.proofs.lemmas.Bool.{ltb-false, ltb-true}
 use Rattle.std.proofs.lemmas.List.{length-append}
 use denote.Enum.Bare.{sameb}
@@ -13,7 +12,6 @@ use Rattle.spec_lemmas.proofs.TagLaws.{sameb-tag_number}
 use Rattle.lemmas.proofs.Tests.{both_ways}
 use Rattle.rtt_walk.specs.Plain.{cells_from, table_or_none}
 use Rattle.rtt_walk.specs.PlainLaws.{table_in-no_granule, table_in-cells_from}
-use Rattle.granule_cells.specs.declared.cell.Cell.TheVariants.{Undelegated}
 use Rattle.machine_cells.specs.Whole.{placed_at, table_numbered, tables_in, values_below}
 use Rattle.machine_cells.proofs.Kept.{granule_placed, place-granule, place_within}
 
@@ -72,8 +70,7 @@ tables-same list address = by (is_granule granules address) refl
     tables = values_below granules (table_numbered list)
 
     by : (b : Bool) → is_granule granules address ≡ b → table_in (cells_from 0 tables) address
-        ≡ spec.table_in (cell_of (if is_granule granules address
-        then placed_at list.cells.items (place_in list.places (address / 4096)) else Undelegated))
+        ≡ spec.table_in (if is_granule granules address then placed_at list.cells.items (place_in list.places (address / 4096)) else spec.Undelegated)
     by true is =
         let at : address ≡ (0 + address / 4096) * 4096 = omega (arith, place-granule granules address is) in
         rw is (table_in-cells_from 0 tables (address / 4096) address at

@@ -1,22 +1,30 @@
--- One cell that is changed by what lies in it.
-use Rattle.machine_cells.proofs.Common.{◌==◌, ◌∙◌, ◌≡◌, Bool, CellList, Entry, List, RealmRecord, Some, TableRecord, ap, cell_of, cell_with_realm, cells_of, eqb-true, false, if◌then◌else◌, none-some, place_in, put, refl, same_Some, sym, true, ℕ}
-use Rattle.std.proofs.Common.{slice_set}
-use Rattle.std.specs.Prelude.{slice_index_or}
-use Rattle.rmm_spec.specs.declared.change.RealmUpdate.{RealmUpdate}
-use Rattle.rmm_spec.specs.declared.change.RecUpdate.{RecUpdate}
+-- One cell that is read, or changed by what lies in it.
+use Rattle.machine_cells.proofs.Common.{◌==◌, ◌∙◌, ◌≡◌, Bool, CellList, HeldCells, None, RealmRecord, Some, TableRecord, ap, cells_of, eqb-true, false, if◌then◌else◌, none-some, place_in, put, refl, same_Some, sym, true, ℕ}
 use Rattle.rmm_spec.specs.State.{RecRecord}
 use Rattle.rmm_spec.specs.Cell as spec
-use Rattle.shape_laws.specs.Whole.{cell_with_rec, cell_with_entries, changed_at}
-use Rattle.granule_cells.specs.declared.cell.Cell.{Cell}
-use Rattle.granule_cells.specs.declared.cell.Cell.TheVariants.{Rd, Rec, Rtt}
+use Rattle.shape_laws.specs.Whole.{changed_at, width_in}
+use Rattle.machine_cells.specs.Held.{cell_at, changed_in}
 use Rattle.machine_cells.specs.Placed.{IsPlace}
 use Rattle.machine_cells.specs.Whole.{cells_in}
-use Rattle.machine_cells.proofs.Kept.{cells_in-set, cells_in-granule}
+use Rattle.machine_cells.proofs.Kept.{cell-read, cells_in-changed}
 
--- what has a realm's record is its descriptor
+-- what has a realm's record is its descriptor, and what has a REC's is that REC
 pub realm_cell : (c : spec.Cell) (r : RealmRecord) → Some r ≡ spec.realm_in c → c ≡ spec.Rd r
 realm_cell (spec.Rd other) r is = ap spec.Rd (sym (same_Some r other is))
 realm_cell _ r is = absurd (none-some r (sym is))
+
+pub rec_cell : (c : spec.Cell) (r : RecRecord) → Some r ≡ spec.rec_in c → c ≡ spec.Rec r
+rec_cell (spec.Rec other) r is = ap spec.Rec (sym (same_Some r other is))
+rec_cell _ r is = absurd (none-some r (sym is))
+
+-- a table's place has the width that its cell tells, and what is no table tells 0
+pub table-width : (c : spec.Cell) (t : TableRecord) → Some t ≡ spec.table_in c → width_in c ≡ t.place.width
+table-width (spec.Rtt other) t is = ap (λ (x : TableRecord). x.place.width) (sym (same_Some t other is))
+table-width _ t is = absurd (none-some t (sym is))
+
+pub no_table-width : (c : spec.Cell) → None ≡ spec.table_in c → width_in c ≡ 0
+no_table-width (spec.Rtt t) is = absurd (none-some t is)
+no_table-width _ is = refl
 
 -- a cell that stays as it is
 pub put-same : (cells : ℕ → spec.Cell) (granule : ℕ) (c : spec.Cell) → c ≡ cells granule → cells ≡ put cells granule c
@@ -31,42 +39,15 @@ pub outside-same : (list : CellList) (granule : ℕ) (change : spec.Cell → spe
     → cells_of list granule ≡ spec.Undelegated → cells_of list ≡ changed_at (cells_of list) granule change
 outside-same list granule change kept none = put-same (cells_of list) granule _ (ap change none ∙ kept ∙ sym none)
 
--- a granule's cell is set to what becomes of it
-pub set-at : (list : CellList) (granule place : ℕ) (read new : Cell) (change : spec.Cell → spec.Cell) → IsPlace list granule place
-    → read ≡ slice_index_or list.cells.items place read → cell_of new ≡ change (cell_of read)
-    → cells_in list.config.granules (place_in list.places) (slice_set list.cells.items place new) ≡ changed_at (cells_of list) granule change
+-- the cell at a granule's place is what is kept of the granule
+pub place-cell : (list : CellList) (granule place : ℕ) → IsPlace list granule place → cell_at list.cells place ≡ cells_of list granule
 unfolding cells_of
-set-at list granule place read new change is is_read after =
-    cells_in-set list.config.granules list.places list.cells.items new granule place is.granule is.at is.within
-    ∙ ap (put (cells_of list) granule)
-    (after ∙ ap change (cells_in-granule list.config.granules list.places list.cells.items granule place read is.granule is.at is.within is_read))
+place-cell list granule place is = cell-read list.config.granules list.places list.cells.items granule place is.granule is.at
 
--- only a realm's descriptor and a REC have records
-pub not_realm-same : (c : Cell) (update : RealmUpdate) → ((r : RealmRecord) → c ≡ Rd r → ⊥) → cell_with_realm update (cell_of c) ≡ cell_of c
-not_realm-same (Rd r) update none = absurd (none r refl)
-not_realm-same _ update none = refl
-
-pub not_rec-same : (c : Cell) (update : RecUpdate) → ((r : RecRecord) → c ≡ Rec r → ⊥) → cell_with_rec update (cell_of c) ≡ cell_of c
-not_rec-same (Rec r) update none = absurd (none r refl)
-not_rec-same _ update none = refl
-
--- what is read of a cell is what lies there
-pub cell-read : (list : CellList) (granule place : ℕ) (read : Cell) → IsPlace list granule place
-    → read ≡ slice_index_or list.cells.items place read → cells_of list granule ≡ cell_of read
+-- and where it is changed there, the granule's is
+pub place-changed : (list : CellList) (granule place : ℕ) (new : HeldCells) (change : spec.Cell → spec.Cell) → IsPlace list granule place
+    → new ≡ changed_in list.cells place change
+    → cells_in list.config.granules (place_in list.places) new.items ≡ changed_at (cells_of list) granule change
 unfolding cells_of
-cell-read list granule place read is is_read =
-    sym (cells_in-granule list.config.granules list.places list.cells.items granule place read is.granule is.at is.within is_read)
-
-pub realm-read : (list : CellList) (granule place : ℕ) (read : Cell) (r : RealmRecord) → IsPlace list granule place
-    → read ≡ slice_index_or list.cells.items place read → read ≡ Rd r → spec.realms_of (cells_of list) granule ≡ Some r
-realm-read list granule place read r is is_read realm = ap spec.realm_in (cell-read list granule place read is is_read ∙ ap cell_of realm)
-
-pub rec-read : (list : CellList) (granule place : ℕ) (read : Cell) (r : RecRecord) → IsPlace list granule place
-    → read ≡ slice_index_or list.cells.items place read → read ≡ Rec r → spec.recs_of (cells_of list) granule ≡ Some r
-rec-read list granule place read r is is_read rec = ap spec.rec_in (cell-read list granule place read is is_read ∙ ap cell_of rec)
-
--- only a table has entries
-pub not_table-same : (c : Cell) (change : List Entry → List Entry)
-    → ((t : TableRecord) → c ≡ Rtt t → ⊥) → cell_with_entries change (cell_of c) ≡ cell_of c
-not_table-same (Rtt t) change none = absurd (none t refl)
-not_table-same _ change none = refl
+place-changed list granule place new change is changed =
+    cells_in-changed list.config.granules list.places list.cells new granule place change is.granule is.at is.within changed

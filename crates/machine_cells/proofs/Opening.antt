@@ -1,29 +1,26 @@
 -- The granules of a new machine are all the host's.
-use Rattle.machine_cells.proofs.Common.{◌/◌, ◌∙◌, ◌≡◌, Bool, Config, List, None, Option, Some, [], ap, cell_of, false, flat_state, if◌then◌else◌, is_granule, refl, replicate, subst, sym, true, ℕ}
-use Rattle.std.proofs.Common.{slice_index_or}
+use Rattle.machine_cells.proofs.Common.{◌/◌, ◌∙◌, ◌≡◌, Bool, Config, List, None, Option, Some, [], ap, false, flat_state, if◌then◌else◌, is_granule, refl, replicate, slice_index_or, subst, sym, true, ℕ}
 use Rattle.rmm_spec.specs.State.{opening}
 use Rattle.rmm_spec.specs.Cell as spec
 use Rattle.rmm_spec.specs.Shape as shape
 use Rattle.rmm_spec.specs.World.{opening_world}
 use Rattle.spec_lemmas.proofs.Opening.{flat_state-opening, IsShapedWorld-opening}
 use Rattle.shape_laws.specs.Whole.{Whole, IsShaped}
-use Rattle.granule_cells.specs.declared.cell.Cell.{Cell}
-use Rattle.granule_cells.specs.declared.cell.Cell.TheVariants.{Undelegated}
 use Rattle.granule_cells.specs.declared.cpu_place.CpuPlace.TheVariants.{Outside}
 use Rattle.granule_cells.specs.Seen.{place_of}
 use Rattle.machine_cells.specs.Whole.{cells_in, placed_at, places_in}
 use Rattle.machine_cells.proofs.Kept.{get_or-replicate_all}
 
-pub cells-new : (granules n : ℕ) (place : ℕ → Option ℕ) (cells : List Cell) → cells ≡ replicate n Undelegated
+pub cells-new : (granules n : ℕ) (place : ℕ → Option ℕ) (cells : List spec.Cell) → cells ≡ replicate n spec.Undelegated
     → cells_in granules place cells ≡ (λ _. spec.Undelegated)
 cells-new granules n place cells is = λ i address. by address (is_granule granules address) i
   where
-    at : (o : Option ℕ) → placed_at cells o ≡ Undelegated
+    at : (o : Option ℕ) → placed_at cells o ≡ spec.Undelegated
     at None = refl
-    at (Some o) = ap (λ (items : List Cell). slice_index_or items o Undelegated) is ∙ get_or-replicate_all n o Undelegated _ refl
+    at (Some o) = ap (λ (items : List spec.Cell). slice_index_or items o spec.Undelegated) is ∙ get_or-replicate_all n o spec.Undelegated _ refl
 
-    by : (address : ℕ) (b : Bool) → cell_of (if b then placed_at cells (place (address / 4096)) else Undelegated) ≡ spec.Undelegated
-    by address true = ap cell_of (at (place (address / 4096)))
+    by : (address : ℕ) (b : Bool) → (if b then placed_at cells (place (address / 4096)) else spec.Undelegated) ≡ spec.Undelegated
+    by address true = at (place (address / 4096))
     by address false = refl
 
 pub places-new : (n : ℕ) → places_in (replicate n Outside) ≡ (λ _. shape.Outside)

@@ -16,7 +16,7 @@ some-place list address (Some place) even is =
     record {
       granule = subst (λ a. IsTrue (is_granule list.config.granules a)) at (granule_placed list.config.granules (address / 4096) below);
       at = sym is;
-      within = omega (arith, place-within list.places (address / 4096) place (sym is), list.each, list.cells.ok.0);
+      within = omega (arith, place-within list.places (address / 4096) place (sym is), list.each);
     }
 
 -- and without one it is the host's

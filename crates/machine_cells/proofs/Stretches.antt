@@ -1,6 +1,6 @@
 -- Where a stretch may end, and its entries.
-use Rattle.machine_cells.proofs.Common.{◌%◌, ◌*◌, ◌+◌, ◌/◌, ◌<◌, ◌==◌, ◌∙◌, ◌≡◌, ◌≤◌, Bool, Entry, State, ap, arith, cases_lt, entry_at, entry_number, eqb-true, false, inl, inr, lt-ltb, nat_lt, refl, suc, sym, table_number, table_size, true, zero, ℕ}
-use Rattle.std.proofs.Common.{◌-◌, nat_le, ◌&&◌, add-one}
+use Rattle.machine_cells.proofs.Common.{◌%◌, ◌*◌, ◌+◌, ◌-◌, ◌/◌, ◌<◌, ◌==◌, ◌∙◌, ◌≡◌, ◌≤◌, Bool, Entry, State, ap, arith, cases_lt, entry_at, entry_number, eqb-true, false, inl, inr, lt-ltb, nat_lt, refl, suc, sym, table_number, table_size, true, zero, ℕ}
+use Rattle.std.proofs.Common.{nat_le, ◌&&◌, add-one}
 use Rattle.std.proofs.Math.Nat.{div-add-mod, div-div-eq-div-mul, mul-le-mul_left}
 use Rattle.std.proofs.lemmas.Bool.{and_parts, and_left, and_right, ltb-true, leb-true, le-ltb, le-leb, lt-leb, eq-eqb, ne_eqb}
 use Rattle.std.proofs.lemmas.Nat.{div_below, le-div}

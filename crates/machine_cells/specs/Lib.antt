@@ -7,3 +7,4 @@ pub mod Walks
 pub mod Searches
 pub mod Single
 pub mod Kept
+pub mod Held

@@ -10,11 +10,9 @@ use Rattle.rmm_spec.specs.Flat.{flat_state}
 use Rattle.rmm_spec.specs.Shape as shape
 use Rattle.shape_laws.specs.Whole.{Whole, IsShaped}
 use Rattle.rtt_walk.specs.Plain.{cells_from}
-use Rattle.granule_cells.specs.declared.cell.Cell.{Cell}
-use Rattle.granule_cells.specs.declared.cell.Cell.TheVariants.{Undelegated}
 use Rattle.granule_cells.specs.declared.cpu_place.CpuPlace.{CpuPlace}
 use Rattle.granule_cells.specs.declared.cpu_place.CpuPlace.TheVariants.{Outside}
-use Rattle.granule_cells.specs.Seen.{cell_of, place_of}
+use Rattle.granule_cells.specs.Seen.{place_of}
 use Rattle.granule_cells.specs.Sides.{side_of}
 use Rattle.granule_places.specs.Placed.{place_in}
 use Rattle.machine_cells.specs.declared.cell_list.CellList.{CellList}
@@ -22,13 +20,13 @@ use Rattle.machine_cells.specs.declared.granules.Granules.{Granules}
 use Rattle.machine_cells.specs.declared.places.Places.{Places}
 
 -- what stands at a place, where there is one
-abbrev pub placed_at : List Cell → Option ℕ → Cell
-placed_at items None = Undelegated
-placed_at items (Some place) = slice_index_or items place Undelegated
+abbrev pub placed_at : List spec.Cell → Option ℕ → spec.Cell
+placed_at items None = spec.Undelegated
+placed_at items (Some place) = slice_index_or items place spec.Undelegated
 
 -- the cell of each address, where the granule of a number has its place; one without a place is the host's
-abbrev pub cells_in : ℕ → (ℕ → Option ℕ) → List Cell → ℕ → spec.Cell
-cells_in granules place items address = cell_of (if is_granule granules address then placed_at items (place (address / 4096)) else Undelegated)
+abbrev pub cells_in : ℕ → (ℕ → Option ℕ) → List spec.Cell → ℕ → spec.Cell
+cells_in granules place items address = if is_granule granules address then placed_at items (place (address / 4096)) else spec.Undelegated
 
 -- where each CPU is
 abbrev pub places_in : List CpuPlace → ℕ → shape.CpuPlace
@@ -67,7 +65,7 @@ values_below (suc n) f = values_below n f ++ f n ∷ []
 
 -- the table in the granule of a number
 abbrev pub table_numbered : CellList → ℕ → Option TableRecord
-table_numbered list number = spec.table_in (cell_of (placed_at list.cells.items (place_in list.places number)))
+table_numbered list number = spec.table_in (placed_at list.cells.items (place_in list.places number))
 
 -- the tables of the granules, each in its own
 unfoldable pub tables_in : CellList → List TableCell

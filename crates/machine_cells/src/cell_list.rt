@@ -1,19 +1,17 @@
 //! A cell for each granule.
 
-ghost use Rattle.std.specs.Prelude.{◌≡◌, ◌+◌, ◌≤◌, ◌++◌, replicate, vec_len, vec_capacity};
-ghost use Rattle.granule_cells.specs.declared.cell.Cell.TheVariants.{Undelegated};
+ghost use Rattle.std.specs.Prelude.{◌≡◌, ◌≤◌, length};
 ghost use Rattle.granule_places.specs.Placed.{count_in, room_in};
 
-use granule_cells::Cell;
+use crate::slot::Slot;
+use crate::slot_list::SlotList;
 use granule_places::GranulePlaces;
 use granule_state::{Config, GRANULE_BYTES, Pa};
-use realm_desc::Realm;
+use realm_desc::{Realm, Rec};
+use rmm_spec::Tag;
 use rtt_table::Table;
 use rtt_walk::Cells;
 use std::alloc::{AllocError, Global};
-
-/// How many granules get their cells together.
-const BLOCK: usize = 512;
 
 /// The cells of a machine's granules, each at its granule's place. A granule without a place is the host's.
 #[derive(Drop)]
@@ -21,18 +19,19 @@ pub(crate) struct CellList {
     pub(crate) config: Config,
     pub(crate) places: GranulePlaces,
     // with room for all, so that no further cell takes memory
-    pub(crate) cells: Vec<Cell>,
-    ghost each: { vec_len cells ≡ count_in places },
-    ghost room: { room_in places ≤ vec_capacity cells },
+    pub(crate) cells: SlotList,
+    ghost each: { length cells.items ≡ count_in places },
+    ghost room: { room_in places ≤ cells.room },
     ghost granules: { places.granules ≡ config.granules },
 }
 
 impl CellList {
-    ghost use Rattle.std.specs.Prelude.{◌≡◌, ◌/◌, ◌%◌, ◌<◌, IfOk, IfSome, IfNone, IsTrue, None, Some, option_map, option_copied, unwrap_or, vec_len};
+    ghost use Rattle.std.specs.Prelude.{◌≡◌, ◌/◌, ◌%◌, [], IfOk, IfSome, IfNone, IsTrue, None, Some, option_copied, unwrap_or};
+    ghost use Rattle.rmm_spec.specs.declared.tag.Tag.TheVariants as tags;
     ghost use Rattle.rmm_spec.specs.Cell as spec;
-    ghost use Rattle.rmm_spec.specs.Cell.{put, realms_of, tables_of};
+    ghost use Rattle.rmm_spec.specs.Cell.{put, tag_of, realms_of, recs_of, tables_of};
     ghost use Rattle.rmm_spec.specs.Lookup.{is_granule};
-    ghost use Rattle.granule_cells.specs.Seen.{cell_of};
+    ghost use Rattle.machine_cells.specs.Held.{number_of, seen};
     ghost use Rattle.machine_cells.specs.Whole.{cells_of};
     ghost use Rattle.machine_cells.specs.Placed.{IsPlace};
     ghost use Rattle.granule_places.specs.Placed.{place_in};
@@ -43,10 +42,7 @@ impl CellList {
         ensures cells { IfOk result (λ list. cells_of list ≡ (λ _. spec.Undelegated)) }
     {
         let places = GranulePlaces::new(alloc, config.granules() as usize)?;
-        let mut cells = Vec::with_capacity(alloc, places.room())?;
-        for _ in 0..places.count() {
-            cells.push(Cell::Undelegated)?;
-        }
+        let cells = SlotList::new(alloc, places.count(), places.room())?;
         Ok(CellList {
             config,
             places,
@@ -122,57 +118,70 @@ impl CellList {
     {
         let number = (granule / GRANULE_BYTES) as usize;
         let place = self.places.make(number);
-        push_block(&mut self.cells);
+        self.cells.push_block();
         place
     }
 
-    /// What is kept of the granule at the address. Nothing is kept of what is no granule, and of one that nothing has touched.
+    /// The state of the granule at the address. Nothing is kept of what is no granule, and of one that nothing has touched.
     #[inline(always)]
-    pub(crate) fn cell(&self, address: u64) -> Option<&Cell>
+    pub(crate) fn tag(&self, address: u64) -> Option<Tag>
         ensures there { IfSome result (λ _. IsTrue (is_granule self.now.config.granules address)) }
-        ensures cell { unwrap_or (option_map cell_of (option_copied result)) spec.Undelegated ≡ cells_of self.now address }
+        ensures tag { unwrap_or result tags.Undelegated ≡ tag_of (cells_of self.now address) }
     {
         if address % GRANULE_BYTES != 0 {
             return None;
         }
         let number = (address / GRANULE_BYTES) as usize;
         if number < self.places.near() {
-            Some(&self.cells[number])
+            Some(self.cells.tag(number))
         } else {
-            self.far_cell(address)
+            self.far_tag(address)
         }
     }
 
     // The same of a granule that isn't among the first.
     #[cold]
     #[inline(never)]
-    fn far_cell(&self, address: u64) -> Option<&Cell>
+    fn far_tag(&self, address: u64) -> Option<Tag>
         ensures there { IfSome result (λ _. IsTrue (is_granule self.now.config.granules address)) }
-        ensures cell { unwrap_or (option_map cell_of (option_copied result)) spec.Undelegated ≡ cells_of self.now address }
+        ensures tag { unwrap_or result tags.Undelegated ≡ tag_of (cells_of self.now address) }
     {
         match self.place(address) {
-            Some(place) => Some(&self.cells[place]),
+            Some(place) => Some(self.cells.tag(place)),
             None => None,
         }
     }
 
     /// The realm whose descriptor lies in the granule at the address, where one does.
+    #[inline(always)]
     pub(crate) fn realm_in(&self, address: u64) -> Option<&Realm>
         ensures { option_copied result ≡ realms_of (cells_of self.now) address }
     {
-        match self.cell(address) {
-            Some(Cell::Rd(descriptor)) => Some(descriptor.realm()),
-            _ => None,
+        match self.place(address) {
+            Some(place) => self.cells.realm(place),
+            None => None,
+        }
+    }
+
+    /// The REC whose granule is at the address, where it is one's.
+    #[inline(always)]
+    pub(crate) fn rec_in(&self, address: u64) -> Option<&Rec>
+        ensures { option_copied result ≡ recs_of (cells_of self.now) address }
+    {
+        match self.place(address) {
+            Some(place) => self.cells.rec(place),
+            None => None,
         }
     }
 
     /// The table that lies in the granule at the address, where one does.
+    #[inline(always)]
     pub(crate) fn table_in(&self, address: u64) -> Option<&Table>
         ensures { option_copied result ≡ tables_of (cells_of self.now) address }
     {
-        match self.cell(address) {
-            Some(Cell::Rtt(table)) => Some(table),
-            _ => None,
+        match self.place(address) {
+            Some(place) => self.cells.table(place),
+            None => None,
         }
     }
 
@@ -191,33 +200,32 @@ impl CellList {
         if address % GRANULE_BYTES != 0 || number >= self.places.near() {
             return None;
         }
-        match &self.cells[number] {
-            Cell::Rtt(table) => Some(table),
-            _ => None,
+        match self.cells.table(number) {
+            Some(table) => Some(table),
+            None => None,
         }
     }
 
-    /// Puts a cell in the place of a granule's.
+    /// Puts what is no REC in the place of a granule's cell.
     #[inline(always)]
-    pub(crate) fn put(&mut self, granule: u64, cell: Cell)
-        requires { IsTrue (is_granule self.old.config.granules granule) }
+    pub(crate) fn put(&mut self, granule: u64, slot: Slot)
+        requires granule { IsTrue (is_granule self.old.config.granules granule) }
+        requires plain { number_of slot ≡ 0 }
         ensures size { self.new.config ≡ self.old.config }
-        ensures cells { cells_of self.new ≡ put (cells_of self.old) granule (cell_of cell) }
+        ensures cells { cells_of self.new ≡ put (cells_of self.old) granule (seen [] slot) }
     {
         let place = self.made_place(granule);
-        self.cells[place] = cell;
+        self.cells.put(place, slot);
     }
-}
 
-// Puts the cells of a block of granules behind the others, for which there is room.
-fn push_block(cells: &mut Vec<Cell>)
-    requires { vec_len cells.old + 512 ≤ vec_capacity cells.old }
-    ensures items { cells.new.items ≡ cells.old.items ++ replicate 512 Undelegated }
-    ensures len { vec_len cells.new ≡ vec_len cells.old + 512 }
-    ensures capacity { vec_capacity cells.new ≡ vec_capacity cells.old }
-{
-    for _ in 0..BLOCK {
-        cells.push_reserved(Cell::Undelegated);
+    /// Puts a REC there.
+    pub(crate) fn put_rec(&mut self, granule: u64, rec: Rec)
+        requires { IsTrue (is_granule self.old.config.granules granule) }
+        ensures size { self.new.config ≡ self.old.config }
+        ensures cells { cells_of self.new ≡ put (cells_of self.old) granule (spec.Rec rec) }
+    {
+        let place = self.made_place(granule);
+        self.cells.put_rec(place, rec);
     }
 }
 

@@ -5,8 +5,9 @@ ghost use Rattle.shape_laws.specs.Whole as whole;
 
 use crate::beside_changes::{change_places, free_vmid, uncount_rec};
 use crate::granules::Granules;
+use crate::slot::Slot;
 use crate::walks::table_size;
-use granule_cells::{Cell, Descriptor};
+use granule_cells::Descriptor;
 use granule_state::Pa;
 use realm_desc::{Realm, Rec};
 use rmm_spec::{Entry, EntryChange, Place, RealmChange, RecChange, Ripas, Tag, TagChange};
@@ -54,8 +55,8 @@ impl Granules {
         let Ok(table) = root_table(self.alloc, rd, width, level) else {
             return Err(AllocError);
         };
-        self.list.put(rd, Cell::Rd(realm));
-        self.list.put(root, Cell::Rtt(table));
+        self.list.put(rd, Slot::Rd(realm));
+        self.list.put(root, Slot::Rtt(table));
         self.side.set_vmid(vmid, Some(Pa::new(rd)));
         Ok(())
     }
@@ -68,8 +69,8 @@ impl Granules {
         ensures whole { whole_of self.new ≡ whole_changed (config_of self.old) (whole_of self.old) (change.RealmDestroyed rd root) }
     {
         free_vmid(&self.list, &mut self.side, rd);
-        self.list.put(rd, Cell::Delegated);
-        self.list.put(root, Cell::Delegated);
+        self.list.put(rd, Slot::Delegated);
+        self.list.put(root, Slot::Delegated);
     }
 
     #[inline(never)]
@@ -90,9 +91,9 @@ impl Granules {
         let _granules = self.list.config.granules();
         let made = Rec::new(Pa::new(rd), mpidr, flags, Pa::new(aux0), Pa::new(aux1));
         self.side.count_rec(Pa::new(rd));
-        self.list.put(rec, Cell::Rec(made));
-        self.list.put(aux0, Cell::RecAux);
-        self.list.put(aux1, Cell::RecAux);
+        self.list.put_rec(rec, made);
+        self.list.put(aux0, Slot::RecAux);
+        self.list.put(aux1, Slot::RecAux);
         self.list.count_rec(rd, mpidr, flags);
     }
 
@@ -104,9 +105,9 @@ impl Granules {
         ensures whole { whole_of self.new ≡ whole_changed (config_of self.old) (whole_of self.old) (change.RecDestroyed rec aux0 aux1) }
     {
         uncount_rec(&self.list, &mut self.side, rec);
-        self.list.put(rec, Cell::Delegated);
-        self.list.put(aux0, Cell::Delegated);
-        self.list.put(aux1, Cell::Delegated);
+        self.list.put(rec, Slot::Delegated);
+        self.list.put(aux0, Slot::Delegated);
+        self.list.put(aux1, Slot::Delegated);
     }
 
     #[inline(always)]
@@ -153,7 +154,7 @@ impl Granules {
         let entry = Entry::Table(rtt);
         self.list
             .change_entries(Some(above), &EntryChange::Replaced { number, entry });
-        self.list.put(rtt, Cell::Rtt(table));
+        self.list.put(rtt, Slot::Rtt(table));
         self.near.keep(rd, level, number, Some(rtt));
         Ok(())
     }
@@ -168,7 +169,7 @@ impl Granules {
         let above = self.table_at(rd, level - 1, number / 512);
         self.list
             .change_entries(above, &EntryChange::Replaced { number, entry });
-        self.list.put(rtt, Cell::Delegated);
+        self.list.put(rtt, Slot::Delegated);
     }
 
     #[inline(never)]

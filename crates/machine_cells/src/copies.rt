@@ -1,11 +1,16 @@
 //! All granules once more.
 
-ghost use Rattle.std.specs.Prelude.{◌≡◌, IfOk};
+ghost use Rattle.std.specs.Prelude.{◌≡◌, ◌<◌, ◌≤◌, ℕ, length, IfOk, vec_capacity};
+ghost use Rattle.granule_cells.specs.Seen.{cell_of};
+ghost use Rattle.machine_cells.specs.declared.slot.Slot.TheVariants as kind;
+ghost use Rattle.machine_cells.specs.Held.{seen};
 
 use crate::cell_list::CellList;
 use crate::granules::Granules;
 use crate::near::Near;
 use crate::places::{CPUS, Places};
+use crate::slot::{HousedRec, Slot};
+use crate::slot_list::SlotList;
 use granule_cells::{Cell, CpuPlace, Descriptor};
 use std::alloc::{AllocError, Global};
 
@@ -42,15 +47,36 @@ impl CellList {
         ensures cells { IfOk result (λ list. cells_of list ≡ cells_of self.now) }
     {
         let places = self.places.copy(alloc)?;
-        let mut cells = Vec::with_capacity(alloc, self.places.room())?;
-        for cell in &self.cells {
-            cells.push_reserved(copied_cell(alloc, cell)?);
-        }
+        let cells = self.cells.copy(alloc)?;
         Ok(CellList {
             config: self.config,
             places,
             cells,
         })
+    }
+}
+
+impl SlotList {
+    ghost use Rattle.std.specs.Prelude.{◌≡◌, ◌<◌, length, IfOk};
+    ghost use Rattle.granule_cells.specs.Seen.{cell_of};
+    ghost use Rattle.machine_cells.specs.Held.{cell_at};
+
+    /// The same cells once more, with as much room.
+    pub(crate) fn copy(&self, alloc: Global) -> Result<SlotList, AllocError>
+        ensures { IfOk result (λ list. list ≡ self.now) }
+    {
+        let room = self.slots.capacity();
+        let slots = copied_slots(alloc, self.slots.as_slice(), room)?;
+        let recs = copied_recs(alloc, self.recs.as_slice(), room)?;
+        Ok(SlotList { slots, recs })
+    }
+
+    /// A copy of the cell at a place.
+    pub(crate) fn copied_cell(&self, alloc: Global, place: usize) -> Result<Cell, AllocError>
+        requires { place < length self.now.items }
+        ensures { IfOk result (λ cell. cell_of cell ≡ cell_at self.now place) }
+    {
+        copied_seen(alloc, &self.slots[place], self.recs.as_slice())
     }
 }
 
@@ -69,17 +95,55 @@ impl Places {
     }
 }
 
-/// The same cell once more.
-pub(crate) fn copied_cell(alloc: Global, cell: &Cell) -> Result<Cell, AllocError>
-    ensures { IfOk result (λ copy. copy ≡ cell.now) }
+// The same slots once more, with so much room.
+fn copied_slots(alloc: Global, slots: &[Slot], room: usize) -> Result<Vec<Slot>, AllocError>
+    requires { length slots.now ≤ room }
+    ensures items { IfOk result (λ copy. copy.items ≡ slots.now) }
+    ensures room { IfOk result (λ copy. vec_capacity copy ≡ room) }
 {
-    match cell {
-        Cell::Undelegated => Ok(Cell::Undelegated),
-        Cell::Delegated => Ok(Cell::Delegated),
-        Cell::Rd(descriptor) => Ok(Cell::Rd(Descriptor::new(alloc, *descriptor.realm())?)),
-        Cell::Rec(rec) => Ok(Cell::Rec(*rec)),
-        Cell::RecAux => Ok(Cell::RecAux),
-        Cell::Data => Ok(Cell::Data),
-        Cell::Rtt(table) => Ok(Cell::Rtt(table.copy(alloc)?)),
+    let mut copy = Vec::with_capacity(alloc, room)?;
+    for slot in slots {
+        copy.push_reserved(copied_slot(alloc, slot)?);
+    }
+    Ok(copy)
+}
+
+fn copied_slot(alloc: Global, slot: &Slot) -> Result<Slot, AllocError>
+    ensures { IfOk result (λ copy. copy ≡ slot.now) }
+{
+    match slot {
+        Slot::Undelegated => Ok(Slot::Undelegated),
+        Slot::Delegated => Ok(Slot::Delegated),
+        Slot::Rd(descriptor) => Ok(Slot::Rd(Descriptor::new(alloc, *descriptor.realm())?)),
+        Slot::Rec(number) => Ok(Slot::Rec(*number)),
+        Slot::RecAux => Ok(Slot::RecAux),
+        Slot::Data => Ok(Slot::Data),
+        Slot::Rtt(table) => Ok(Slot::Rtt(table.copy(alloc)?)),
+    }
+}
+
+// The same RECs once more, with so much room.
+fn copied_recs(alloc: Global, recs: &[HousedRec], room: usize) -> Result<Vec<HousedRec>, AllocError>
+    ensures items { IfOk result (λ copy. copy.items ≡ recs.now) }
+    ensures room { IfOk result (λ copy. room ≤ vec_capacity copy) }
+{
+    let mut copy = Vec::with_capacity(alloc, room)?;
+    copy.extend_from_slice(recs)?;
+    Ok(copy)
+}
+
+// The cell that a slot stands for.
+fn copied_seen(alloc: Global, slot: &Slot, recs: &[HousedRec]) -> Result<Cell, AllocError>
+    requires { (number : ℕ) → slot.now ≡ kind.Rec number → number < length recs.now }
+    ensures { IfOk result (λ cell. cell_of cell ≡ seen recs.now slot.now) }
+{
+    match slot {
+        Slot::Undelegated => Ok(Cell::Undelegated),
+        Slot::Delegated => Ok(Cell::Delegated),
+        Slot::Rd(descriptor) => Ok(Cell::Rd(Descriptor::new(alloc, *descriptor.realm())?)),
+        Slot::Rec(number) => Ok(Cell::Rec(recs[*number].rec)),
+        Slot::RecAux => Ok(Cell::RecAux),
+        Slot::Data => Ok(Cell::Data),
+        Slot::Rtt(table) => Ok(Cell::Rtt(table.copy(alloc)?)),
     }
 }

@@ -3,7 +3,7 @@
 use crate::cell_list::CellList;
 use crate::near::Near;
 use crate::places::Places;
-use granule_cells::{Cell, Side};
+use granule_cells::Side;
 use granule_state::{Config, MOST_GRANULES, granule_at};
 use realm_desc::{Realm, Rec};
 use rmm_spec::{Tag, Version};
@@ -22,7 +22,8 @@ pub struct Granules {
 
 impl Granules {
     ghost use Rattle.std.specs.Prelude.{◌≡◌, ◌≤◌, IfOk, option_copied};
-    ghost use Rattle.rmm_spec.specs.Cell as spec;
+    ghost use Rattle.rmm_spec.specs.declared.tag.Tag.TheVariants as tags;
+    ghost use Rattle.rmm_spec.specs.Cell.{tag_of};
     ghost use Rattle.rmm_spec.specs.Lookup.{has_tag};
     ghost use Rattle.rmm_spec.specs.State.{opening};
     ghost use Rattle.machine_cells.specs.Whole.{cells_of, count_of, state_in, tables_at, IsShapedIn};
@@ -66,8 +67,8 @@ impl Granules {
     pub fn tag(&self, address: u64) -> Tag
         ensures { result ≡ (state_in self.now).tag address }
     {
-        match self.list.cell(address) {
-            Some(cell) => cell.tag(),
+        match self.list.tag(address) {
+            Some(tag) => tag,
             None => Tag::Undelegated,
         }
     }
@@ -77,8 +78,8 @@ impl Granules {
     pub fn has_tag(&self, address: u64, tag: Tag) -> bool
         ensures { result ≡ has_tag (state_in self.now) address tag }
     {
-        match self.list.cell(address) {
-            Some(cell) => cell.tag() == tag,
+        match self.list.tag(address) {
+            Some(found) => found == tag,
             None => self.has_tag_untouched(address, tag),
         }
     }
@@ -87,7 +88,7 @@ impl Granules {
     #[cold]
     #[inline(never)]
     fn has_tag_untouched(&self, address: u64, tag: Tag) -> bool
-        requires { cells_of self.now.list address ≡ spec.Undelegated }
+        requires { tags.Undelegated ≡ tag_of (cells_of self.now.list address) }
         ensures { result ≡ has_tag (state_in self.now) address tag }
     {
         match granule_at(&self.list.config, address) {
@@ -116,9 +117,6 @@ impl Granules {
     pub fn rec(&self, address: u64) -> Option<&Rec>
         ensures { option_copied result ≡ (state_in self.now).rec address }
     {
-        match self.list.cell(address) {
-            Some(Cell::Rec(rec)) => Some(rec),
-            _ => None,
-        }
+        self.list.rec_in(address)
     }
 }

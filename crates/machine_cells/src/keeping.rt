@@ -1,17 +1,18 @@
 //! A state that is kept to be compared with.
 
-ghost use Rattle.std.specs.Prelude.{◌≡◌, IfOk, IsTrue, map, flat_map};
+ghost use Rattle.std.specs.Prelude.{◌≡◌, ◌+◌, ◌<◌, ◌≤◌, IfOk, IsTrue, length, map, flat_map, slice_range};
 ghost use Rattle.std.specs.Rc.{rc_value};
+ghost use Rattle.granule_cells.specs.Seen.{cell_of};
+ghost use Rattle.machine_cells.specs.Held.{cell_at};
 ghost use Rattle.machine_cells.specs.Kept.{cells_in};
 
-use crate::copies::copied_cell;
 use crate::granules::Granules;
-use crate::same::{same_cell, same_config};
+use crate::same::same_config;
+use crate::slot_list::SlotList;
 use granule_cells::Cell;
 use granule_places::GranulePlaces;
 use granule_state::Config;
 use std::alloc::{AllocError, Global};
-use std::cmp::min;
 use std::rc::Rc;
 
 /// How many granules' cells a block has at most.
@@ -42,7 +43,7 @@ impl Granules {
         ensures { IfOk result (λ kept. kept_state kept ≡ state_in self.now) }
     {
         let places = self.list.places.copy(self.alloc)?;
-        let blocks = kept_blocks(self.alloc, self.list.cells.as_slice(), near)?;
+        let blocks = kept_blocks(self.alloc, &self.list.cells, near)?;
         Ok(KeptState {
             config: self.list.config,
             places,
@@ -57,27 +58,41 @@ impl Granules {
     {
         same_config(&kept.config, &self.list.config)
             && kept.places.is_same(&self.list.places)
-            && are_same_blocks(kept.blocks.as_slice(), self.list.cells.as_slice())
+            && are_same_blocks(kept.blocks.as_slice(), &self.list.cells)
     }
 }
 
 // The cells in blocks.
 fn kept_blocks(
     alloc: Global,
-    cells: &[Cell],
+    cells: &SlotList,
     near: Option<&KeptState>,
 ) -> Result<Vec<Rc<Block>>, AllocError>
-    ensures { IfOk result (λ kept. flat_map (λ block. cells_in (rc_value block)) kept.items ≡ cells.now) }
+    ensures { IfOk result (λ kept. flat_map (λ block. cells_in (rc_value block)) kept.items ≡ cells.now.items) }
 {
     let mut kept = Vec::new(alloc);
-    let mut rest = cells;
-    while !rest.is_empty() {
-        let (front, behind) = rest.split_at(min(BLOCK, rest.len()));
+    let count = cells.len();
+    let mut from = 0;
+    while from < count {
+        let to = block_end(from, count);
         let near = near_block(near, kept.len());
-        kept.push(kept_block(alloc, front, near)?)?;
-        rest = behind;
+        kept.push(kept_block(alloc, cells, from, to, near)?)?;
+        from = to;
     }
     Ok(kept)
+}
+
+// Where a block that begins at a place ends.
+fn block_end(from: usize, count: usize) -> usize
+    requires { from < count }
+    ensures further { from < result }
+    ensures within { result ≤ count }
+{
+    if count - from < BLOCK {
+        count
+    } else {
+        from + BLOCK
+    }
 }
 
 // The block of another state at a place.
@@ -88,34 +103,54 @@ fn near_block(near: Option<&KeptState>, place: usize) -> Option<&Rc<Block>> {
     }
 }
 
-// The cells as one block: the one that is given, where it is the same.
+// The cells from one place up to but not another as one block: the one that is given, where it is the same.
 fn kept_block(
     alloc: Global,
-    cells: &[Cell],
+    cells: &SlotList,
+    from: usize,
+    to: usize,
     near: Option<&Rc<Block>>,
 ) -> Result<Rc<Block>, AllocError>
-    ensures { IfOk result (λ kept. cells_in kept.value ≡ cells.now) }
+    requires order { from ≤ to }
+    requires within { to ≤ length cells.now.items }
+    ensures { IfOk result (λ kept. cells_in kept.value ≡ slice_range cells.now.items from to) }
 {
     if let Some(near) = near {
-        if are_same(near.cells.as_slice(), cells) {
-            return near.clone();
+        if are_same(near.cells.as_slice(), cells, from, to) {
+            return shared(near);
         }
     }
-    let block = new_block(alloc, cells, near)?;
+    let block = new_block(alloc, cells, from, to, near)?;
     match Rc::new(alloc, block) {
         Ok(kept) => Ok(kept),
         Err(_) => Err(AllocError),
     }
 }
 
-// The cells as one block, which shares with another what is the same there.
-fn new_block(alloc: Global, cells: &[Cell], near: Option<&Rc<Block>>) -> Result<Block, AllocError>
-    ensures { IfOk result (λ block. cells_in block ≡ cells.now) }
+// One more owner of a block.
+fn shared(block: &Rc<Block>) -> Result<Rc<Block>, AllocError>
+    ensures { IfOk result (λ kept. kept.value ≡ block.now.value) }
 {
-    let mut kept = Vec::with_capacity(alloc, cells.len())?;
-    for cell in cells {
+    block.clone()
+}
+
+// The same as a new block, which shares with another what is the same there.
+#[tactic(auto, using(crate::proofs::KeptLists::range_none))]
+fn new_block(
+    alloc: Global,
+    cells: &SlotList,
+    from: usize,
+    to: usize,
+    near: Option<&Rc<Block>>,
+) -> Result<Block, AllocError>
+    requires order { from ≤ to }
+    requires within { to ≤ length cells.now.items }
+    ensures { IfOk result (λ block. cells_in block ≡ slice_range cells.now.items from to) }
+{
+    let mut kept = Vec::with_capacity(alloc, to - from)?;
+    for place in from..to {
         let near = near_cell(near, kept.len());
-        kept.push(kept_cell(alloc, cell, near)?)?;
+        kept.push(kept_cell(alloc, cells, place, near)?)?;
     }
     Ok(Block { cells: kept })
 }
@@ -129,15 +164,21 @@ fn near_cell(near: Option<&Rc<Block>>, place: usize) -> Option<&Rc<Cell>> {
 }
 
 // A cell as it is kept: the one that is given, where it is the same.
-fn kept_cell(alloc: Global, cell: &Cell, near: Option<&Rc<Cell>>) -> Result<Rc<Cell>, AllocError>
-    ensures { IfOk result (λ kept. kept.value ≡ cell.now) }
+fn kept_cell(
+    alloc: Global,
+    cells: &SlotList,
+    place: usize,
+    near: Option<&Rc<Cell>>,
+) -> Result<Rc<Cell>, AllocError>
+    requires { place < length cells.now.items }
+    ensures { IfOk result (λ kept. cell_of kept.value ≡ cell_at cells.now place) }
 {
     if let Some(near) = near {
-        if same_cell(near, cell) {
+        if cells.has_cell(place, near) {
             return near.clone();
         }
     }
-    let copy = copied_cell(alloc, cell)?;
+    let copy = cells.copied_cell(alloc, place)?;
     match Rc::new(alloc, copy) {
         Ok(kept) => Ok(kept),
         Err(_) => Err(AllocError),
@@ -145,33 +186,36 @@ fn kept_cell(alloc: Global, cell: &Cell, near: Option<&Rc<Cell>>) -> Result<Rc<C
 }
 
 // Whether the cells are those of the blocks.
-fn are_same_blocks(blocks: &[Rc<Block>], cells: &[Cell]) -> bool
-    ensures { IsTrue result → flat_map (λ block. cells_in (rc_value block)) blocks.now ≡ cells.now }
+fn are_same_blocks(blocks: &[Rc<Block>], cells: &SlotList) -> bool
+    ensures { IsTrue result → flat_map (λ block. cells_in (rc_value block)) blocks.now ≡ cells.now.items }
 {
-    let mut rest = cells;
+    let all = cells.len();
+    let mut from = 0;
     for block in blocks {
         let count = block.cells.len();
-        if rest.len() < count {
+        if all - from < count {
             return false;
         }
-        let (front, behind) = rest.split_at(count);
-        if !are_same(block.cells.as_slice(), front) {
+        let to = from + count;
+        if !are_same(block.cells.as_slice(), cells, from, to) {
             return false;
         }
-        rest = behind;
+        from = to;
     }
-    rest.is_empty()
+    from == all
 }
 
-// Whether each cell is the one that was kept.
-fn are_same(kept: &[Rc<Cell>], cells: &[Cell]) -> bool
-    ensures { IsTrue result → map rc_value kept.now ≡ cells.now }
+// Whether the cells from one place up to but not another are those that were kept.
+fn are_same(kept: &[Rc<Cell>], cells: &SlotList, from: usize, to: usize) -> bool
+    requires order { from ≤ to }
+    requires within { to ≤ length cells.now.items }
+    ensures { IsTrue result → map (λ cell. cell_of (rc_value cell)) kept.now ≡ slice_range cells.now.items from to }
 {
-    if kept.len() != cells.len() {
+    if kept.len() != to - from {
         return false;
     }
-    for place in 0..cells.len() {
-        if !same_cell(&kept[place], &cells[place]) {
+    for place in 0..kept.len() {
+        if !cells.has_cell(from + place, &kept[place]) {
             return false;
         }
     }

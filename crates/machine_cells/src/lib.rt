@@ -18,6 +18,9 @@ mod places;
 mod put_cells;
 mod same;
 mod searches;
+mod slot;
+mod slot_changes;
+mod slot_list;
 mod walks;
 
 pub use granules::Granules;

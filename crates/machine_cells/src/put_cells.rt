@@ -1,16 +1,15 @@
 //! Single cells that a change puts in or changes.
 
-ghost use Rattle.std.specs.Prelude.{◌≡◌, IsTrue};
+ghost use Rattle.std.specs.Prelude.{◌≡◌, [], IsTrue};
 ghost use Rattle.rmm_spec.specs.Cell as spec;
 ghost use Rattle.shape_laws.specs.Whole as whole;
-ghost use Rattle.granule_cells.specs.Seen.{cell_of};
-ghost use Rattle.machine_cells.specs.Changes.{is_plain, fits_entries};
+ghost use Rattle.machine_cells.specs.Changes.{is_plain};
+ghost use Rattle.machine_cells.specs.Held.{number_of, seen};
 
 use crate::cell_list::CellList;
-use granule_cells::Cell;
+use crate::slot::Slot;
 use granule_state::GRANULE_BYTES;
 use rmm_spec::{EntryChange, RealmChange, RecChange, RecUpdate, Tag, TagChange};
-use rtt_table::Table;
 
 impl CellList {
     ghost use Rattle.std.specs.Prelude.{◌≡◌, IfSome, IsTrue};
@@ -29,7 +28,7 @@ impl CellList {
         ensures cells { cells_of self.new ≡ cells_with_tag_change (cells_of self.old) change }
     {
         if let Some(TagChange { granule, tag }) = change {
-            self.put(granule, plain_cell(tag));
+            self.put(granule, plain_slot(tag));
         }
     }
 
@@ -46,9 +45,7 @@ impl CellList {
         let Some(place) = self.place(rd) else {
             return;
         };
-        if let Cell::Rd(descriptor) = &mut self.cells[place] {
-            descriptor.update(update);
-        }
+        self.cells.update_realm(place, update);
     }
 
     /// Counts and measures one REC more of the realm that is there.
@@ -60,9 +57,7 @@ impl CellList {
         let Some(place) = self.place(rd) else {
             return;
         };
-        if let Cell::Rd(descriptor) = &mut self.cells[place] {
-            descriptor.count_rec(index, flags);
-        }
+        self.cells.count_rec(place, index, flags);
     }
 
     /// Updates the REC that is there, where one is updated.
@@ -112,9 +107,7 @@ impl CellList {
         ensures size { self.new.config ≡ self.old.config }
         ensures cells { cells_of self.new ≡ changed_at (cells_of self.old) rec (cell_with_rec update) }
     {
-        if let Cell::Rec(record) = &mut self.cells[place] {
-            record.update(update);
-        }
+        self.cells.update_rec(place, update);
     }
 
     /// Changes the entries of the table that is there, where a granule is given.
@@ -155,49 +148,32 @@ impl CellList {
         ensures size { self.new.config ≡ self.old.config }
         ensures cells { cells_of self.new ≡ changed_at (cells_of self.old) granule (cell_with_entries (entries_changed change)) }
     {
-        if let Cell::Rtt(table) = &mut self.cells[place] {
-            change_table(table, change);
-        }
+        self.cells.change_entries(place, change);
     }
 
     /// The width of the address space that the table there is of.
     pub(crate) fn width_at(&self, granule: u64) -> u8
         ensures { result ≡ width_in (cells_of self.now granule) }
     {
-        match self.cell(granule) {
-            Some(Cell::Rtt(table)) => table.place().width,
-            _ => 0,
+        match self.table_in(granule) {
+            Some(table) => table.place().width,
+            None => 0,
         }
     }
 }
 
-// The cell of a granule that holds nothing.
-fn plain_cell(tag: Tag) -> Cell
+// The slot of a granule that holds nothing.
+#[inline(always)]
+fn plain_slot(tag: Tag) -> Slot
     requires { IsTrue (is_plain tag) }
-    ensures { (before : spec.Cell) → cell_of result ≡ whole.cell_with_tag tag before }
+    ensures plain { number_of result ≡ 0 }
+    ensures cell { (before : spec.Cell) → seen [] result ≡ whole.cell_with_tag tag before }
 {
     match tag {
-        Tag::Undelegated => Cell::Undelegated,
-        Tag::Delegated => Cell::Delegated,
-        Tag::RecAux => Cell::RecAux,
-        Tag::Data => Cell::Data,
+        Tag::Undelegated => Slot::Undelegated,
+        Tag::Delegated => Slot::Delegated,
+        Tag::RecAux => Slot::RecAux,
+        Tag::Data => Slot::Data,
         Tag::Rd | Tag::Rec | Tag::Rtt => unreachable!(),
-    }
-}
-
-// Changes the entries of a table.
-fn change_table(table: &mut Table, change: EntryChange)
-    requires { IsTrue (fits_entries change) }
-    ensures { table.new ≡ record table.old { entries = whole.entries_changed change table.old.entries } }
-{
-    match change {
-        EntryChange::Replaced { number, entry } => {
-            table.set_entry((number % 512) as usize, entry);
-        }
-        EntryChange::RipasSet { first, last, ripas } => {
-            let from = (first % 512) as usize;
-            let to = (last - first / 512 * 512) as usize;
-            table.set_ripas(from, to, ripas);
-        }
     }
 }

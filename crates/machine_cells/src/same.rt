@@ -1,7 +1,12 @@
-//! Whether two cells are the same.
+//! Whether a cell is the same as another.
 
-ghost use Rattle.std.specs.Prelude.{◌≡◌, IsTrue};
+ghost use Rattle.std.specs.Prelude.{◌≡◌, ◌<◌, ℕ, length, IsTrue};
+ghost use Rattle.granule_cells.specs.Seen.{cell_of};
+ghost use Rattle.machine_cells.specs.declared.slot.Slot.TheVariants as kind;
+ghost use Rattle.machine_cells.specs.Held.{seen};
 
+use crate::slot::{HousedRec, Slot};
+use crate::slot_list::SlotList;
 use granule_cells::Cell;
 use granule_state::Config;
 use measure::Rem;
@@ -31,25 +36,40 @@ fn same_version(one: Version, other: Version) -> bool
     }
 }
 
-/// Whether the same lies in two granules.
-pub(crate) fn same_cell(one: &Cell, other: &Cell) -> bool
-    ensures { IsTrue result → one.now ≡ other.now }
+impl SlotList {
+    ghost use Rattle.std.specs.Prelude.{◌≡◌, ◌<◌, length, IsTrue};
+    ghost use Rattle.granule_cells.specs.Seen.{cell_of};
+    ghost use Rattle.machine_cells.specs.Held.{cell_at};
+
+    /// Whether the cell at a place is the given one.
+    pub(crate) fn has_cell(&self, place: usize, cell: &Cell) -> bool
+        requires { place < length self.now.items }
+        ensures { IsTrue result → cell_of cell.now ≡ cell_at self.now place }
+    {
+        is_seen(cell, &self.slots[place], self.recs.as_slice())
+    }
+}
+
+// Whether a cell is the one that a slot stands for.
+fn is_seen(cell: &Cell, slot: &Slot, recs: &[HousedRec]) -> bool
+    requires { (number : ℕ) → slot.now ≡ kind.Rec number → number < length recs.now }
+    ensures { IsTrue result → cell_of cell.now ≡ seen recs.now slot.now }
 {
-    match one {
-        Cell::Undelegated => matches!(other, Cell::Undelegated),
-        Cell::Delegated => matches!(other, Cell::Delegated),
-        Cell::RecAux => matches!(other, Cell::RecAux),
-        Cell::Data => matches!(other, Cell::Data),
-        Cell::Rd(descriptor) => match other {
-            Cell::Rd(second) => same_realm(descriptor.realm(), second.realm()),
+    match slot {
+        Slot::Undelegated => matches!(cell, Cell::Undelegated),
+        Slot::Delegated => matches!(cell, Cell::Delegated),
+        Slot::RecAux => matches!(cell, Cell::RecAux),
+        Slot::Data => matches!(cell, Cell::Data),
+        Slot::Rd(descriptor) => match cell {
+            Cell::Rd(other) => same_realm(other.realm(), descriptor.realm()),
             _ => false,
         },
-        Cell::Rec(rec) => match other {
-            Cell::Rec(second) => same_rec(rec, second),
+        Slot::Rec(number) => match cell {
+            Cell::Rec(other) => same_rec(other, &recs[*number].rec),
             _ => false,
         },
-        Cell::Rtt(table) => match other {
-            Cell::Rtt(second) => same_table(table, second),
+        Slot::Rtt(table) => match cell {
+            Cell::Rtt(other) => same_table(other, table),
             _ => false,
         },
     }

@@ -1,7 +1,7 @@
 -- Columns of entries, and the entries that they stand for.
 use Rattle.std.proofs.Common.{◌≡◌, ℕ, zero, suc, ◌+◌, ◌-◌, ◌<◌, ◌≤◌, List, [], ◌∷◌, ◌++◌, map, take, drop, replicate, length, get_or, set, Some, refl, sym, ap, ◌∙◌, subst, arith}
 use Rattle.std.specs.List.{slice_range, slice_get}
-use Rattle.std.proofs.lemmas.List.{map-append, map-set, drop-drop, length-map, get_or-map}
+use Rattle.std.proofs.lemmas.List.{append-nil, map-append, map-set, drop-drop, drop_all, drop_at, length-map, length-replicate, get_or-map, replicate-append-replicate, take_all, take_at}
 use Rattle.std.proofs.lemmas.Option.{slice_get-get_or}
 use borrow.Rule.Slice.PartMut.{put_mid}
 use Rattle.rmm_spec.specs.declared.entry.Entry.{Entry}
@@ -139,7 +139,7 @@ stretch-ends first last ripas entries order =
     ap (λ (rest : List Entry). take first entries ++ (map (entry_with_ripas ripas) (take (last - first) (drop first entries)) ++ rest)) ends
 
 -- those of entries of which a stretch has another RIPAS: the kinds of the stretch change, and no address does
-columns-ripas : (entries : List Entry) (kinds changed : List Kind) (addresses : List ℕ) (first last : ℕ) (ripas : Ripas)
+pub columns-ripas : (entries : List Entry) (kinds changed : List Kind) (addresses : List ℕ) (first last : ℕ) (ripas : Ripas)
     → AreColumns entries kinds addresses
     → first ≤ last → changed ≡ map (kind_with_ripas ripas) (slice_range kinds first last)
     → AreColumns (entries_with_ripas first last ripas entries) (put_mid first (last - first) kinds changed) addresses
@@ -166,24 +166,17 @@ as_many entries others kinds changed addresses columns changes =
     sym (length-map others entry_address)
     ∙ (ap (λ (cells : List ℕ). length cells) (sym changes.of_addresses ∙ columns.of_addresses) ∙ length-map entries entry_address)
 
--- what is written over a whole list is left
-whole-written : {X : Type 0} (n : ℕ) (written rest : List X) → length written ≡ n → take n (written ++ rest) ≡ written
-whole-written zero [] rest size = refl
-whole-written zero (w ∷ written) rest size = absurd (omega (arith, size))
-whole-written (suc n) [] rest size = absurd (omega (arith, size))
-whole-written (suc n) (w ∷ written) rest size = ap (λ ys. w ∷ ys) (whole-written n written rest (omega (arith, size)))
-
--- the same columns, where the kinds are written over a whole list of so many
-pub columns-ripas-written : (entries : List Entry) (kinds changed : List Kind) (addresses : List ℕ) (first last : ℕ) (ripas : Ripas) (n : ℕ)
-    → AreColumns entries kinds addresses → first ≤ last → n ≡ length kinds → changed ≡ map (kind_with_ripas ripas) (slice_range kinds first last)
-    → AreColumns (entries_with_ripas first last ripas entries)
-    (take n (put_mid first (last - first) kinds changed ++ drop (length (put_mid first (last - first) kinds changed)) kinds)) addresses
-columns-ripas-written entries kinds changed addresses first last ripas n before order at is_changed =
-    let written = put_mid first (last - first) kinds changed in
-    let columns = columns-ripas entries kinds changed addresses first last ripas before order is_changed in
-    let size : length written ≡ n =
-    (columns-size (entries_with_ripas first last ripas entries) written addresses columns).0
-    ∙ (as_many entries (entries_with_ripas first last ripas entries) kinds written addresses before columns
-    ∙ (sym (columns-size entries kinds addresses before).0 ∙ sym at)) in
-    subst (λ (ks : List Kind). AreColumns (entries_with_ripas first last ripas entries) ks addresses)
-    (sym (whole-written n written (drop (length written) kinds) size)) columns
+-- copies of one element of which all after the first n are written over with another
+pub halves-written : {X : Type 0} (n m : ℕ) (x y : X) (written : List X) → written ≡ map (λ (k : X). y) (slice_range (replicate (n + m) x) n (n + m))
+    → put_mid n (n + m - n) (replicate (n + m) x) written ≡ replicate n x ++ replicate m y
+halves-written {X = X} n m x y written is =
+    let count : n + m - n ≡ m = omega arith in
+    let split = sym (replicate-append-replicate n m x) in
+    let front : take n (replicate (n + m) x) ≡ replicate n x = ap (take n) split ∙ take_at (replicate n x) (replicate m x) n (length-replicate n x) in
+    let back : drop n (replicate (n + m) x) ≡ replicate m x = ap (drop n) split ∙ drop_at (replicate n x) (replicate m x) n (length-replicate n x) in
+    let many : length (replicate m x) ≤ m = omega (arith, length-replicate m x) in
+    let middle : written ≡ replicate m y =
+    is ∙ ((λ i. map (λ (k : X). y) (take (count i) (back i)))
+    ∙ (ap (map (λ (k : X). y)) (take_all m (replicate m x) many) ∙ map-copies (λ (k : X). y) m x)) in
+    let end : drop (n + m - n) (drop n (replicate (n + m) x)) ≡ [] = (λ i. drop (count i) (back i)) ∙ drop_all m (replicate m x) many in
+    (λ i. front i ++ (middle i ++ end i)) ∙ ap (λ ys. replicate n x ++ ys) (append-nil (replicate m y))

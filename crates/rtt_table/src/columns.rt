@@ -19,11 +19,12 @@ pub const ENTRIES: usize = 512;
 /// How many stand in one half of its addresses.
 const HALF: usize = 256;
 
-/// 512 entries: the address that each names, or 0, and what each is. Both columns are written where they stay.
+/// 512 entries: what each is, and the address that each names, or 0. The kinds stand in the columns themselves, so that most look-ups
+/// follow no pointer to them.
 #[derive(Drop)]
 pub struct Columns {
     addresses: Vec<u64>,
-    kinds: Vec<Kind>,
+    kinds: [Kind; ENTRIES],
 }
 
 impl Model for Columns {
@@ -33,10 +34,10 @@ impl Model for Columns {
 
     ghost Value = { List Entry };
 
-    ghost view = { λ c. joined c.kinds.items c.addresses.items };
+    ghost view = { λ c. joined c.kinds c.addresses.items };
 
-    ghost invariant = { λ c. (length (joined c.kinds.items c.addresses.items) ≡ 512)
-        × AreColumns (joined c.kinds.items c.addresses.items) c.kinds.items c.addresses.items };
+    ghost invariant = { λ c. (length (joined c.kinds c.addresses.items) ≡ 512)
+        × AreColumns (joined c.kinds c.addresses.items) c.kinds c.addresses.items };
 }
 
 impl Columns {
@@ -45,7 +46,7 @@ impl Columns {
         ensures { IfOk result (λ columns. columns ≡ replicate 256 lower ++ replicate 256 upper) }
     {
         let addresses = column(alloc, entry_address(lower), entry_address(upper))?;
-        let kinds = column(alloc, kind_of(lower), kind_of(upper))?;
+        let kinds = halves(kind_of(lower), kind_of(upper));
         Ok(Columns { addresses, kinds })
     }
 
@@ -54,7 +55,7 @@ impl Columns {
         ensures { IfOk result (λ columns. columns ≡ self.now) }
     {
         let addresses = Vec::from_slice(alloc, self.addresses.as_slice())?;
-        let kinds = Vec::from_slice(alloc, self.kinds.as_slice())?;
+        let kinds = self.kinds;
         Ok(Columns { addresses, kinds })
     }
 
@@ -94,18 +95,37 @@ impl Columns {
         requires within { to ≤ 512 }
         ensures { self.new ≡ entries_with_ripas from to ripas self.old }
     {
-        change_ripas(&mut self.kinds.as_mut_slice()[from..to], ripas);
+        change_ripas(&mut self.kinds[from..to], ripas);
     }
 }
 
-// 256 copies of one value, and 256 of another behind them.
-fn column<T: Copy>(alloc: Global, lower: T, upper: T) -> Result<Vec<T>, AllocError>
+// 256 copies of one address, and 256 of another behind them.
+fn column(alloc: Global, lower: u64, upper: u64) -> Result<Vec<u64>, AllocError>
     ensures { IfOk result (λ column. column.items ≡ replicate 256 lower ++ replicate 256 upper) }
 {
     let mut column = Vec::with_capacity(alloc, ENTRIES)?;
     column.resize(HALF, lower)?;
     column.resize(ENTRIES, upper)?;
     Ok(column)
+}
+
+// 256 copies of one kind, and 256 of another behind them.
+#[inline(always)]
+fn halves(lower: Kind, upper: Kind) -> [Kind; ENTRIES]
+    ensures { result ≡ replicate 256 lower ++ replicate 256 upper }
+{
+    let mut kinds = [lower; ENTRIES];
+    fill(&mut kinds[HALF..], upper);
+    kinds
+}
+
+// Writes one kind over all.
+fn fill(kinds: &mut [Kind], kind: Kind)
+    ensures { kinds.new ≡ map (λ _. kind) kinds.old }
+{
+    for old in kinds.iter_mut() {
+        *old = kind;
+    }
 }
 
 // Whether each entry is of the given kind. It looks at all of them, so that many are compared at a time.

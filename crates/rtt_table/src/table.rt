@@ -4,7 +4,7 @@ ghost use Rattle.std.specs.Prelude.{◌≡◌, ◌+◌, ◌++◌, ◌<◌, ◌�
 ghost use Rattle.std.specs.List.{list_any};
 ghost use Rattle.rmm_spec.specs.Walk.{is_live, is_table, passes};
 ghost use Rattle.rmm_spec.specs.Table.{entry_index, entries_with_ripas, AreAlike};
-ghost use Rattle.rtt_table.specs.Counts.{one_if};
+ghost use Rattle.rtt_table.specs.Counts.{one_if, AreCounts};
 
 use crate::columns::{Columns, ENTRIES};
 use granule_state::Ipa;
@@ -22,13 +22,19 @@ pub fn index_of(level: u8, ipa: Ipa) -> usize
     entry_number(level, ipa.address()) as usize % ENTRIES
 }
 
-/// A translation table on the heap, with the counts of its live entries and of its links.
+/// A translation table on the heap: whoever holds it holds one pointer.
 #[derive(Drop)]
 pub struct Table {
+    body: Box<Body>,
+}
+
+// What a table has, with the counts of its live entries and of its links.
+#[derive(Drop)]
+struct Body {
     place: Place,
-    columns: Columns,
     live: u16,
     links: u16,
+    columns: Columns,
 }
 
 impl Model for Table {
@@ -37,9 +43,9 @@ impl Model for Table {
 
     ghost Value = { TableRecord };
 
-    ghost view = { λ t. record { place = t.place; entries = t.columns } };
+    ghost view = { λ t. record { place = t.body.value.place; entries = t.body.value.columns } };
 
-    ghost invariant = { λ t. AreCounts t.columns t.live t.links };
+    ghost invariant = { λ t. AreCounts t.body.value.columns t.body.value.live t.body.value.links };
 }
 
 impl Table {
@@ -61,31 +67,45 @@ impl Table {
         ensures { IfOk result (λ t. t ≡ record { place = place; entries = replicate 256 lower ++ replicate 256 upper }) }
     {
         let columns = Columns::halves(alloc, lower, upper)?;
-        Ok(Table {
+        let body = Body {
             place,
-            columns,
             live: half_or_none(is_live(lower)) + half_or_none(is_live(upper)),
             links: half_or_none(is_table(lower)) + half_or_none(is_table(upper)),
-        })
+            columns,
+        };
+        Table::boxed(alloc, body)
     }
 
     /// The same table once more.
     pub fn copy(&self, alloc: Global) -> Result<Self, AllocError>
         ensures { IfOk result (λ t. t ≡ self.now) }
     {
-        let columns = self.columns.copy(alloc)?;
-        Ok(Table {
-            place: self.place,
+        let columns = self.body.columns.copy(alloc)?;
+        let body = Body {
+            place: self.body.place,
+            live: self.body.live,
+            links: self.body.links,
             columns,
-            live: self.live,
-            links: self.links,
-        })
+        };
+        Table::boxed(alloc, body)
+    }
+
+    // The table that has this.
+    #[inline(always)]
+    fn boxed(alloc: Global, body: Body) -> Result<Self, AllocError>
+        requires { AreCounts body.columns body.live body.links }
+        ensures { IfOk result (λ t. t ≡ record { place = body.place; entries = body.columns }) }
+    {
+        match Box::new(alloc, body) {
+            Ok(body) => Ok(Table { body }),
+            Err(_) => Err(AllocError),
+        }
     }
 
     pub fn place(&self) -> Place
         ensures { result ≡ self.now.place }
     {
-        self.place
+        self.body.place
     }
 
     pub fn entry(&self, index: usize) -> Entry
@@ -93,38 +113,39 @@ impl Table {
         ensures value { slice_get self.now.entries index ≡ Some result }
         ensures count { length self.now.entries ≡ 512 }
     {
-        self.columns.entry(index)
+        self.body.columns.entry(index)
     }
 
     pub fn set_entry(&mut self, at: usize, entry: Entry)
         requires { at < 512 }
         ensures { self.new ≡ record self.old { entries = slice_set self.old.entries at entry } }
     {
-        let old = self.columns.entry(at);
-        self.live = recounted(self.live, is_live(old), is_live(entry));
-        self.links = recounted(self.links, is_table(old), is_table(entry));
-        self.columns.set_entry(at, entry);
+        let body = &mut *self.body;
+        let old = body.columns.entry(at);
+        body.live = recounted(body.live, is_live(old), is_live(entry));
+        body.links = recounted(body.links, is_table(old), is_table(entry));
+        body.columns.set_entry(at, entry);
     }
 
     /// Whether some entry is assigned or is a link to a table.
     pub fn is_live(&self) -> bool
         ensures { result ≡ list_any is_live self.now.entries }
     {
-        self.live > 0
+        self.body.live > 0
     }
 
     /// Whether some entry is a link to a table.
     pub fn has_link(&self) -> bool
         ensures { result ≡ list_any is_table self.now.entries }
     {
-        self.links > 0
+        self.body.links > 0
     }
 
     /// A table has 512 entries.
     pub fn is_whole(&self)
         ensures { length self.now.entries ≡ 512 }
     {
-        self.columns.is_whole();
+        self.body.columns.is_whole();
     }
 
     /// Whether some entry is one that is looked for. A live one is never unassigned as another is, so entries are looked at only
@@ -135,7 +156,7 @@ impl Table {
         match test {
             EntryTest::Live => self.is_live(),
             EntryTest::Link => self.has_link(),
-            EntryTest::Unlike(first) => self.is_live() || self.columns.has_unlike(first),
+            EntryTest::Unlike(first) => self.is_live() || self.body.columns.has_unlike(first),
         }
     }
 
@@ -156,7 +177,7 @@ impl Table {
     pub fn set_place(&mut self, place: Place)
         ensures { self.new ≡ record self.old { place = place } }
     {
-        self.place = place;
+        self.body.place = place;
     }
 
     /// Changes the RIPAS of the entries from `from` up to but not `to`, of those that have one.
@@ -165,7 +186,7 @@ impl Table {
         requires within { to ≤ 512 }
         ensures { self.new ≡ record self.old { entries = entries_with_ripas from to ripas self.old.entries } }
     {
-        self.columns.set_ripas(from, to, ripas);
+        self.body.columns.set_ripas(from, to, ripas);
     }
 }
 

@@ -1,11 +1,17 @@
-use Rattle.std.proofs.Common.{◌∙◌, arith, map, rc_value}
-use Rattle.std.proofs.lemmas.List.{length-map}
-use Rattle.machine_cells.proofs.Alike.{same_up_to}
+use Rattle.machine_cells.proofs.Common.{◌∙◌, ap, cell_of, rc_value, refl, sym}
+use Rattle.rmm_spec.specs.Cell as spec
+use Rattle.machine_cells.proofs.KeptLists.{same_all, same_more}
 use Rattle.machine_cells.proofs.keeping.are_same.Goals as goal
+
+pub loop-place-preserved : goal.loop-place-preserved
+loop-place-preserved c =
+    let a = c.args in
+    same_more (λ cell. cell_of (rc_value cell)) a.kept.now a.cells.now.items a.from a.to c.if-kept-to.false c.requires.order c.requires.within
+    c.loop-place.place _ spec.Undelegated c.loop-place-test.true c.index-kept-place.is
+    (ap cell_of (sym c.deref.ensures) ∙ c.if-not-has_cell.ensures refl) c.loop-place.invariant
 
 pub returns : goal.returns
 returns c = λ all.
-    let many = length-map c.args.kept.now rc_value in
-    let size = c.if-kept-cells.false in
-    same_up_to c.loop-place.place (map rc_value c.args.kept.now) c.args.cells.now (many ∙ size) (omega (arith, many, size, c.loop-place-test.false))
-    c.loop-place.invariant
+    let a = c.args in
+    same_all (λ cell. cell_of (rc_value cell)) a.kept.now a.cells.now.items a.from a.to c.if-kept-to.false c.requires.order c.requires.within
+    c.loop-place.place c.loop-place-test.false c.loop-place.invariant

@@ -8,5 +8,5 @@ returns-in-Some-clause-place c =
     record {
       granule = c.requires;
       at = at;
-      within = omega (arith, place-within list.places (c.args.granule / 4096) c.in-Some.place at, list.each, list.cells.ok.0);
+      within = omega (arith, place-within list.places (c.args.granule / 4096) c.in-Some.place at, list.each);
     }

@@ -9,5 +9,5 @@ returns-then-number-near-clause-place c =
     record {
       granule = c.requires;
       at = at;
-      within = omega (arith, place-within list.places number number at, list.each, list.cells.ok.0);
+      within = omega (arith, place-within list.places number number at, list.each);
     }

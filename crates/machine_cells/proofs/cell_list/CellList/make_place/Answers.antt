@@ -19,7 +19,7 @@ pub returns-clause-cells : goal.returns-clause-cells
 unfolding cells_of
 returns-clause-cells c =
     let list = c.args.self.now in
-    let count : count_in list.places ≡ length list.cells.items = omega (arith, list.each, list.cells.ok.0) in
+    let count : count_in list.places ≡ length list.cells.items = omega (arith, list.each) in
     ap (λ items. cells_in list.config.granules (place_in c.make-place.new.self) items) c.push_block.ensures.items
     ∙ cells_in-further list.config.granules 512 list.places c.make-place.new.self list.cells.items c.make-place.ensures.further count
 
@@ -35,6 +35,5 @@ returns-clause-place c =
         c.make-place.ensures.further.count,
         list.each,
         c.push_block.ensures.len,
-        c.push_block.new.cells.ok.0,
       );
     }

@@ -4,4 +4,5 @@ use Rattle.machine_cells.proofs.cell_list.CellList.new.Goals as goal
 
 pub returns-clause-cells : goal.returns-clause-cells
 unfolding cells_of
-returns-clause-cells c = cells-new c.args.config.granules c.loop.counter (place_in c.in_ok-places.places) c.loop.cells.items c.loop.invariant.cells
+returns-clause-cells c =
+    cells-new c.args.config.granules c.count.result (place_in c.in_ok-places.places) c.in_ok-cells.cells.items c.in_ok-cells.ensures.items

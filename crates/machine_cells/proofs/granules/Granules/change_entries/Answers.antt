@@ -1,9 +1,8 @@
-use Rattle.machine_cells.proofs.Common.{◌∙◌, CellList, ap, cells_of, flat_state, state_in, subst, sym}
+use Rattle.machine_cells.proofs.Common.{◌∙◌, CellList, ap, cells_of, entries_changed, flat_state, places_of, state_in, subst, sym}
 use Rattle.std.specs.Prelude.{IfSome}
-use Rattle.shape_laws.specs.Whole.{cells_with_tag_change, cells_with_realm_change, cells_with_rec_change, cells_with_entries, entries_changed, places_with_rec_change, cells_changed, side_changed, places_changed}
+use Rattle.shape_laws.specs.Whole.{cells_with_tag_change, cells_with_realm_change, cells_with_rec_change, cells_with_entries, places_with_rec_change, cells_changed, side_changed, places_changed}
 use Rattle.granule_cells.specs.Sides.{side_of}
 use Rattle.machine_cells.specs.Changes.{CanGetTag}
-use Rattle.machine_cells.specs.Whole.{places_of}
 use Rattle.machine_cells.proofs.CanMake.{page_fits, rec_update-fits}
 use Rattle.machine_cells.proofs.granules.Granules.change_entries.Goals as goal
 

@@ -1,12 +1,12 @@
-use Rattle.machine_cells.proofs.Common.{◌∙◌, ap, cells_of, flat_state, put, state_in, whole_of}
+use Rattle.machine_cells.proofs.Common.{◌∙◌, ap, cells_of, entries_changed, flat_state, put, state_in, whole_of}
 use Rattle.rmm_spec.specs.declared.change.EntryChange.TheVariants.{Replaced}
 use Rattle.rmm_spec.specs.Cell.{Delegated}
-use Rattle.shape_laws.specs.Whole.{cells_with_entries, entries_changed, cells_changed, side_changed, places_changed}
+use Rattle.shape_laws.specs.Whole.{cells_with_entries, cells_changed, side_changed, places_changed}
 use Rattle.machine_cells.proofs.CanMake.{table_granule}
 use Rattle.machine_cells.proofs.granules.Granules.destroy_table.Goals as goal
 
-pub put-requires : goal.put-requires
-put-requires c =
+pub put-requires-clause-granule : goal.put-requires-clause-granule
+put-requires-clause-granule c =
     let a = c.args in
     rw c.change_entries.ensures.size (table_granule a.self.now c.requires.shaped a.rd a.level a.number a.rtt a.entry c.requires.can)
 

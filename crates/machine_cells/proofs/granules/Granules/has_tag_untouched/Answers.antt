@@ -1,7 +1,6 @@
-use Rattle.machine_cells.proofs.Common.{ap, cells_of, config_of, flat_state, state_in, sym}
+use Rattle.machine_cells.proofs.Common.{cells_of, config_of, flat_state, state_in}
 use Rattle.std.proofs.lemmas.Bool.{false_from_ne_true}
 use Rattle.rmm_spec.specs.declared.tag.Tag.TheVariants.{Undelegated}
-use Rattle.rmm_spec.specs.Cell.{tag_of}
 use Rattle.machine_cells.proofs.OneCell.{has_tag-read, has_tag-none}
 use Rattle.machine_cells.proofs.granules.Granules.has_tag_untouched.Goals as goal
 
@@ -9,8 +8,7 @@ pub returns-in-Some : goal.returns-in-Some
 unfolding state_in
 returns-in-Some c =
     let g = c.args.self.now in
-    rw c.eq.ensures (has_tag-read (config_of g)
-    (cells_of g.list) c.args.address Undelegated c.args.tag c.in-Some.ensures.0 (sym (ap tag_of c.requires)))
+    rw c.eq.ensures (has_tag-read (config_of g) (cells_of g.list) c.args.address Undelegated c.args.tag c.in-Some.ensures.0 c.requires)
 
 pub returns-in-None : goal.returns-in-None
 unfolding state_in flat_state

@@ -1,5 +1,4 @@
-use Rattle.machine_cells.proofs.Common.{◌+◌, ◌/◌, ◌<◌, ◌≡◌, arith, entry_number, refl, state_in, subst, sym}
-use Rattle.std.proofs.Common.{◌-◌}
+use Rattle.machine_cells.proofs.Common.{◌+◌, ◌-◌, ◌/◌, ◌<◌, ◌≡◌, arith, entry_number, refl, state_in, subst, sym}
 use Rattle.std.specs.Option.{option_copied}
 use Rattle.machine_cells.specs.Searches.{IsTable}
 use Rattle.machine_cells.proofs.FreeTables.{reached-free}

@@ -22,7 +22,7 @@ pub count_rec-requires-2 : goal.count_rec-requires-2
 count_rec-requires-2 c =
     let a = c.args in
     let three =
-    c.put-3.ensures.cells ∙ ap (λ x. put x a.aux1 spec.RecAux) (c.put-2.ensures.cells ∙ ap (λ x. put x a.aux0 spec.RecAux) c.put.ensures.cells) in
+    c.put-2.ensures.cells ∙ ap (λ x. put x a.aux1 spec.RecAux) (c.put.ensures.cells ∙ ap (λ x. put x a.aux0 spec.RecAux) c.put_rec.ensures.cells) in
     subst (λ x. TakesIndex x a.rd a.mpidr) (sym three)
     (index-made a.self.now c.requires.shaped a.rd a.rec a.mpidr a.flags a.aux0 a.aux1 c.requires.can
     (spec.Rec c.new-made.result) spec.RecAux spec.RecAux)
@@ -36,8 +36,8 @@ returns-clause-whole c =
     let side = (whole_of g).side in
     let made : c.new-made.result ≡ new_rec a.rd a.mpidr a.flags a.aux0 a.aux1 =
     c.new-made.ensures ∙ (λ i. new_rec (c.new.ensures i) a.mpidr a.flags (c.new-2.ensures i) (c.new-3.ensures i)) in
-    let three = c.put-3.ensures.cells ∙ ap (λ x. put x a.aux1 spec.RecAux) (c.put-2.ensures.cells ∙ ap (λ x. put x a.aux0 spec.RecAux)
-    (c.put.ensures.cells ∙ ap (λ m. put cells a.rec (spec.Rec m)) made)) in
+    let three = c.put-2.ensures.cells ∙ ap (λ x. put x a.aux1 spec.RecAux) (c.put.ensures.cells ∙ ap (λ x. put x a.aux0 spec.RecAux)
+    (c.put_rec.ensures.cells ∙ ap (λ m. put cells a.rec (spec.Rec m)) made)) in
     let all = c.count_rec-2.ensures.cells ∙ ap (λ x. changed_at x a.rd (cell_with_realm (RecCounted a.mpidr a.flags))) three in
     let counted = c.count_rec.ensures ∙ (λ i. with_count side (c.new-4.ensures i) (side.rec_counts (c.new-4.ensures i) + 1)) in
     λ i. record { cells = all i; side = counted i; places = (whole_of g).places }

@@ -1,9 +1,7 @@
-use Rattle.std.proofs.Common.{ap, ◌∙◌, arith}
+use Rattle.machine_cells.proofs.Common.{◌∙◌, ap, arith, places_of, slice_index_or}
 use Rattle.std.proofs.lemmas.List.{get_or_default}
-use Rattle.std.specs.Prelude.{slice_index_or}
 use Rattle.granule_cells.specs.declared.cpu_place.CpuPlace.TheVariants.{Outside}
 use Rattle.granule_cells.specs.Seen.{place_of}
-use Rattle.machine_cells.specs.Whole.{places_of}
 use Rattle.machine_cells.proofs.places.Places.of.Goals as goal
 
 pub returns : goal.returns

@@ -1,5 +1,4 @@
-use Rattle.std.proofs.Common.{arith}
-use Rattle.machine_cells.specs.Whole.{places_of}
+use Rattle.machine_cells.proofs.Common.{arith, places_of}
 use Rattle.machine_cells.proofs.Kept.{places-set}
 use Rattle.machine_cells.proofs.places.Places.set.Goals as goal
 
