@@ -88,7 +88,7 @@ impl Granules {
         ensures size { config_of self.new ≡ config_of self.old }
         ensures whole { whole_of self.new ≡ whole_changed (config_of self.old) (whole_of self.old) (change.RecMade rd rec mpidr flags aux0 aux1) }
     {
-        let _granules = self.list.config.granules();
+        let _fact = self.list.config.granules();
         let made = Rec::new(Pa::new(rd), mpidr, flags, Pa::new(aux0), Pa::new(aux1));
         self.side.count_rec(Pa::new(rd));
         self.list.put_rec(rec, made);

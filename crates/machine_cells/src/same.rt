@@ -198,8 +198,8 @@ fn same_place(one: Place, other: Place) -> bool
 fn have_same_entries(one: &Table, other: &Table) -> bool
     ensures { IsTrue result → one.now.entries ≡ other.now.entries }
 {
-    one.is_whole();
-    other.is_whole();
+    let _fact = one.is_whole();
+    let _fact = other.is_whole();
     for index in 0..ENTRIES {
         if one.entry(index) != other.entry(index) {
             return false;

@@ -145,7 +145,7 @@ impl Table {
     pub fn is_whole(&self)
         ensures { length self.now.entries ≡ 512 }
     {
-        self.body.columns.is_whole();
+        let _fact = self.body.columns.is_whole();
     }
 
     /// Whether some entry is one that is looked for. A live one is never unassigned as another is, so entries are looked at only

@@ -13,10 +13,10 @@ use Rattle.machine_cells.proofs.granules.Granules.make_rec.Goals as goal
 pub count_rec-requires-clause-granule : goal.count_rec-requires-clause-granule
 count_rec-requires-clause-granule c =
     let g = c.args.self.now in
-    rw c.new-4.ensures (within_limit g c.granules-granules.ensures.limits c.args.rd (granule_tagged g c.args.rd Rd c.requires.can.rd_tag))
+    rw c.new-4.ensures (within_limit g c.granules-fact.ensures.limits c.args.rd (granule_tagged g c.args.rd Rd c.requires.can.rd_tag))
 
 pub count_rec-requires-clause-limit : goal.count_rec-requires-clause-limit
-count_rec-requires-clause-limit c = few_recs c.args.self.now c.requires.shaped c.granules-granules.ensures.limits c.new-4.result
+count_rec-requires-clause-limit c = few_recs c.args.self.now c.requires.shaped c.granules-fact.ensures.limits c.new-4.result
 
 pub count_rec-requires-2 : goal.count_rec-requires-2
 count_rec-requires-2 c =
