@@ -10,7 +10,7 @@ ghost use Rattle.command_core.specs.Next as spec;
 ghost use Rattle.command_core.specs.Walks as walks;
 ghost use Rattle.rmm_spec.specs.Rows.{all_allowed};
 ghost use Rattle.rmm_spec.specs.Step.Terms as terms;
-ghost use Rattle.command_words.specs.Callers.{class_from};
+ghost use Rattle.rmi_view.specs.Callers.{class_from};
 ghost use Rattle.command_words.specs.Names.{names_of};
 ghost use Rattle.command_words.specs.Ways.{way_seen};
 

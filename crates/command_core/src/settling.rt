@@ -11,7 +11,7 @@ ghost use Rattle.command_core.specs.Settled as spec;
 ghost use Rattle.command_core.specs.Unshaped.{is_unshaped_outside};
 ghost use Rattle.command_core.specs.Walks.{way_taken, way_inside};
 ghost use Rattle.rmm_spec.specs.Step.Terms as step_named;
-ghost use Rattle.command_words.specs.Callers.{class_from};
+ghost use Rattle.rmi_view.specs.Callers.{class_from};
 ghost use Rattle.command_words.specs.Names.{names_of};
 
 use crate::held::Held;

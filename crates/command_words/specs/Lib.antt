@@ -1,3 +1,2 @@
-pub mod Callers
 pub mod Names
 pub mod Ways

@@ -5,17 +5,15 @@
 //! The rows of commands and the plan of the monitor's locks stand on it.
 #![tactic(auto)]
 
-mod caller;
 mod name_list;
 mod names;
-mod placement;
 mod terms;
 mod words;
 
-pub use caller::Caller;
 pub use name_list::{Name, Names};
 pub use names::{is_tag, needed, one, two};
-pub use placement::misplacement;
+pub use granule_state::is_page;
+pub use rmi_view::{Caller, caller_of};
 pub use rmm_spec::{Call, Tag};
-pub use terms::{Terms, Way, caller_for, caller_of, named, terms_of, way_of, words_allow};
-pub use words::{algorithm_in, are_apart, is_aligned, is_host_page, is_page, is_space, is_width};
+pub use terms::{Terms, Way, caller_for, named, terms_of, way_of, words_allow};
+pub use words::{algorithm_in, are_apart, is_aligned, is_host_page, is_space, is_width};

@@ -5,14 +5,15 @@ ghost use Rattle.rmm_spec.specs.declared.tag.Tag.TheVariants as tag;
 ghost use Rattle.rmm_spec.specs.Call.{call_from};
 ghost use Rattle.rmm_spec.specs.Rows.{all_allowed};
 ghost use Rattle.rmm_spec.specs.Step.Terms as spec;
-ghost use Rattle.command_words.specs.Callers.{class_from};
+ghost use Rattle.rmi_view.specs.Callers.{class_from};
 ghost use Rattle.command_words.specs.Names.{names_of};
 ghost use Rattle.command_words.specs.Ways.{way_seen};
 
-use crate::caller::Caller;
 use crate::name_list::{Name, Names};
 use crate::names::{four, needed, none, one, three, two};
-use crate::words::{are_apart, is_aligned, is_host_page, is_page, is_space, is_width};
+use crate::words::{are_apart, is_aligned, is_host_page, is_space, is_width};
+use granule_state::is_page;
+use rmi_view::{Caller, caller_of};
 use rmm_spec::{Call, FunctionId, Tag};
 
 /// Who gives a command, whether its words allow it, whatever the state, and which granules it names.
@@ -23,28 +24,28 @@ pub struct Terms {
     pub names: Names,
 }
 
+// What a command's words say, whoever gives it.
+#[derive(Clone, Copy)]
+struct Said {
+    allowed: bool,
+    names: Names,
+}
+
 #[inline(always)]
-fn by_host(allowed: bool, names: Names) -> Terms
-    ensures caller { class_from result.caller ≡ spec.ByHost }
+fn said(allowed: bool, names: Names) -> Said
     ensures allowed { result.allowed ≡ allowed }
     ensures names { names_of result.names ≡ names_of names }
 {
-    Terms {
-        caller: Caller::Host,
-        allowed,
-        names,
-    }
+    Said { allowed, names }
 }
 
-// A realm's call names nothing.
+// What names nothing: a realm's call, or Exit.
 #[inline(always)]
-fn by_realm(allowed: bool) -> Terms
-    ensures caller { class_from result.caller ≡ spec.ByRealm }
+fn of_words(allowed: bool) -> Said
     ensures allowed { result.allowed ≡ allowed }
     ensures names { names_of result.names ≡ [] }
 {
-    Terms {
-        caller: Caller::Realm,
+    Said {
         allowed,
         names: none(),
     }
@@ -52,25 +53,23 @@ fn by_realm(allowed: bool) -> Terms
 
 // A host's command that names its realm, and nothing else.
 #[inline(always)]
-fn on_realm(rd: u64, allowed: bool) -> Terms
-    ensures caller { class_from result.caller ≡ spec.ByHost }
+fn on_realm(rd: u64, allowed: bool) -> Said
     ensures allowed { result.allowed ≡ allowed }
     ensures names { names_of result.names ≡ spec.needed rd tag.Rd ∷ [] }
 {
-    by_host(allowed, one(needed(rd, Tag::Rd)))
+    said(allowed, one(needed(rd, Tag::Rd)))
 }
 
-/// What a command says.
+// Whether a command's words allow it, and what it names.
 #[inline(always)]
-#[tactic(auto, unfolding(rmm_spec::specs::Step::Terms::class_of, rmm_spec::specs::Step::Terms::words_of, rmm_spec::specs::Step::Terms::named))]
-pub fn terms_of(call: &Call) -> Terms
-    ensures caller { class_from result.caller ≡ spec.class_of call.now }
+#[tactic(auto, unfolding(rmm_spec::specs::Step::Terms::words_of, rmm_spec::specs::Step::Terms::named))]
+fn said_of(call: &Call) -> Said
     ensures allowed { result.allowed ≡ all_allowed (spec.words_of call.now) }
     ensures names { names_of result.names ≡ spec.named call.now }
 {
     match *call {
-        Call::GranuleDelegate { granule } => by_host(true, one(needed(granule, Tag::Undelegated))),
-        Call::GranuleUndelegate { granule } => by_host(true, one(needed(granule, Tag::Delegated))),
+        Call::GranuleDelegate { granule } => said(true, one(needed(granule, Tag::Undelegated))),
+        Call::GranuleUndelegate { granule } => said(true, one(needed(granule, Tag::Delegated))),
         Call::DataCreate {
             rd,
             granule,
@@ -78,7 +77,7 @@ pub fn terms_of(call: &Call) -> Terms
             source,
             flags,
             ..
-        } => by_host(
+        } => said(
             flags <= 1 && is_page(ipa),
             three(
                 needed(rd, Tag::Rd),
@@ -86,7 +85,7 @@ pub fn terms_of(call: &Call) -> Terms
                 needed(source, Tag::Undelegated),
             ),
         ),
-        Call::DataCreateUnknown { rd, granule, ipa } => by_host(
+        Call::DataCreateUnknown { rd, granule, ipa } => said(
             is_page(ipa),
             two(needed(rd, Tag::Rd), needed(granule, Tag::Delegated)),
         ),
@@ -99,7 +98,7 @@ pub fn terms_of(call: &Call) -> Terms
             level,
             vmid,
             ..
-        } => by_host(
+        } => said(
             rd != root && is_width(width) && is_space(width, level) && vmid <= 0xff,
             two(needed(rd, Tag::Delegated), needed(root, Tag::Delegated)),
         ),
@@ -111,7 +110,7 @@ pub fn terms_of(call: &Call) -> Terms
             aux0,
             aux1,
             ..
-        } => by_host(
+        } => said(
             are_apart(rec, aux0, aux1) && flags <= 1,
             four(
                 needed(rd, Tag::Rd),
@@ -120,7 +119,7 @@ pub fn terms_of(call: &Call) -> Terms
                 needed(aux1, Tag::Delegated),
             ),
         ),
-        Call::RecDestroy { rec } | Call::RecEnter { rec } => by_host(
+        Call::RecDestroy { rec } | Call::RecEnter { rec } => said(
             true,
             one(needed(rec, Tag::Rec)),
         ),
@@ -129,7 +128,7 @@ pub fn terms_of(call: &Call) -> Terms
             rtt,
             ipa,
             level,
-        } => by_host(
+        } => said(
             level <= 3 && is_aligned(ipa, (level as u8).saturating_sub(1)),
             two(needed(rd, Tag::Rd), needed(rtt, Tag::Delegated)),
         ),
@@ -150,33 +149,36 @@ pub fn terms_of(call: &Call) -> Terms
             rd,
             is_page(base) && is_page(top) && base < top,
         ),
-        Call::RttSetRipas { rd, rec, .. } => by_host(
+        Call::RttSetRipas { rd, rec, .. } => said(
             true,
             two(needed(rd, Tag::Rd), needed(rec, Tag::Rec)),
         ),
-        Call::MeasurementRead { index } => by_realm(index <= 4),
-        Call::MeasurementExtend { index, size, .. } => by_realm(
+        Call::MeasurementRead { index } => of_words(index <= 4),
+        Call::MeasurementExtend { index, size, .. } => of_words(
             1 <= index && index <= 4 && 1 <= size && size <= 0x40,
         ),
-        Call::IpaStateSet { base, top, ripas } => by_realm(
+        Call::IpaStateSet { base, top, ripas } => of_words(
             is_page(base) && is_page(top) && base < top && ripas <= 1,
         ),
-        Call::IpaStateGet { ipa } => by_realm(is_page(ipa)),
-        Call::HostCall { imm } => by_realm(imm < 0x10000),
-        Call::RealmConfig | Call::CpuOff | Call::SystemOff => by_realm(true),
-        Call::Exit => Terms {
-            caller: Caller::Rec,
-            allowed: true,
-            names: none(),
-        },
+        Call::IpaStateGet { ipa } => of_words(is_page(ipa)),
+        Call::HostCall { imm } => of_words(imm < 0x10000),
+        Call::RealmConfig | Call::CpuOff | Call::SystemOff | Call::Exit => of_words(true),
     }
 }
 
-/// Who gives the command.
-pub fn caller_of(call: &Call) -> Caller
-    ensures { class_from result ≡ spec.class_of call.now }
+/// What a command says.
+#[inline(always)]
+pub fn terms_of(call: &Call) -> Terms
+    ensures caller { class_from result.caller ≡ spec.class_of call.now }
+    ensures allowed { result.allowed ≡ all_allowed (spec.words_of call.now) }
+    ensures names { names_of result.names ≡ spec.named call.now }
 {
-    terms_of(call).caller
+    let Said { allowed, names } = said_of(call);
+    Terms {
+        caller: caller_of(call),
+        allowed,
+        names,
+    }
 }
 
 /// Who gives a function's commands, whatever their words.
@@ -190,14 +192,14 @@ pub fn caller_for(function: FunctionId) -> Caller
 pub fn words_allow(call: &Call) -> bool
     ensures { result ≡ all_allowed (spec.words_of call.now) }
 {
-    terms_of(call).allowed
+    said_of(call).allowed
 }
 
 /// What a command names outside of RECs. A realm call names nothing.
 pub fn named(call: &Call) -> Names
     ensures { names_of result ≡ spec.named call.now }
 {
-    terms_of(call).names
+    said_of(call).names
 }
 
 /// A walk in the tables of a realm, for an address, down to a level.

@@ -6,20 +6,13 @@ ghost use Rattle.rmm_spec.specs.Step.Terms as spec;
 ghost use Rattle.rmm_spec.specs.Walk as walk;
 ghost use Rattle.realm_desc.specs.View.{algorithm_number};
 
-use granule_state::GRANULE_BYTES;
+use granule_state::is_page;
 use realm_desc::{HashAlgorithm, Space};
 use rmm_spec::Version;
 use table_entries::entry_size;
 
 /// Where the host's memory ends: its addresses have 48 bits.
 const HOST_END: u64 = 1 << 48;
-
-/// Whether a page begins at the address.
-pub fn is_page(address: u64) -> bool
-    ensures { result ≡ spec.is_page address }
-{
-    address % GRANULE_BYTES == 0
-}
 
 /// Whether a page of the host begins at the address.
 pub fn is_host_page(address: u64) -> bool

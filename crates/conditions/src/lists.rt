@@ -1,7 +1,7 @@
 //! The conditions of each command.
 
 ghost use Rattle.std.specs.Prelude.{◌≡◌, ◌∷◌, [], map, IfOk};
-ghost use Rattle.command_words.specs.Callers.{class_from};
+ghost use Rattle.rmi_view.specs.Callers.{class_from};
 ghost use Rattle.rmm_spec.specs.Step.Terms.{named};
 ghost use Rattle.conditions.specs.Lists as spec;
 

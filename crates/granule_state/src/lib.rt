@@ -8,10 +8,10 @@
 mod config;
 mod ipa;
 mod pa;
-#[cfg(test)]
-mod tests;
+mod page;
 
 pub use config::{Config, GRANULE_BYTES, MOST_GRANULES, granule_at, granule_limit};
 pub use ipa::Ipa;
 pub use pa::Pa;
+pub use page::is_page;
 pub use rmm_spec::Tag;

@@ -38,5 +38,3 @@ pub fn words8(measurement: &[u8; 64]) -> [u64; 8]
     words
 }
 
-#[cfg(test)]
-mod tests;

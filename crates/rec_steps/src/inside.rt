@@ -16,8 +16,8 @@ use crate::leaving::{answer_to_exit, cpu_off, host_call, system_off};
 use crate::measurement::{Extension, extension_of, measurement_extend, measurement_read};
 use crate::realm_config::config_of;
 use crate::step::RecStep;
-use command_words::{caller_of, misplacement};
 use realm_desc::{Realm, Rec};
+use rmi_view::{caller_of, misplacement};
 use rmm_spec::{Call, Command, Condition, Refusal, Reply, Ripas};
 
 /// The address whose entry a CPU inside the REC reads by its call, if it reads one. The RIPAS of that entry is then to be handed in.

@@ -8,7 +8,7 @@ ghost use Rattle.rmm_spec.specs.Walk.{walk, entry_ripas, is_protected};
 ghost use Rattle.rec_steps.specs.Answers.{answer_at, IsStep};
 
 use crate::step::RecStep;
-use command_words::is_page;
+use granule_state::is_page;
 use realm_desc::Realm;
 use rmm_spec::{Condition, RecUpdate, Refusal, Ripas};
 use table_entries::ripas_number;

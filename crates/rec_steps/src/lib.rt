@@ -13,8 +13,6 @@ mod measurement;
 mod realm_config;
 mod reply;
 mod step;
-#[cfg(test)]
-mod tests;
 
 pub use entering::{answer_to_enter, enter};
 pub use inside::{

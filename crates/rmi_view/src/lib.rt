@@ -5,9 +5,11 @@
 //! Histories, the machine and the checker depend on it.
 #![tactic(auto)]
 
+mod caller;
 mod command;
 mod reply;
 mod words;
 
+pub use caller::{Caller, caller_of, misplacement};
 pub use command::{CommandRef, copied_command};
 pub use reply::{ReplyRef, copied_reply};

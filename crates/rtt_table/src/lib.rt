@@ -8,8 +8,6 @@
 mod columns;
 mod kind;
 mod table;
-#[cfg(test)]
-mod tests;
 
 pub use rmm_spec::{Entry, Place, Ripas};
 pub use table::{Table, index_of};

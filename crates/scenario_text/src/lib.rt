@@ -11,8 +11,6 @@ mod laws;
 mod limits;
 mod program;
 mod reading;
-#[cfg(test)]
-mod tests;
 mod turn;
 
 pub use fault::ScenarioFault;

@@ -7,8 +7,6 @@
 
 mod calls;
 mod lists;
-#[cfg(test)]
-mod tests;
 mod writing;
 
 pub use calls::write_calls;

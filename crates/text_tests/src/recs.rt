@@ -1,6 +1,6 @@
 //! A REC from its first Enter on. The expected digest was computed by `sha256sum` from the bytes that its comment writes out.
 
-use crate::{Command, Realm, Rec, Reply, enter, exit, realm_call, walks};
+use rec_steps::{Command, Realm, Rec, Reply, enter, exit, realm_call, walks};
 use arrayvec::ArrayVec;
 use granule_state::Pa;
 use realm_desc::{HashAlgorithm, Space};

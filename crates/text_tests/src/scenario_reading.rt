@@ -1,6 +1,6 @@
 //! Scenario files, and what is read of them.
 
-use crate::{ScenarioFault, read_scenario};
+use scenario_text::{ScenarioFault, read_scenario};
 use rmm_spec::{Version, Will};
 use std::process::Abort;
 use std::test::Fail;

@@ -1,6 +1,6 @@
 //! The limits of a machine, and where its granules begin.
 
-use crate::{Config, Ipa, Pa, granule_at};
+use granule_state::{Config, Ipa, Pa, granule_at};
 use rmm_spec::Version;
 use std::test::Fail;
 

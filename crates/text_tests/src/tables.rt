@@ -1,6 +1,6 @@
 //! Indices at the edges of tables, and each method of a table once.
 
-use crate::table::{Table, index_of};
+use rtt_table::{Table, index_of};
 use granule_state::Ipa;
 use rmm_spec::{Entry, EntryTest, Place, Ripas};
 use std::test::Fail;

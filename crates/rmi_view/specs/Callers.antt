@@ -1,7 +1,7 @@
 -- Callers as the definitions' classes.
 use Rattle.rmm_spec.specs.Call.{Class, ByHost, ByRealm, ByExit}
-use Rattle.command_words.specs.declared.caller.Caller.{Caller}
-use Rattle.command_words.specs.declared.caller.Caller.TheVariants as caller
+use Rattle.rmi_view.specs.declared.caller.Caller.{Caller}
+use Rattle.rmi_view.specs.declared.caller.Caller.TheVariants as caller
 
 abbrev pub class_from : Caller → Class
 class_from caller.Host = ByHost
