@@ -32,7 +32,7 @@ struct Said {
 }
 
 #[inline(always)]
-fn said(allowed: bool, names: Names) -> Said
+fn by_host(allowed: bool, names: Names) -> Said
     ensures allowed { result.allowed ≡ allowed }
     ensures names { names_of result.names ≡ names_of names }
 {
@@ -57,7 +57,7 @@ fn on_realm(rd: u64, allowed: bool) -> Said
     ensures allowed { result.allowed ≡ allowed }
     ensures names { names_of result.names ≡ spec.needed rd tag.Rd ∷ [] }
 {
-    said(allowed, one(needed(rd, Tag::Rd)))
+    by_host(allowed, one(needed(rd, Tag::Rd)))
 }
 
 // Whether a command's words allow it, and what it names.
@@ -68,8 +68,8 @@ fn said_of(call: &Call) -> Said
     ensures names { names_of result.names ≡ spec.named call.now }
 {
     match *call {
-        Call::GranuleDelegate { granule } => said(true, one(needed(granule, Tag::Undelegated))),
-        Call::GranuleUndelegate { granule } => said(true, one(needed(granule, Tag::Delegated))),
+        Call::GranuleDelegate { granule } => by_host(true, one(needed(granule, Tag::Undelegated))),
+        Call::GranuleUndelegate { granule } => by_host(true, one(needed(granule, Tag::Delegated))),
         Call::DataCreate {
             rd,
             granule,
@@ -77,7 +77,7 @@ fn said_of(call: &Call) -> Said
             source,
             flags,
             ..
-        } => said(
+        } => by_host(
             flags <= 1 && is_page(ipa),
             three(
                 needed(rd, Tag::Rd),
@@ -85,7 +85,7 @@ fn said_of(call: &Call) -> Said
                 needed(source, Tag::Undelegated),
             ),
         ),
-        Call::DataCreateUnknown { rd, granule, ipa } => said(
+        Call::DataCreateUnknown { rd, granule, ipa } => by_host(
             is_page(ipa),
             two(needed(rd, Tag::Rd), needed(granule, Tag::Delegated)),
         ),
@@ -98,7 +98,7 @@ fn said_of(call: &Call) -> Said
             level,
             vmid,
             ..
-        } => said(
+        } => by_host(
             rd != root && is_width(width) && is_space(width, level) && vmid <= 0xff,
             two(needed(rd, Tag::Delegated), needed(root, Tag::Delegated)),
         ),
@@ -110,7 +110,7 @@ fn said_of(call: &Call) -> Said
             aux0,
             aux1,
             ..
-        } => said(
+        } => by_host(
             are_apart(rec, aux0, aux1) && flags <= 1,
             four(
                 needed(rd, Tag::Rd),
@@ -119,7 +119,7 @@ fn said_of(call: &Call) -> Said
                 needed(aux1, Tag::Delegated),
             ),
         ),
-        Call::RecDestroy { rec } | Call::RecEnter { rec } => said(
+        Call::RecDestroy { rec } | Call::RecEnter { rec } => by_host(
             true,
             one(needed(rec, Tag::Rec)),
         ),
@@ -128,7 +128,7 @@ fn said_of(call: &Call) -> Said
             rtt,
             ipa,
             level,
-        } => said(
+        } => by_host(
             level <= 3 && is_aligned(ipa, (level as u8).saturating_sub(1)),
             two(needed(rd, Tag::Rd), needed(rtt, Tag::Delegated)),
         ),
@@ -149,7 +149,7 @@ fn said_of(call: &Call) -> Said
             rd,
             is_page(base) && is_page(top) && base < top,
         ),
-        Call::RttSetRipas { rd, rec, .. } => said(
+        Call::RttSetRipas { rd, rec, .. } => by_host(
             true,
             two(needed(rd, Tag::Rd), needed(rec, Tag::Rec)),
         ),
