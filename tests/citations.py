@@ -15,7 +15,7 @@ CITED = re.compile(r"\bRattle\.(\w+)\.proofs\b|\b(\w+)::proofs::")
 LAWS = {"lemmas", "spec_lemmas", "rmm_sound", "rmm_laws", "shape_laws", "walk_laws", "world_laws", "certified_laws", "order_laws", "exchange_laws"}
 # of each other crate whose lemmas are cited, where, and why
 NAMED = {
-    "certificate": ({"checker"}, "from one piece of a certificate to the next"),
+    "certificate": ({"checker", "text_writers"}, "from one piece of a certificate to the next; a text that was written, read"),
     "checker": ({"exchange_laws", "explain", "finding", "order_laws", "verdict_laws"}, "a check's run, line by line, with which these go on"),
     "command_core": ({"granule_lock", "world"}, "granules that are all different, and which are held"),
     "command_rows": ({"command_core", "flat_machine", "spec_machine"}, "what a row's answer is by the definitions"),
@@ -24,7 +24,7 @@ NAMED = {
     "event_queue": ({"monitor"}, "the journal's commits beside the events"),
     "granule_names": ({"merging"}, "names that are apart"),
     "granule_places": ({"machine_cells"}, "no place is two granules'"),
-    "history": ({"event_queue", "merging"}, "a history's index and its text, one event longer"),
+    "history": ({"event_queue", "merging", "text_writers"}, "a history's index and its text, one event longer; a text that was written, read"),
     "line_pieces": ({"certificate", "checker", "history", "merging", "recorded_events"}, "the pieces of a line, for each text of lines"),
     "machine_cells": ({"explain", "spec_machine"}, "a walk's links, and what is kept of a granule"),
     "monitor": ({"monitor_bench", "monitor_runs", "refused_runs", "thread_tests"}, "the tokens of all CPUs, with one CPU's changed"),

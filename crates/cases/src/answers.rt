@@ -27,14 +27,14 @@ pub(crate) fn verdict(alloc: Global, history: &str, certificate: &str) -> Result
 const AS_IT_WAS: &str = "as it was\n";
 
 pub(crate) fn rewritten_history(alloc: Global, history: &str) -> Result<String> {
-    match history::rewritten(alloc, history.as_bytes()) {
+    match text_writers::rewritten_history(alloc, history.as_bytes()) {
         Ok(again) => come_back(alloc, again.as_slice() == history.as_bytes()),
         Err(fault) => Ok(format!(in alloc; "{fault}\n")?),
     }
 }
 
 pub(crate) fn rewritten_certificate(alloc: Global, certificate: &str) -> Result<String> {
-    match certificate::rewritten(alloc, certificate.as_bytes()) {
+    match text_writers::rewritten_certificate(alloc, certificate.as_bytes()) {
         Ok(again) => come_back(alloc, again.as_slice() == certificate.as_bytes()),
         Err(fault) => Ok(format!(in alloc; "{fault}\n")?),
     }

@@ -2,4 +2,3 @@ mod HeldLemmas
 mod SpellingLemmas
 mod GrammarLemmas
 pub mod PieceLemmas
-pub mod WriteLemmas

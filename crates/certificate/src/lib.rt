@@ -1,6 +1,6 @@
 //! Certificates: the order in which a run's calls are claimed to have taken effect.
-//! A text is read in one pass, whole or in pieces, to the lines that it stands for, or to its first bad line.
-//! It promises that reader and writer are inverse on the grammar, `specs/CertificateText.antt` of `rmm_spec`: see `laws.rt`.
+//! It promises that a text is read as the lines that it states, on the grammar in `specs/CertificateText.antt` of `rmm_spec`, or as its first bad
+//! line, in one pass, whole or in pieces; `text_writers` has the inverse.
 //! A line takes 8 bytes and no allocation of its own; the rare unfinished line keeps its number and its reply beside.
 //! The checker, the world and the monitor depend on it.
 #![tactic(auto)]
@@ -11,11 +11,9 @@ mod fault;
 mod laws;
 mod reader;
 mod spelled;
-mod writing;
 
 pub use certificate::{Certificate, LineRef, MOST_LINES};
 pub use fault::CertFault;
-pub use laws::{read_back, read_pieces, rewritten};
+pub use laws::read_pieces;
 pub use reader::{Reader, read};
 pub use rmm_spec::{Line, Reply};
-pub use writing::write;

@@ -10,9 +10,9 @@ mod names;
 mod terms;
 mod words;
 
+pub use granule_state::is_page;
 pub use name_list::{Name, Names};
 pub use names::{is_tag, needed, one, two};
-pub use granule_state::is_page;
 pub use rmi_view::{Caller, caller_of};
 pub use rmm_spec::{Call, Tag};
 pub use terms::{Terms, Way, caller_for, named, terms_of, way_of, words_allow};

@@ -14,7 +14,7 @@ pub fn append_found(found: &Found, text: &mut Vec<u8>) -> Result<(), AllocError>
     ensures { OnOk result (text.new.items ≡ text.old.items ++ found_text found.now) }
 {
     match found {
-        Found::Order(certificate) => certificate::write(certificate, text),
+        Found::Order(certificate) => text_writers::write_certificate(certificate, text),
         Found::None(None) => text.extend_from_slice(b"none\n"),
         Found::None(Some(place)) => append_lost(*place, text),
         Found::GaveUp(_) => text.extend_from_slice(b"gave up\n"),

@@ -137,7 +137,7 @@ impl History {
     }
 
     /// The event at a place, whose number the counts of the events before it tell without a search. They then count it too.
-    pub(crate) fn next_event(&self, place: usize, counts: &mut [u32; 8]) -> EventRef<'_>
+    pub fn next_event(&self, place: usize, counts: &mut [u32; 8]) -> EventRef<'_>
         requires place { place < length self.now.recorded.events }
         requires counts { AreCounts counts.old (take place self.now.recorded.events) }
         ensures event { slice_get self.now.recorded.events place ≡ Some (event_seen result) }

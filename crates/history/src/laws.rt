@@ -1,42 +1,14 @@
-//! The laws of the reader and the writer: each is the contract of a function that calls both.
+//! The law of the reader of pieces: it is the contract of a function that calls it.
 
-ghost use Rattle.std.specs.Prelude.{◌≡◌, ℕ, Err, IfOk, IfErr};
+ghost use Rattle.std.specs.Prelude.{IfOk, IfErr};
 ghost use Rattle.std.specs.List.{flat_map};
-ghost use Rattle.rmm_spec.specs.HistoryText.{InHistories, IsHistoryText};
-ghost use Rattle.history.specs.Faults.{IsFaultOf, IsFaultOfRewriting};
-ghost use Rattle.history.specs.declared.fault.HistoryFault.TheVariants.{BadLine};
+ghost use Rattle.rmm_spec.specs.HistoryText.{IsHistoryText};
+ghost use Rattle.history.specs.Faults.{IsFaultOf};
 
 use crate::fault::HistoryFault;
 use crate::history::History;
-use crate::reader::{Reader, read};
-use crate::writing::write;
-use std::alloc::{AllocError, Global};
-
-/// What is written reads back as it was: no line of it is bad.
-pub fn read_back(alloc: Global, history: &History) -> Result<History, AllocError>
-    ensures { IfOk result (λ again. again.recorded ≡ history.now.recorded) }
-{
-    let _fact = history.well_formed();
-    let mut text = Vec::new(alloc);
-    write(history, &mut text)?;
-    match read(alloc, text.as_slice()) {
-        Ok(again) => Ok(again),
-        Err(HistoryFault::NoMemory) => Err(AllocError),
-        Err(HistoryFault::BadLine(_)) => unreachable!(),
-    }
-}
-
-/// What is read is written as it was, byte for byte. A text with a bad line stands for no history.
-pub fn rewritten(alloc: Global, text: &[u8]) -> Result<Vec<u8>, HistoryFault>
-    ensures same { IfOk result (λ again. again.items ≡ text.now) }
-    ensures fault { IfErr result (IsFaultOfRewriting text.now) }
-    ensures outside { (line : ℕ) → result ≡ Err (BadLine line) → ¬ InHistories text.now }
-{
-    let history = read(alloc, text)?;
-    let mut again = Vec::new(alloc);
-    write(&history, &mut again)?;
-    Ok(again)
-}
+use crate::reader::Reader;
+use std::alloc::Global;
 
 /// A text that comes in pieces is read as it is whole, however it is cut.
 pub fn read_pieces(alloc: Global, pieces: &[&[u8]]) -> Result<History, HistoryFault>

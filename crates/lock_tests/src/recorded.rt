@@ -7,7 +7,7 @@ ghost use Rattle.lock_tests.specs.Called.{HasCalled};
 use arrayvec::ArrayVec;
 use event_queue::{CpuPass, OrderPass, Recorder, ScribePass, fit_a_history};
 use granule_state::Config;
-use history::{History, Reply, write};
+use history::{History, Reply};
 use queue_runs::{Calls, record_beside};
 use rmi_codec::read_command;
 use rmi_view::ReplyRef;
@@ -15,6 +15,7 @@ use std::alloc::{AllocError, Global};
 use std::sync::Wait;
 use std::test::Fail;
 use std::thread::Threads;
+use text_writers::write_history;
 
 fn empty(alloc: Global, granules: u64, cpus: u64) -> Result<History, Fail>
     ensures { IfOk result (λ history. (history.recorded.config.cpus ≡ cpus) × (history.recorded.events ≡ [])) }
@@ -26,7 +27,7 @@ fn empty(alloc: Global, granules: u64, cpus: u64) -> Result<History, Fail>
 /// Whether this is the history's text.
 fn has_text(alloc: Global, history: &History, text: &str) -> Result<bool, AllocError> {
     let mut written = Vec::new(alloc);
-    write(history, &mut written)?;
+    write_history(history, &mut written)?;
     Ok(written.as_slice() == text.as_bytes())
 }
 
@@ -252,7 +253,7 @@ fn four_threads_record_while_one_drains(rt: HostRuntime) -> Result<(), Fail> {
 
 fn line_count(alloc: Global, history: &History) -> Result<usize, AllocError> {
     let mut text = Vec::new(alloc);
-    write(history, &mut text)?;
+    write_history(history, &mut text)?;
     Ok(text.iter().filter(|&&byte| byte == b'\n').count())
 }
 

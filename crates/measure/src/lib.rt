@@ -37,4 +37,3 @@ pub fn words8(measurement: &[u8; 64]) -> [u64; 8]
     LittleEndian::read_u64_into(measurement, &mut words);
     words
 }
-

@@ -37,9 +37,9 @@ fn verdict(
     certificate: &Certificate,
 ) -> Result<Verdict, AllocError> {
     let mut events = Vec::new(alloc);
-    history::write(history, &mut events)?;
+    text_writers::write_history(history, &mut events)?;
     let mut lines = Vec::new(alloc);
-    certificate::write(certificate, &mut lines)?;
+    text_writers::write_certificate(certificate, &mut lines)?;
     check(alloc, events.as_slice(), lines.as_slice())
 }
 

@@ -271,8 +271,8 @@ fn push_closed<S: Site, R: Wait>(
     let Drained { scribe, history } = drained;
     let (recorded, order) = monitor.close(rt, alloc, tokens, passes, scribe, history)?;
     let mut history = Vec::new(alloc);
-    history::write(&recorded, &mut history)?;
+    text_writers::write_history(&recorded, &mut history)?;
     let mut certificate = Vec::new(alloc);
-    certificate::write(&order, &mut certificate)?;
+    text_writers::write_certificate(&order, &mut certificate)?;
     push_judged(alloc, history.as_slice(), certificate.as_slice(), out)
 }

@@ -64,8 +64,8 @@ fn go(alloc: Global, world: &mut World, cpu: u8) -> Result<bool, Fault> {
 
 fn push_world(alloc: Global, world: &World, out: &mut Vec<u8>) -> Result<(), Fault> {
     let mut history = Vec::new(alloc);
-    history::write(&world.history(alloc)?, &mut history)?;
+    text_writers::write_history(&world.history(alloc)?, &mut history)?;
     let mut certificate = Vec::new(alloc);
-    certificate::write(&world.certificate(alloc)?, &mut certificate)?;
+    text_writers::write_certificate(&world.certificate(alloc)?, &mut certificate)?;
     push_judged(alloc, history.as_slice(), certificate.as_slice(), out)
 }

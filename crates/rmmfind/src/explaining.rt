@@ -29,7 +29,7 @@ pub(crate) fn append_reached(
     };
     for certificate in orders.as_slice() {
         let mut order = Vec::new(alloc);
-        certificate::write(certificate, &mut order)?;
+        text_writers::write_certificate(certificate, &mut order)?;
         text.push(b'\n')?;
         text.extend_from_slice(order.as_slice())?;
         append_refusal(alloc, bytes, order.as_slice(), cpu, number, text)?;
@@ -58,7 +58,7 @@ fn append_longest(
 ) -> Result<(), AllocError> {
     let longest = longest_order(alloc, history, limit)?;
     let mut order = Vec::new(alloc);
-    certificate::write(&longest, &mut order)?;
+    text_writers::write_certificate(&longest, &mut order)?;
     text.push(b'\n')?;
     text.extend_from_slice(order.as_slice())?;
     let first = first_return(history, &longest);

@@ -30,9 +30,9 @@ pub fn print_run(
     let _fact = history.well_formed();
     let _fact = certificate.len();
     let mut text = Vec::new(alloc);
-    history::write(history, &mut text)?;
+    text_writers::write_history(history, &mut text)?;
     let mut lines = Vec::new(alloc);
-    certificate::write(certificate, &mut lines)?;
+    text_writers::write_certificate(certificate, &mut lines)?;
     let verdict = check(alloc, text.as_slice(), lines.as_slice())?;
     text.push(b'\n')?;
     text.extend_from_slice(lines.as_slice())?;

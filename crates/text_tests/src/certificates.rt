@@ -3,10 +3,11 @@
 ghost use Rattle.std.specs.Prelude.{◌↔◌, IsTrue};
 ghost use Rattle.rmm_spec.specs.CertificateText.{IsLine};
 
-use certificate::{Certificate, Line, LineRef, Reply, read, read_back, write};
+use certificate::{Certificate, Line, LineRef, Reply, read};
 use rmi_codec::{read_reply, reply_has_text};
 use std::alloc::Global;
 use std::test::Fail;
+use text_writers::{certificate_reads_back, write_certificate};
 
 const TEXT: &str = "k 7 999999\nu 0 10 ok ffffffffffffffff\nk 1 0\nu 3 1 misplaced\n";
 
@@ -64,7 +65,7 @@ fn claim_lines(certificate: &mut Certificate, text: &str) -> Result<(), Fail> {
 fn has_text(alloc: Global, certificate: &Certificate) -> Result<bool, Fail> {
     let mut text = Vec::new(alloc);
     text.extend_from_slice(b"before ")?;
-    write(certificate, &mut text)?;
+    write_certificate(certificate, &mut text)?;
     Ok(text.as_slice().strip_prefix(b"before ".as_slice()) == Some(TEXT.as_bytes()))
 }
 
@@ -73,7 +74,7 @@ fn writes_what_is_claimed(rt: HostRuntime) -> Result<(), Fail> {
     let mut certificate = Certificate::new(rt.alloc());
     claim_lines(&mut certificate, TEXT)?;
     assert!(rt; has_text(rt.alloc(), &certificate)?);
-    let again = read_back(rt.alloc(), &certificate)?;
+    let again = certificate_reads_back(rt.alloc(), &certificate)?;
     assert!(rt; again.len() == 4 && has_text(rt.alloc(), &again)?);
     Ok(())
 }

@@ -1,11 +1,12 @@
 //! Histories recorded, written and read.
 
-use history::{Config, Event, History, read, read_back, write};
+use history::{Config, Event, History, read};
 use rmi_codec::{read_command, read_reply};
 use rmi_view::ReplyRef;
 use rmm_spec::{Command, FunctionId, Reply};
 use std::alloc::Global;
 use std::test::Fail;
+use text_writers::{history_reads_back, write_history};
 
 // The event that a line of a history's text states.
 fn event(line: &str) -> Result<Event, Fail> {
@@ -152,7 +153,7 @@ const EVENTS: &str = "c 7 0 c4000151 fff000\nc 0 0 c4000152 ffffffffffffffff\n\
 fn has_text(alloc: Global, history: &History) -> Result<bool, Fail> {
     let mut text = Vec::new(alloc);
     text.extend_from_slice(b"before ")?;
-    write(history, &mut text)?;
+    write_history(history, &mut text)?;
     Ok(text.as_slice().strip_prefix(b"before ".as_slice()) == Some(TEXT.as_bytes()))
 }
 
@@ -161,7 +162,7 @@ fn writes_what_is_recorded(rt: HostRuntime) -> Result<(), Fail> {
     let mut history = empty(rt.alloc(), 4096, 8)?;
     record_lines(&mut history, EVENTS)?;
     assert!(rt; has_text(rt.alloc(), &history)?);
-    let again = read_back(rt.alloc(), &history)?;
+    let again = history_reads_back(rt.alloc(), &history)?;
     assert!(rt; again.len() == 6 && has_text(rt.alloc(), &again)?);
     Ok(())
 }

@@ -142,7 +142,7 @@ fn many_lines(alloc: Global) -> Result<Vec<u8>, Fail> {
         record_call(&mut history, number)?;
     }
     let mut text = Vec::new(alloc);
-    history::write(&history, &mut text)?;
+    text_writers::write_history(&history, &mut text)?;
     Ok(text)
 }
 

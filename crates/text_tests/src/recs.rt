@@ -1,9 +1,9 @@
 //! A REC from its first Enter on. The expected digest was computed by `sha256sum` from the bytes that its comment writes out.
 
-use rec_steps::{Command, Realm, Rec, Reply, enter, exit, realm_call, walks};
 use arrayvec::ArrayVec;
 use granule_state::Pa;
 use realm_desc::{HashAlgorithm, Space};
+use rec_steps::{Command, Realm, Rec, Reply, enter, exit, realm_call, walks};
 use rmm_spec::{FunctionId, Ripas};
 
 // A realm at 1000 that was activated, and its first REC.

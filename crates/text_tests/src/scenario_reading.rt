@@ -1,7 +1,7 @@
 //! Scenario files, and what is read of them.
 
-use scenario_text::{ScenarioFault, read_scenario};
 use rmm_spec::{Version, Will};
+use scenario_text::{ScenarioFault, read_scenario};
 use std::process::Abort;
 use std::test::Fail;
 

@@ -1,7 +1,7 @@
 //! A file and lines of calls, worked out by hand.
 
-use scenario_writer::{write_calls, write_scenario};
 use scenario_text::{Scenario, read_scenario};
+use scenario_writer::{write_calls, write_scenario};
 use std::process::Abort;
 use std::test::Fail;
 

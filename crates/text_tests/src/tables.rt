@@ -1,8 +1,8 @@
 //! Indices at the edges of tables, and each method of a table once.
 
-use rtt_table::{Table, index_of};
 use granule_state::Ipa;
 use rmm_spec::{Entry, EntryTest, Place, Ripas};
+use rtt_table::{Table, index_of};
 use std::test::Fail;
 
 #[test]

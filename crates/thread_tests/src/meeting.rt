@@ -182,9 +182,9 @@ fn push_judged(
     out: &mut Vec<u8>,
 ) -> Result<(), AllocError> {
     let mut text = Vec::new(alloc);
-    history::write(recorded, &mut text)?;
+    text_writers::write_history(recorded, &mut text)?;
     let mut lines = Vec::new(alloc);
-    certificate::write(order, &mut lines)?;
+    text_writers::write_certificate(order, &mut lines)?;
     out.extend_from_slice(lines.as_slice())?;
     let verdict = check(alloc, text.as_slice(), lines.as_slice())?;
     verdict_text(&verdict, out)

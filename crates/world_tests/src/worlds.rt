@@ -135,9 +135,9 @@ pub(crate) fn expect_texts<R: Abort + AllocGlobal>(
 ) -> Result<(), Fail> {
     let alloc = rt.alloc();
     let mut events = Vec::new(alloc);
-    history::write(&world.history(alloc)?, &mut events)?;
+    text_writers::write_history(&world.history(alloc)?, &mut events)?;
     let mut lines = Vec::new(alloc);
-    certificate::write(&world.certificate(alloc)?, &mut lines)?;
+    text_writers::write_certificate(&world.certificate(alloc)?, &mut lines)?;
     assert!(rt;
         events.as_slice() == history.as_bytes() && lines.as_slice() == certificate.as_bytes()
     );

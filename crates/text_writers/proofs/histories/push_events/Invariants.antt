@@ -2,7 +2,7 @@ use Rattle.std.proofs.Common.{◌≡◌, ◌≤◌, ◌+◌, ◌++◌, map, drop
 use Rattle.rmm_spec.specs.HistoryText.{event_parts}
 use Rattle.rmm_spec.specs.Text.{lines_text}
 use Rattle.history.specs.Counts.{AreCounts}
-use Rattle.history.proofs.writing.push_events.Given as goal
+use Rattle.text_writers.proofs.histories.push_events.Given as goal
 
 -- what is written and what is left to write are the whole text
 abbrev pub invariant-loop-place : goal.invariant-loop-place

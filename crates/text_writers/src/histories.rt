@@ -6,14 +6,14 @@ ghost use Rattle.rmi_codec.specs.Spaced.{spaced};
 ghost use Rattle.rmm_spec.specs.HistoryText.{event_parts, history_text, config_parts, mark};
 ghost use Rattle.rmm_spec.specs.Text.{decimal, line_text, lines_text};
 
-use crate::history::History;
 use granule_state::Config;
+use history::History;
 use rmi_codec::{all_or_nothing, push_command, push_head, push_numbers, push_reply};
 use rmm_spec::{Event, Version};
 use std::alloc::AllocError;
 
 /// Appends a history's text, or nothing where memory is refused, which it is only where the buffer has no room for the text.
-pub fn write(history: &History, out: &mut Vec<u8>) -> Result<(), AllocError>
+pub fn write_history(history: &History, out: &mut Vec<u8>) -> Result<(), AllocError>
     ensures ok { OnOk result (out.new.items ≡ out.old.items ++ history_text history.now.recorded) }
     ensures err { OnErr result (out.new.items ≡ out.old.items) }
     ensures full { OnErr result (vec_capacity out.old < vec_len out.old + length (history_text history.now.recorded)) }
@@ -98,7 +98,7 @@ fn push_event(out: &mut Vec<u8>, event: &Event) -> Result<(), AllocError>
     Ok(())
 }
 
-#[tactic(auto, using(std::proofs::lemmas::Grind::common_steps, crate::proofs::WriteLaws::event_texts))]
+#[tactic(auto, using(std::proofs::lemmas::Grind::common_steps, history::proofs::WriteLaws::event_texts))]
 fn push_parts(out: &mut Vec<u8>, event: &Event) -> Result<(), AllocError>
     ensures ok { OnOk result (out.new.items ≡ out.old.items ++ line_text (event_parts event.now)) }
     ensures kept { OnErr result (take (length out.old.items) out.new.items ≡ out.old.items) }

@@ -4,7 +4,7 @@ use Rattle.std.proofs.lemmas.Result.{MatchResult-from_err}
 use Rattle.certificate.specs.LineRef.{line_seen}
 use Rattle.rmm_spec.specs.CertificateText.{line_parts}
 use Rattle.rmi_codec.proofs.WriteLaws.{begun_after, lines_left}
-use Rattle.certificate.proofs.writing.push_certificate.Goals as goal
+use Rattle.text_writers.proofs.certificates.push_certificate.Goals as goal
 
 pub returns-in_err-push_line-clause-beginning : goal.returns-in_err-push_line-clause-beginning
 returns-in_err-push_line-clause-beginning c =

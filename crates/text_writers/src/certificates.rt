@@ -6,13 +6,13 @@ ghost use Rattle.rmi_codec.specs.Beginning.{IsBeginning};
 ghost use Rattle.rmm_spec.specs.CertificateText.{certificate_text, line_parts};
 ghost use Rattle.rmm_spec.specs.Text.{line_text};
 
-use crate::certificate::{Certificate, LineRef};
+use certificate::{Certificate, LineRef};
 use rmi_codec::{all_or_nothing, push_head, push_reply};
 use rmm_spec::{Line, Reply};
 use std::alloc::AllocError;
 
 /// Appends a certificate's text, or nothing where memory is refused, which it is only where the buffer has no room for the text.
-pub fn write(certificate: &Certificate, out: &mut Vec<u8>) -> Result<(), AllocError>
+pub fn write_certificate(certificate: &Certificate, out: &mut Vec<u8>) -> Result<(), AllocError>
     ensures ok { OnOk result (out.new.items ≡ out.old.items ++ certificate_text certificate.now.lines) }
     ensures err { OnErr result (out.new.items ≡ out.old.items) }
     ensures full { OnErr result (vec_capacity out.old < vec_len out.old + length (certificate_text certificate.now.lines)) }
@@ -48,7 +48,7 @@ fn push_line(out: &mut Vec<u8>, line: LineRef<'_>) -> Result<(), AllocError>
     Ok(())
 }
 
-#[tactic(auto, using(std::proofs::lemmas::Grind::common_steps, crate::proofs::WriteLemmas::line_texts))]
+#[tactic(auto, using(std::proofs::lemmas::Grind::common_steps, crate::proofs::LineTexts::line_texts))]
 fn push_parts(out: &mut Vec<u8>, line: LineRef<'_>) -> Result<(), AllocError>
     ensures ok { OnOk result (out.new.items ≡ out.old.items ++ line_text (line_parts (line_seen line.entry))) }
     ensures kept { OnErr result (take (length out.old.items) out.new.items ≡ out.old.items) }
@@ -62,7 +62,7 @@ fn push_parts(out: &mut Vec<u8>, line: LineRef<'_>) -> Result<(), AllocError>
     }
 }
 
-#[tactic(auto, using(std::proofs::lemmas::Grind::common_steps, crate::proofs::WriteLemmas::line_texts))]
+#[tactic(auto, using(std::proofs::lemmas::Grind::common_steps, crate::proofs::LineTexts::line_texts))]
 fn push_unfinished(out: &mut Vec<u8>, cpu: u8, number: u32, reply: &Reply) -> Result<(), AllocError>
     ensures ok { OnOk result (out.new.items ≡ out.old.items ++ line_text (line_parts (Line.Unfinished cpu number reply.now))) }
     ensures kept { OnErr result (take (length out.old.items) out.new.items ≡ out.old.items) }

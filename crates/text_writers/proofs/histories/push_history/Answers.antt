@@ -3,7 +3,7 @@ use Rattle.std.proofs.lemmas.Grind.{common_steps}
 use Rattle.rmi_codec.proofs.WriteLaws.{begun_append}
 use Rattle.rmm_spec.specs.HistoryText.{config_parts, event_parts}
 use Rattle.rmm_spec.specs.Text.{line_text, lines_text}
-use Rattle.history.proofs.writing.push_history.Goals as goal
+use Rattle.text_writers.proofs.histories.push_history.Goals as goal
 
 pub returns-in_err-push_header-clause-beginning : goal.returns-in_err-push_header-clause-beginning
 returns-in_err-push_header-clause-beginning c =

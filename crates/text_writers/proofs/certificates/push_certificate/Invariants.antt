@@ -1,6 +1,6 @@
 use Rattle.std.proofs.Common.{◌≡◌, ◌≤◌, ◌+◌, ◌++◌, drop, length, take, vec_capacity}
 use Rattle.rmm_spec.specs.CertificateText.{certificate_text}
-use Rattle.certificate.proofs.writing.push_certificate.Given as goal
+use Rattle.text_writers.proofs.certificates.push_certificate.Given as goal
 
 -- what is written and what is left to write are the whole text
 abbrev pub invariant-loop-i : goal.invariant-loop-i

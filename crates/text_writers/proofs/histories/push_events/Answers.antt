@@ -3,7 +3,7 @@ use Rattle.std.proofs.lemmas.Grind.{common_steps}
 use Rattle.std.proofs.lemmas.Result.{MatchResult-from_err}
 use Rattle.rmm_spec.specs.HistoryText.{event_parts}
 use Rattle.rmi_codec.proofs.WriteLaws.{begun_after, lines_left}
-use Rattle.history.proofs.writing.push_events.Goals as goal
+use Rattle.text_writers.proofs.histories.push_events.Goals as goal
 
 pub returns-in_err-push_event-clause-beginning : goal.returns-in_err-push_event-clause-beginning
 returns-in_err-push_event-clause-beginning c =
