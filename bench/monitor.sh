@@ -3,12 +3,12 @@
 # granules that they share, and with pages in realms of their own and in one for all; and the same commands with one lock around
 # each. Each is the best of three runs of so many rounds (30 unless told), by the clock.
 set -euo pipefail
-cd "$(dirname "$0")/../crates/monitor_bench"
+cd "$(dirname "$0")/../crates/bench"
 rounds=${1:-30}
-rt run -- time own many 1 0 > /dev/null
+rt run -- monitor time own many 1 0 > /dev/null
 
 rate() {
-  out/monitor_bench time "$1" "$2" "$3" "$rounds" | awk '{ printf "%.0f\n", $1 / $2 * 1e9 }'
+  out/bench monitor time "$1" "$2" "$3" "$rounds" | awk '{ printf "%.0f\n", $1 / $2 * 1e9 }'
 }
 
 best() {

@@ -3,14 +3,14 @@
 # than that), less the time of a run that takes none, and of as many that follow. Each time is the best of five runs, by
 # processor time. A second word, `realms` or `realm`, times pages mapped in realms of their own or in one for all.
 set -euo pipefail
-cd "$(dirname "$0")/../crates/world_bench"
+cd "$(dirname "$0")/../crates/bench"
 turns=${1:-1000000}
 kind=${2:-turns}
-rt run -- turns 1 0 > /dev/null
+rt run -- world turns 1 0 > /dev/null
 
 seconds() {
   local TIMEFORMAT=%U
-  { time out/world_bench "$kind" "$1" "$2" > /dev/null; } 2>&1
+  { time out/bench world "$kind" "$1" "$2" > /dev/null; } 2>&1
 }
 
 best() {

@@ -27,7 +27,7 @@ NAMED = {
     "history": ({"event_queue", "merging", "text_writers"}, "a history's index and its text, one event longer; a text that was written, read"),
     "line_pieces": ({"certificate", "checker", "history", "merging", "recorded_events"}, "the pieces of a line, for each text of lines"),
     "machine_cells": ({"explain", "spec_machine"}, "a walk's links, and what is kept of a granule"),
-    "monitor": ({"monitor_bench", "monitor_runs", "refused_runs", "thread_tests"}, "the tokens of all CPUs, with one CPU's changed"),
+    "monitor": ({"bench", "monitor_runs", "refused_runs", "thread_tests"}, "the tokens of all CPUs, with one CPU's changed"),
     "rec_steps": ({"command_rows", "spec_machine"}, "the step that an answer inside of a REC is"),
     "rmi_codec": ({"certificate", "checker", "history", "line_pieces", "merging", "recorded_events"}, "the texts of numbers and replies"),
     "world": ({"world_runs"}, "what a turn makes is one value"),

@@ -1,14 +1,18 @@
-//! Times measurements, walks in a realm's tables, and events on their way through a queue. `docs/SPEED.md` has its arguments.
-//! It prints counts and times, which no proof speaks of. `bench gate` runs some of each, of which the lines that it prints are known.
-//! It depends on `measure`, `rtt_walk` and `event_queue`. Nothing depends on it: the scripts in `bench` run it.
+//! Runs worlds of turns and monitors on threads at random, compares replies and machines, and times these and parts. `docs/SPEED.md` has
+//! its arguments. It prints counts and times, which no proof speaks of, and ends with status 1 where a judgement isn't `yes` or a reply
+//! isn't equal. `bench gate` runs some of each kind, of which the lines that it prints are known.
+//! It depends on what it times and on `checker`, and nothing on it: the scripts in `bench` run it.
 #![tactic(auto)]
 
-mod measures;
-mod queues;
-mod walks;
+mod judged;
+mod lines;
+mod monitors;
+mod parts;
+mod timing;
+mod worlds;
 
-use anyhow::{Result, bail};
-use bench_words::{lines_of, number};
+use crate::lines::lines_of;
+use anyhow::Result;
 use std::alloc::Global;
 use std::env;
 use std::sync::Wait;
@@ -16,11 +20,17 @@ use std::thread::Threads;
 use std::time::Clock;
 
 /// What `gate` runs, in turn.
-const GATE: [&str; 4] = [
+const GATE: [&str; 10] = [
     "measure words 1000",
     "walk 2",
     "queue queue 2",
     "queue mutex 2",
+    "world all 1 20",
+    "world stops 1 1",
+    "world edges 1 5",
+    "world machines 1 20",
+    "monitor all 1 20 1000",
+    "monitor scenarios 1 5",
 ];
 
 fn main(rt: HostRuntime) -> Result<()> {
@@ -37,18 +47,8 @@ fn run<R: Print + Threads + Wait + Clock + Sync>(
     words: &[&str],
 ) -> Result<()> {
     match words {
-        ["measure", kind, count] => measures::extend(rt, kind, number(count)?),
-        ["walk", rounds] => walks::walk_all(rt, alloc, number(rounds)?),
-        ["queue", kind, producers] => {
-            let timing = queues::timed(rt, alloc, kind, number(producers)?, 1)?;
-            println!(rt; "{}", timing.count)?;
-            Ok(())
-        }
-        ["queue", kind, producers, rounds] => {
-            let timing = queues::timed(rt, alloc, kind, number(producers)?, number(rounds)?)?;
-            timing.print(rt)?;
-            Ok(())
-        }
-        _ => bail!("measure, walk, queue or gate, and its words?"),
+        ["world", words @ ..] => worlds::run(rt, alloc, words),
+        ["monitor", words @ ..] => monitors::run(rt, alloc, words),
+        _ => parts::run(rt, alloc, words),
     }
 }

@@ -2,7 +2,7 @@
 //! CPU kept another waiting. No clause says what is drawn; the same seed gives the same on every machine and in every build.
 //! What is drawn is a scenario, as `scenario` has it.
 //! Nothing here waits.
-//! `rmmdraw` depends on it, and `world_bench` and `monitor_bench`.
+//! `rmmdraw` depends on it, and `bench`.
 #![tactic(auto)]
 
 mod dice;

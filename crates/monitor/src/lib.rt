@@ -2,7 +2,7 @@
 //! It promises what each answer of `execute` leaves of the CPU's token and pass and of the cells that it held, that no granule stays locked
 //! after it, and that a refused commit has its cause; that a drain appends what it took; and that a close gives each CPU's whole list as
 //! history and the journal as certificate, which is a linearization of it, where a call comes after all that its token was told of.
-//! `monitor_runs` and `monitor_bench` run their threads through it.
+//! `monitor_runs` and `bench` run their threads through it.
 #![tactic(auto)]
 
 mod close_fault;

@@ -1,6 +1,6 @@
 //! Programs of commands, one after another: the life of a realm with its REC, one with tables and pages in both halves, and a table
 //! of pages that is filled and emptied. No clause says which commands they are.
-//! `world_bench` and `monitor_bench` depend on it.
+//! `bench` depends on it.
 #![tactic(auto)]
 
 mod deep_emptying;

@@ -1,13 +1,24 @@
-//! Nothing but tests, of worlds that turn.
-//! Expected texts come from outside, worked out by hand from the profile.
-//! `worlds` has runs of two CPUs, turn by turn; `walking` has commands that walk tables; `printed` has runs from their
-//! programs to their texts.
-//! They show that calls with enough memory succeed, and that the clauses say what was meant.
-//! Nothing depends on it.
+//! Nothing but tests: of worlds that turn, and of what stands below them and below the locks.
+//! Expected lines, texts and digests come from outside, worked out by hand from the profile or by another program.
+//! `worlds` has runs of two CPUs, turn by turn; `walking` commands that walk tables; `printed` runs from their programs to their texts;
+//! `descriptors` realms and RECs by their calls; `held_cells` held cells; `plans` and `tables` what a CPU does next; `decisions` what it
+//! is answered; `unshaped` cells that no shape has. They show that calls with enough memory succeed. Nothing depends on it.
 #![tactic(auto)]
 
 #[cfg(test)]
+mod decisions;
+#[cfg(test)]
+mod descriptors;
+#[cfg(test)]
+mod held_cells;
+#[cfg(test)]
+mod plans;
+#[cfg(test)]
 mod printed;
+#[cfg(test)]
+mod tables;
+#[cfg(test)]
+mod unshaped;
 #[cfg(test)]
 mod walking;
 #[cfg(test)]

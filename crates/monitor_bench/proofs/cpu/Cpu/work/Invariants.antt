@@ -1,5 +1,0 @@
-use Rattle.monitor.specs.Executed.{ArePaired}
-use Rattle.monitor_bench.proofs.cpu.Cpu.work.Given as goal
-
-abbrev pub invariant-loop-place : goal.invariant-loop-place
-invariant-loop-place g l = ArePaired l.monitor l.self.token l.self.pass
