@@ -7,17 +7,19 @@
 
 mod files;
 mod orders;
+mod outcomes;
 mod recordings;
 mod runs;
 mod texts;
 
+use crate::outcomes::{Kind, print_outcomes};
 use anyhow::{Result, bail};
 
 fn main(rt: HostRuntime) -> Result<()> {
     let are_right = texts::judge_files(&rt)?;
-    orders::find_orders(&rt)?;
-    recordings::merge_files(&rt)?;
-    runs::play_files(&rt)?;
+    print_outcomes(&rt, Kind::Order)?;
+    print_outcomes(&rt, Kind::Merge)?;
+    print_outcomes(&rt, Kind::Run)?;
     if are_right {
         Ok(())
     } else {

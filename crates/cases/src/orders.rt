@@ -2,9 +2,9 @@
 //! search over all orders, written apart, and an order's count is that of the calls that returned, with those added that have to have
 //! taken effect.
 
-use crate::files::files_ending;
 use anyhow::{Context, Result, bail};
-use checker::{judged_order, verdict_text};
+use certificate::Certificate;
+use checker::{Verdict, judged_order, verdict_text};
 use finding::{Found, find};
 use history::{History, HistoryFault};
 use std::alloc::{AllocError, Global};
@@ -14,14 +14,14 @@ use std::rt::Files;
 /// How many offers a search makes.
 const OFFERS: u64 = 100_000;
 
-/// Looks for an order of each history, and prints its name with the verdict on what was found, or `none`.
-pub(crate) fn find_orders<R: Files + Print + AllocGlobal + Clone + Drop>(rt: &R) -> Result<()> {
-    for file in &files_ending(rt, ".history")? {
-        let bytes = fs::read(rt, file.as_str()).context(file.as_str())?;
-        let outcome = outcome(rt.alloc(), bytes.as_slice())?;
-        println!(rt; "{file}: {outcome}")?;
+/// The verdict on the order of a history that is found, or that there is none.
+pub(crate) fn outcome<R: Files + AllocGlobal>(rt: &R, file: &str) -> Result<String> {
+    let bytes = fs::read(rt, file).context(file)?;
+    match history::read(rt.alloc(), bytes.as_slice()) {
+        Ok(history) => found(rt.alloc(), &history),
+        Err(HistoryFault::BadLine(line)) => Ok(format!(in rt.alloc(); "fault history {line}")?),
+        Err(HistoryFault::NoMemory) => bail!("no memory"),
     }
-    Ok(())
 }
 
 // Whether a search that may make no offer gives up, as it has to.
@@ -29,25 +29,25 @@ fn gives_up(alloc: Global, history: &History) -> Result<bool, AllocError> {
     Ok(matches!(find(alloc, history, 0)?, Found::GaveUp(_)))
 }
 
-// The verdict on the order that is found, or that there is none.
-fn outcome(alloc: Global, bytes: &[u8]) -> Result<String> {
-    let history = match history::read(alloc, bytes) {
-        Ok(history) => history,
-        Err(HistoryFault::BadLine(line)) => return Ok(format!(in alloc; "fault history {line}")?),
-        Err(HistoryFault::NoMemory) => bail!("no memory"),
-    };
-    if !gives_up(alloc, &history)? {
+fn found(alloc: Global, history: &History) -> Result<String> {
+    if !gives_up(alloc, history)? {
         bail!("an answer without an offer");
     }
-    match find(alloc, &history, OFFERS)? {
-        Found::Order(order) => {
-            let mut line = Vec::new(alloc);
-            let judged = judged_order(alloc, &history, &order)?;
-            verdict_text(&judged.verdict, &mut line)?;
-            let text = std::str::from_utf8(line.as_slice())?;
-            Ok(String::from_str(alloc, text.trim_end())?)
-        }
+    match find(alloc, history, OFFERS)? {
+        Found::Order(order) => judged(alloc, history, &order),
         Found::None(_) => Ok(String::from_str(alloc, "none")?),
         Found::GaveUp(_) => Ok(String::from_str(alloc, "gave up")?),
     }
+}
+
+fn judged(alloc: Global, history: &History, order: &Certificate) -> Result<String> {
+    let judged = judged_order(alloc, history, order)?;
+    line_of(alloc, &judged.verdict)
+}
+
+fn line_of(alloc: Global, verdict: &Verdict) -> Result<String> {
+    let mut line = Vec::new(alloc);
+    verdict_text(verdict, &mut line)?;
+    let text = std::str::from_utf8(line.as_slice())?;
+    Ok(String::from_str(alloc, text.trim_end())?)
 }

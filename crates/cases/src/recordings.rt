@@ -5,7 +5,6 @@
 //! of a large machine, in `sizes` for 8 granules and 3 CPUs. One that begins with `rename` is merged with names for granules: of a memory
 //! that ends at 100000 (hex) where it ends in `memory`, for 2 granules where it ends in `few`.
 
-use crate::files::files_ending;
 use anyhow::{Context, Result};
 use devices::FileSource;
 use merging::{
@@ -14,15 +13,6 @@ use merging::{
 use std::alloc::Global;
 use std::fs;
 use std::rt::Files;
-
-/// Merges each recording, and prints its name and what came of it: both texts, or why there are none.
-pub(crate) fn merge_files<R: Files + Print + AllocGlobal + Clone + Drop>(rt: &R) -> Result<()> {
-    for file in &files_ending(rt, ".events")? {
-        let outcome = outcome(rt, file.as_str())?;
-        println!(rt; "{file}: {outcome}")?;
-    }
-    Ok(())
-}
 
 fn asked(name: &str) -> Asked {
     let is_small = name.ends_with("sizes.events");
@@ -72,12 +62,16 @@ fn renaming(name: &str) -> Option<Renaming> {
     })
 }
 
-// The history, the certificate and the map behind a first line with the count of stamps, or the fault.
-fn outcome<R: Files + AllocGlobal>(rt: &R, name: &str) -> Result<String> {
-    let alloc = rt.alloc();
+/// The history, the certificate and the map behind a first line with the count of stamps, or the fault.
+pub(crate) fn outcome<R: Files + AllocGlobal>(rt: &R, name: &str) -> Result<String> {
     let mut source = FileSource::new(fs::open(rt, name).context(name)?);
-    match merge_source(alloc, &mut source, asked(name)) {
-        Ok(run) => texts(alloc, &run),
+    let merged = merge_source(rt.alloc(), &mut source, asked(name));
+    told(rt.alloc(), &merged)
+}
+
+fn told(alloc: Global, merged: &Result<Run, SourceFault>) -> Result<String> {
+    match merged {
+        Ok(run) => texts(alloc, run),
         Err(SourceFault::Events(fault)) => Ok(format!(in alloc; "{fault}")?),
         Err(_) => Ok(String::from_str(alloc, "unread")?),
     }
@@ -97,13 +91,18 @@ fn write(
 }
 
 fn texts(alloc: Global, run: &Run) -> Result<String> {
+    let stamps = run.stamps();
+    let mut text = format!(in alloc; "{stamps} stamps\n")?;
+    push_calls(alloc, run, &mut text)?;
+    text.push_str(std::str::from_utf8(run.map(alloc)?.as_slice())?)?;
+    Ok(text)
+}
+
+fn push_calls(alloc: Global, run: &Run, text: &mut String) -> Result<()> {
     let mut history = Vec::new(alloc);
     let mut certificate = Vec::new(alloc);
     write(alloc, run, &mut history, &mut certificate)?;
-    let map = run.map(alloc)?;
-    let stamps = run.stamps();
-    let calls = std::str::from_utf8(history.as_slice())?;
-    let commits = std::str::from_utf8(certificate.as_slice())?;
-    let names = std::str::from_utf8(map.as_slice())?;
-    Ok(format!(in alloc; "{stamps} stamps\n{calls}{commits}{names}")?)
+    text.push_str(std::str::from_utf8(history.as_slice())?)?;
+    text.push_str(std::str::from_utf8(certificate.as_slice())?)?;
+    Ok(())
 }

@@ -46,23 +46,45 @@ fn judge_file<R: Files + Print + AllocGlobal>(rt: &R, file: &str) -> Result<bool
 }
 
 fn judge_case<R: Print + AllocGlobal>(rt: &R, file: &str, text: &CaseText<'_>) -> Result<bool> {
-    let mut case = Case::new(rt.alloc());
-    let mut asked = 0u64;
-    let mut right = 0u64;
-    for statement in &text.statements {
-        case.take(rt.alloc(), statement)?;
-        if let Some(expected) = statement.expected(rt.alloc())? {
-            asked = asked.wrapping_add(1);
-            let is_right = judge(rt, &case, statement, expected.as_str())?;
-            right = right.wrapping_add(u64::from(is_right));
-        }
-    }
+    let Counts { asked, right } = judge_statements(rt, text)?;
     let name = text.name;
     println!(rt; "{file} {name}: {right} of {asked}")?;
     Ok(right == asked)
 }
 
+/// How often a case asked, and how often the answer was right.
+#[derive(Clone, Copy, Default)]
+struct Counts {
+    asked: u64,
+    right: u64,
+}
+
+fn judge_statements<R: Print + AllocGlobal>(rt: &R, text: &CaseText<'_>) -> Result<Counts> {
+    let mut case = Case::new(rt.alloc());
+    let mut counts = Counts::default();
+    for statement in &text.statements {
+        case.take(rt.alloc(), statement)?;
+        if let Some(is_right) = judge(rt, &case, statement)? {
+            counts.asked = counts.asked.wrapping_add(1);
+            counts.right = counts.right.wrapping_add(u64::from(is_right));
+        }
+    }
+    Ok(counts)
+}
+
+// Whether the answer is right, where the statement asks.
 fn judge<R: Print + AllocGlobal>(
+    rt: &R,
+    case: &Case,
+    statement: &Statement<'_>,
+) -> Result<Option<bool>> {
+    match statement.expected(rt.alloc())? {
+        Some(expected) => Ok(Some(is_answer(rt, case, statement, expected.as_str())?)),
+        None => Ok(None),
+    }
+}
+
+fn is_answer<R: Print + AllocGlobal>(
     rt: &R,
     case: &Case,
     statement: &Statement<'_>,

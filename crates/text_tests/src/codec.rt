@@ -53,9 +53,10 @@ fn is_written(alloc: Global, reply: &Reply, text: &[u8]) -> Result<bool, Fail> {
 
 #[test]
 fn writes_replies(rt: HostRuntime) -> Result<(), Fail> {
-    assert!(rt; is_written(rt.alloc(), &counting(), b"ok 1 2 3 4 5 6 7 8 9 a")?);
-    assert!(rt; is_written(rt.alloc(), &Reply::Err(10, 0), b"err 10 0")?);
-    assert!(rt; is_written(rt.alloc(), &Reply::Misplaced, b"misplaced")?);
+    let is_counted = is_written(rt.alloc(), &counting(), b"ok 1 2 3 4 5 6 7 8 9 a")?;
+    let is_refused = is_written(rt.alloc(), &Reply::Err(10, 0), b"err 10 0")?;
+    let is_misplaced = is_written(rt.alloc(), &Reply::Misplaced, b"misplaced")?;
+    assert!(rt; is_counted && is_refused && is_misplaced);
     Ok(())
 }
 
@@ -86,11 +87,14 @@ fn decimals(rt: HostRuntime) -> Result<(), Fail> {
     Ok(())
 }
 
+fn are_three(parts: &mut Parts<'_>) -> bool {
+    parts.next_part() == Some(b"a".as_slice())
+        && parts.next_part() == Some(b"".as_slice())
+        && parts.next_part() == Some(b"bc".as_slice())
+        && parts.next_part().is_none()
+}
+
 #[test]
 fn parts(rt: HostRuntime) {
-    let mut parts = Parts::of(b"a  bc");
-    assert!(rt; parts.next_part() == Some(b"a".as_slice()));
-    assert!(rt; parts.next_part() == Some(b"".as_slice()));
-    assert!(rt; parts.next_part() == Some(b"bc".as_slice()));
-    assert!(rt; parts.next_part().is_none());
+    assert!(rt; are_three(&mut Parts::of(b"a  bc")));
 }

@@ -1,6 +1,6 @@
 //! Histories recorded, written and read.
 
-use history::{Config, Event, History, read};
+use history::{Call, Config, Event, History, read};
 use rmi_codec::{read_command, read_reply};
 use rmi_view::ReplyRef;
 use rmm_spec::{Command, FunctionId, Reply};
@@ -67,8 +67,8 @@ fn nth_event(nth: u8, number: u32) -> Result<Event, Fail> {
     }
 }
 
-// Whether there is memory for an event, which is then pushed. A push that is refused behind that is a failure.
-fn push_in_room(history: &mut History, event: Event) -> Result<bool, Fail> {
+// Whether there is memory for one of the events, which is then pushed. A push that is refused behind that is a failure.
+fn push_in_room(history: &mut History, nth: u8, number: u32) -> Result<bool, Fail> {
     let before = history.len();
     if history.make_room().is_err() {
         return if history.len() == before {
@@ -77,7 +77,7 @@ fn push_in_room(history: &mut History, event: Event) -> Result<bool, Fail> {
             Err(Fail::from("a refusal that isn't without effect"))
         };
     }
-    record(history, event)?;
+    record(history, nth_event(nth, number)?)?;
     if history.len().wrapping_sub(before) == 1 {
         Ok(true)
     } else {
@@ -88,8 +88,7 @@ fn push_in_room(history: &mut History, event: Event) -> Result<bool, Fail> {
 // Whether each of four events is pushed, where an allocation may be refused once.
 fn push_round(history: &mut History, number: u32) -> Result<bool, Fail> {
     for nth in 0..4 {
-        let is_pushed = push_in_room(history, nth_event(nth, number)?)?
-            || push_in_room(history, nth_event(nth, number)?)?;
+        let is_pushed = push_in_room(history, nth, number)? || push_in_room(history, nth, number)?;
         if !is_pushed {
             return Ok(false);
         }
@@ -110,11 +109,15 @@ fn push_after_make_room_is_never_refused(rt: HostRuntime) -> Result<(), Fail> {
 
 fn none_fits(history: &History, lines: &str) -> Result<bool, Fail> {
     for line in lines.lines() {
-        if history.fits(&event(line)?) {
+        if fits_line(history, line)? {
             return Ok(false);
         }
     }
     Ok(true)
+}
+
+fn fits_line(history: &History, line: &str) -> Result<bool, Fail> {
+    Ok(history.fits(&event(line)?))
 }
 
 // A call with fewer words than its function takes.
@@ -157,23 +160,34 @@ fn has_text(alloc: Global, history: &History) -> Result<bool, Fail> {
     Ok(text.as_slice().strip_prefix(b"before ".as_slice()) == Some(TEXT.as_bytes()))
 }
 
+fn comes_back(alloc: Global, history: &History) -> Result<bool, Fail> {
+    let again = history_reads_back(alloc, history)?;
+    Ok(again.len() == 6 && has_text(alloc, &again)?)
+}
+
 #[test]
 fn writes_what_is_recorded(rt: HostRuntime) -> Result<(), Fail> {
     let mut history = empty(rt.alloc(), 4096, 8)?;
     record_lines(&mut history, EVENTS)?;
-    assert!(rt; has_text(rt.alloc(), &history)?);
-    let again = history_reads_back(rt.alloc(), &history)?;
-    assert!(rt; again.len() == 6 && has_text(rt.alloc(), &again)?);
+    assert!(rt; has_text(rt.alloc(), &history)? && comes_back(rt.alloc(), &history)?);
     Ok(())
 }
 
 // Whether the second call of CPU 7 stands in the text's lines 5 and 7.
 fn has_last_call(history: &History) -> Result<bool, Fail> {
     let command = read_command("c4000151 0")?;
-    let call = history.call_of(7, 1).ok_or("no call")?;
-    let answer = call.answer.ok_or("no answer")?;
-    let is_answer = answer.returned == 7 && matches!(answer.reply, Reply::Misplaced);
-    Ok(is_answer && call.called == 5 && call.command == command)
+    Ok(match history.call_of(7, 1) {
+        Some(call) => is_last_call(&call, &command),
+        None => false,
+    })
+}
+
+fn is_last_call(call: &Call, command: &Command) -> bool {
+    let is_answered = match &call.answer {
+        Some(answer) => answer.returned == 7 && matches!(answer.reply, Reply::Misplaced),
+        None => false,
+    };
+    is_answered && call.called == 5 && call.command == *command
 }
 
 #[test]
@@ -197,19 +211,28 @@ fn has_its_places(history: &History) -> bool {
     }
 }
 
-fn has_its_call(history: &History) -> Result<bool, Fail> {
-    let call = history.call_of(0, 0).ok_or("no call")?;
-    let answer = call.answer.ok_or("no answer")?;
-    let is_answer = answer.returned == 3
-        && matches!(answer.reply, Reply::Ok(words) if words.is_empty());
-    let command = history.command_at(0).ok_or("no command")?;
-    Ok(
-        is_answer
-            && call.called == 2
-            && call.command == command.to_command()
-            && call.command.function == FunctionId::GranuleDelegate
-            && call.command.words.as_slice() == [0x1000].as_slice(),
-    )
+fn has_its_call(history: &History) -> bool {
+    match (history.call_of(0, 0), history.command_at(0)) {
+        (Some(call), Some(command)) => {
+            is_answered(&call) && is_delegate(&call) && call.command == command.to_command()
+        }
+        _ => false,
+    }
+}
+
+fn is_answered(call: &Call) -> bool {
+    match &call.answer {
+        Some(answer) => {
+            answer.returned == 3 && matches!(&answer.reply, Reply::Ok(words) if words.is_empty())
+        }
+        None => false,
+    }
+}
+
+fn is_delegate(call: &Call) -> bool {
+    call.called == 2
+        && call.command.function == FunctionId::GranuleDelegate
+        && call.command.words.as_slice() == [0x1000].as_slice()
 }
 
 fn has_its_events(history: &History) -> bool {
@@ -227,7 +250,7 @@ fn has_its_events(history: &History) -> bool {
 fn finds_the_call_that_was_read(rt: HostRuntime) -> Result<(), Fail> {
     let history = read(rt.alloc(), b"rmh1 4 1\nc 0 0 c4000151 1000\nr 0 0 ok\n")?;
     assert!(rt; has_its_sizes(&history) && has_its_places(&history));
-    assert!(rt; has_its_call(&history)?);
+    assert!(rt; has_its_call(&history));
     assert!(rt; has_its_events(&history));
     assert!(rt; history.places_of(0, 1).is_none() && history.call_of(0, 1).is_none());
     Ok(())

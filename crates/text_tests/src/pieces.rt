@@ -16,18 +16,18 @@ const HISTORIES: &[u8] =
 const CERTIFICATES: &[u8] = b"0k 7 999999\nu 0 10 ok ffffffffffffffff\nk 1 0\nu 3 1 misplaced\n\
       |0|1\n|1k 0 0|1k 8 0\n|1k 0 0\r\n|1\0|2k 0 0\n\0\n|2k 0 0\n\xff\n|2k 0 0\nk 0 00\nk 0 1\n|3k 1 0\nk 1 1\nu 0 0 ok 1|2k 1 0\nu 0 0 ok 1 \n";
 
-fn bad_line_of_history(read: Result<History, HistoryFault>) -> Result<u64, Fail> {
+fn bad_line_of_history(read: &Result<History, HistoryFault>) -> Result<u64, Fail> {
     match read {
         Ok(_history) => Ok(0),
-        Err(HistoryFault::BadLine(line)) => Ok(line),
+        Err(HistoryFault::BadLine(line)) => Ok(*line),
         Err(HistoryFault::NoMemory) => Err(Fail::from("no memory")),
     }
 }
 
-fn bad_line_of_certificate(read: Result<Certificate, CertFault>) -> Result<u64, Fail> {
+fn bad_line_of_certificate(read: &Result<Certificate, CertFault>) -> Result<u64, Fail> {
     match read {
         Ok(_certificate) => Ok(0),
-        Err(CertFault::BadLine(line)) => Ok(line),
+        Err(CertFault::BadLine(line)) => Ok(*line),
         Err(CertFault::NoMemory) => Err(Fail::from("no memory")),
     }
 }
@@ -35,9 +35,9 @@ fn bad_line_of_certificate(read: Result<Certificate, CertFault>) -> Result<u64, 
 // The bad line that both readers tell of their text in these pieces.
 fn bad_line(alloc: Global, is_history: bool, pieces: &[&[u8]]) -> Result<u64, Fail> {
     if is_history {
-        bad_line_of_history(history::read_pieces(alloc, pieces))
+        bad_line_of_history(&history::read_pieces(alloc, pieces))
     } else {
-        bad_line_of_certificate(certificate::read_pieces(alloc, pieces))
+        bad_line_of_certificate(&certificate::read_pieces(alloc, pieces))
     }
 }
 
@@ -81,13 +81,18 @@ fn is_told(reader: &mut Reader, piece: &[u8]) -> bool {
     matches!(reader.feed(piece), Err(HistoryFault::BadLine(2)))
 }
 
+// Whether the reader tells at its end that this line is bad.
+fn is_bad_at_end(reader: Reader, line: u64) -> Result<bool, Fail> {
+    Ok(bad_line_of_history(&reader.finish())? == line)
+}
+
 // Whether a line of so many bytes is told before its end exactly where it is that long, and at its end.
 fn is_long_line_told(alloc: Global, line: &[u8], is_long: bool) -> Result<bool, Fail> {
     let mut reader = Reader::new(alloc);
     reader.feed(b"rmh1 4 1\n")?;
     let is_early = reader.feed(line).is_err();
     let is_late = is_told(&mut reader, b"\n");
-    Ok(is_early == is_long && is_late && bad_line_of_history(reader.finish())? == 2)
+    Ok(is_early == is_long && is_late && is_bad_at_end(reader, 2)?)
 }
 
 // The same of a certificate's line.
@@ -126,7 +131,7 @@ fn tells_the_same_fault_from_then_on(rt: HostRuntime) -> Result<(), Fail> {
     let mut reader = Reader::new(rt.alloc());
     reader.feed(b"rmh1 4 1\nc 0 0")?;
     assert!(rt; is_told_again(&mut reader));
-    assert!(rt; bad_line_of_history(reader.finish())? == 2);
+    assert!(rt; is_bad_at_end(reader, 2)?);
     Ok(())
 }
 
@@ -151,13 +156,22 @@ fn is_late_told(reader: &mut Reader, piece: &[u8]) -> bool {
     matches!(reader.feed(piece), Err(HistoryFault::BadLine(500)))
 }
 
+fn is_late_told_twice(reader: &mut Reader) -> bool {
+    is_late_told(reader, b"c 0 250 c4000151 1000\n")
+        && is_late_told(reader, b"c 0 249 c4000151 1000\n")
+}
+
+fn feed_many_lines(alloc: Global, reader: &mut Reader) -> Result<(), Fail> {
+    reader.feed(many_lines(alloc)?.as_slice())?;
+    Ok(())
+}
+
 // Of a longer text the lines up to the bad one are enough.
 #[test]
 fn tells_a_bad_line_before_the_rest(rt: HostRuntime) -> Result<(), Fail> {
     let mut reader = Reader::new(rt.alloc());
-    reader.feed(many_lines(rt.alloc())?.as_slice())?;
-    assert!(rt; is_late_told(&mut reader, b"c 0 250 c4000151 1000\n"));
-    assert!(rt; is_late_told(&mut reader, b"c 0 249 c4000151 1000\n"));
-    assert!(rt; bad_line_of_history(reader.finish())? == 500);
+    feed_many_lines(rt.alloc(), &mut reader)?;
+    assert!(rt; is_late_told_twice(&mut reader));
+    assert!(rt; is_bad_at_end(reader, 500)?);
     Ok(())
 }

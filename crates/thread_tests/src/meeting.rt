@@ -253,38 +253,23 @@ k 0 1
 yes 3
 ";
 
+/// Whether it appends that.
+fn meets<R: Threads + Wait + Sync>(rt: &R, alloc: Global, is_apart: bool) -> Result<bool, Fail> {
+    let config = Config::new(4, 2).ok_or("a machine of this size")?;
+    let queue = Queue::new(alloc, &config, CAPACITY)?;
+    let mut out = Vec::new(alloc);
+    run_two::<Brand, R>(rt, alloc, Blank::new(2), config, queue, is_apart, &mut out)?;
+    Ok(out.as_slice() == TOLD.as_bytes())
+}
+
 #[test]
 fn meets_on_one_thread(rt: HostRuntime) -> Result<(), Fail> {
-    let config = Config::new(4, 2).ok_or("a machine of this size")?;
-    let mut out = Vec::new(rt.alloc());
-    let queue = Queue::new(rt.alloc(), &config, CAPACITY)?;
-    run_two::<Brand, _>(
-        &rt,
-        rt.alloc(),
-        Blank::new(2),
-        config,
-        queue,
-        false,
-        &mut out,
-    )?;
-    assert!(rt; out.as_slice() == TOLD.as_bytes());
+    assert!(rt; meets(&rt, rt.alloc(), false)?);
     Ok(())
 }
 
 #[test]
 fn meets_across_threads(rt: HostRuntime) -> Result<(), Fail> {
-    let config = Config::new(4, 2).ok_or("a machine of this size")?;
-    let mut out = Vec::new(rt.alloc());
-    let queue = Queue::new(rt.alloc(), &config, CAPACITY)?;
-    run_two::<Brand, _>(
-        &rt,
-        rt.alloc(),
-        Blank::new(2),
-        config,
-        queue,
-        true,
-        &mut out,
-    )?;
-    assert!(rt; out.as_slice() == TOLD.as_bytes());
+    assert!(rt; meets(&rt, rt.alloc(), true)?);
     Ok(())
 }

@@ -8,20 +8,27 @@ use std::alloc::Global;
 
 /// The verdict's line, and another one where a text that has no bad line doesn't come back byte for byte.
 pub(crate) fn verdict(alloc: Global, history: &str, certificate: &str) -> Result<String> {
-    let verdict = check(alloc, history.as_bytes(), certificate.as_bytes())?;
-    let mut line = Vec::new(alloc);
-    verdict_text(&verdict, &mut line)?;
-    let mut line = String::from_utf8(line)?;
-    let history_again = rewritten_history(alloc, history)?;
-    let certificate_again = rewritten_certificate(alloc, certificate)?;
-    let is_history_back = history_again.as_str() == AS_IT_WAS
+    let mut line = verdict_line(alloc, history.as_bytes(), certificate.as_bytes())?;
+    let is_history_back = is_as_it_was(rewritten_history(alloc, history)?)
         || line.as_str().starts_with("fault history ");
-    let is_certificate_back = certificate_again.as_str() == AS_IT_WAS
+    let is_certificate_back = is_as_it_was(rewritten_certificate(alloc, certificate)?)
         || line.as_str().starts_with("fault ");
     if !is_history_back || !is_certificate_back {
         line.push_str("a text doesn't come back\n")?;
     }
     Ok(line)
+}
+
+/// The verdict's line.
+pub(crate) fn verdict_line(alloc: Global, history: &[u8], certificate: &[u8]) -> Result<String> {
+    let verdict = check(alloc, history, certificate)?;
+    let mut line = Vec::new(alloc);
+    verdict_text(&verdict, &mut line)?;
+    Ok(String::from_utf8(line)?)
+}
+
+fn is_as_it_was(answer: String) -> bool {
+    answer.as_str() == AS_IT_WAS
 }
 
 const AS_IT_WAS: &str = "as it was\n";

@@ -39,29 +39,36 @@ impl Case {
             Word::History => self.history = statement.text(alloc)?,
             Word::Certificate => self.certificate = statement.text(alloc)?,
             Word::Header => self.header = statement.part(alloc)?,
-            Word::Script => {
-                self.script = Script::on(alloc, statement.argument)?;
-                self.script.add(alloc, statement.block.as_str())?;
-                let run = self.script_so_far(alloc)?;
-                self.take_run(run);
-            }
-            Word::Step => {
-                self.script.add(alloc, statement.text(alloc)?.as_str())?;
-                let run = self.script_so_far(alloc)?;
-                self.take_run(run);
-            }
-            Word::Try => {
-                let mut run = self.script_so_far(alloc)?;
-                run.add(alloc, statement.text(alloc)?.as_str())?;
-                self.take_run(run);
-            }
-            Word::Why | Word::Since => {
-                let mut run = self.script_so_far(alloc)?;
-                run.claim(alloc, statement.argument)?;
-                self.take_run(run);
-            }
+            Word::Script => self.begin(alloc, statement)?,
+            Word::Step => self.go_on(alloc, statement.text(alloc)?.as_str())?,
+            Word::Try => self.try_steps(alloc, statement.text(alloc)?.as_str())?,
+            Word::Why | Word::Since => self.claim(alloc, statement.argument)?,
             _ => {}
         }
+        Ok(())
+    }
+
+    fn begin(&mut self, alloc: Global, statement: &Statement<'_>) -> Result<()> {
+        self.script = Script::on(alloc, statement.argument)?;
+        self.go_on(alloc, statement.block.as_str())
+    }
+
+    fn go_on(&mut self, alloc: Global, steps: &str) -> Result<()> {
+        self.script.add(alloc, steps)?;
+        self.try_steps(alloc, "")
+    }
+
+    fn try_steps(&mut self, alloc: Global, steps: &str) -> Result<()> {
+        let mut run = self.script_so_far(alloc)?;
+        run.add(alloc, steps)?;
+        self.take_run(run);
+        Ok(())
+    }
+
+    fn claim(&mut self, alloc: Global, step: &str) -> Result<()> {
+        let mut run = self.script_so_far(alloc)?;
+        run.claim(alloc, step)?;
+        self.take_run(run);
         Ok(())
     }
 
@@ -87,11 +94,13 @@ impl Case {
 
     /// What the public calls answer to the statement.
     pub(crate) fn answer(&self, alloc: Global, statement: &Statement<'_>) -> Result<String> {
+        self.answer_part(alloc, statement.word, statement.part(alloc)?.as_str())
+    }
+
+    fn answer_part(&self, alloc: Global, word: Word, part: &str) -> Result<String> {
         let history = self.history.as_str();
         let certificate = self.certificate.as_str();
-        let part = statement.part(alloc)?;
-        let part = part.as_str();
-        match statement.word {
+        match word {
             Word::Report => reported(alloc, history, certificate),
             Word::Why => why(alloc, history, certificate),
             Word::Since => since(alloc, history, certificate),

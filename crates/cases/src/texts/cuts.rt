@@ -1,21 +1,33 @@
 //! What is answered on texts that come in pieces.
 
+use crate::texts::answers::verdict_line;
 use anyhow::Result;
-use checker::{Session, check, check_pieces, verdict_text};
+use checker::{Session, check_pieces, verdict_text};
 use std::alloc::{AllocError, Global};
 
 /// Whether the two texts have one verdict whole, byte by byte, and cut at each single place of either.
 pub(crate) fn cuts(alloc: Global, history: &str, certificate: &str) -> Result<String> {
-    let history = history.as_bytes();
-    let certificate = certificate.as_bytes();
-    let verdict = check(alloc, history, certificate)?;
-    let mut line = Vec::new(alloc);
-    verdict_text(&verdict, &mut line)?;
-    let line = line.as_slice();
-    let is_one = is_one_by_bytes(alloc, history, certificate, line)?
-        && is_one_by_history(alloc, history, certificate, line)?
-        && is_one_by_certificate(alloc, history, certificate, line)?;
+    let line = verdict_line(alloc, history.as_bytes(), certificate.as_bytes())?;
+    let is_one = is_one_cut(
+        alloc,
+        history.as_bytes(),
+        certificate.as_bytes(),
+        line.as_bytes(),
+    )?;
     answer(alloc, is_one)
+}
+
+fn is_one_cut(
+    alloc: Global,
+    history: &[u8],
+    certificate: &[u8],
+    line: &[u8],
+) -> Result<bool, AllocError> {
+    Ok(
+        is_one_by_bytes(alloc, history, certificate, line)?
+            && is_one_by_history(alloc, history, certificate, line)?
+            && is_one_by_certificate(alloc, history, certificate, line)?,
+    )
 }
 
 fn answer(alloc: Global, is_one: bool) -> Result<String> {
@@ -30,18 +42,27 @@ pub(crate) fn empties(
     certificate: &str,
     count: u32,
 ) -> Result<String> {
-    let verdict = check(alloc, history.as_bytes(), certificate.as_bytes())?;
-    let mut line = Vec::new(alloc);
-    verdict_text(&verdict, &mut line)?;
-    let history = among_empties(alloc, history.as_bytes(), count)?;
-    let certificate = among_empties(alloc, certificate.as_bytes(), count)?;
-    let is_one = has_line(
+    let line = verdict_line(alloc, history.as_bytes(), certificate.as_bytes())?;
+    let is_one = is_one_among_empties(
         alloc,
-        history.as_slice(),
-        certificate.as_slice(),
-        line.as_slice(),
+        history.as_bytes(),
+        certificate.as_bytes(),
+        line.as_bytes(),
+        count,
     )?;
     answer(alloc, is_one)
+}
+
+fn is_one_among_empties(
+    alloc: Global,
+    history: &[u8],
+    certificate: &[u8],
+    line: &[u8],
+    count: u32,
+) -> Result<bool, AllocError> {
+    let history = among_empties(alloc, history, count)?;
+    let certificate = among_empties(alloc, certificate, count)?;
+    has_line(alloc, history.as_slice(), certificate.as_slice(), line)
 }
 
 fn among_empties(alloc: Global, text: &[u8], count: u32) -> Result<Vec<&[u8]>, AllocError> {

@@ -2,9 +2,9 @@
 
 use crate::texts::case::Case;
 use crate::texts::case_text::{CaseText, cases_of};
-use anyhow::{Context, Result, bail};
+use anyhow::{Context, Result};
 use flat_machine::{Stepped, TwoMachines};
-use rmm_spec::Event;
+use rmm_spec::{Command, Event, Reply};
 use std::alloc::Global;
 use std::fs;
 use std::rt::Files;
@@ -55,17 +55,32 @@ fn add_script(alloc: Global, history: &str, counts: &mut Counts) -> Result<()> {
     let mut machines = TwoMachines::new(alloc, recorded.config())?;
     let mut called = None;
     for place in 0..recorded.len() {
-        match (recorded.event(place), &called) {
-            (Event::Called { command, .. }, _) => called = Some(command),
-            (Event::Returned { cpu, reply, .. }, Some(command)) => {
-                let stepped = machines.offer(cpu, command, &reply)?;
-                counts.steps = counts.steps.wrapping_add(1);
-                counts.same = counts
-                    .same
-                    .wrapping_add(u64::from(stepped != Stepped::Differs));
+        match recorded.event(place) {
+            Event::Called { command, .. } => called = Some(command),
+            Event::Returned { cpu, reply, .. } => {
+                let stepped = offer(&mut machines, cpu, &called, &reply)?;
+                counts.add(stepped);
             }
-            (Event::Returned { .. }, None) => bail!("a return without a call"),
         }
     }
     Ok(())
+}
+
+fn offer(
+    machines: &mut TwoMachines,
+    cpu: u8,
+    called: &Option<Command>,
+    reply: &Reply,
+) -> Result<Stepped> {
+    let command = called.as_ref().context("a return without a call")?;
+    Ok(machines.offer(cpu, command, reply)?)
+}
+
+impl Counts {
+    fn add(&mut self, stepped: Stepped) {
+        self.steps = self.steps.wrapping_add(1);
+        self.same = self
+            .same
+            .wrapping_add(u64::from(stepped != Stepped::Differs));
+    }
 }

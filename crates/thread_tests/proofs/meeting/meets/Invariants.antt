@@ -1,4 +1,4 @@
-use Rattle.thread_tests.proofs.meeting.meets_on_one_thread.Given as goal
+use Rattle.thread_tests.proofs.meeting.meets.Given as goal
 
 abbrev pub ghosts-run_two-S-Site : goal.ghosts-run_two-S-Site
 ghosts-run_two-S-Site g a = record { config = a.config; queue = a.queue.queue }
