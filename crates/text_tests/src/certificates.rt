@@ -3,6 +3,7 @@
 ghost use Rattle.std.specs.Prelude.{◌↔◌, IsTrue};
 ghost use Rattle.rmm_spec.specs.CertificateText.{IsLine};
 
+use crate::histories::{is_behind, parts};
 use certificate::{Certificate, Line, LineRef, Reply, read};
 use rmi_codec::{read_reply, reply_has_text};
 use std::alloc::Global;
@@ -13,16 +14,17 @@ const TEXT: &str = "k 7 999999\nu 0 10 ok ffffffffffffffff\nk 1 0\nu 3 1 misplac
 
 // What a line of a certificate's text states.
 fn line(text: &str) -> Result<Line, Fail> {
-    let (_kind, rest) = text.split_once(' ').ok_or("no line")?;
-    let (cpu, rest) = rest.split_once(' ').ok_or("no CPU")?;
-    let cpu = cpu.parse::<u8>()?;
-    match rest.split_once(' ') {
-        Some((number, reply)) => unfinished(cpu, number.parse::<u32>()?, reply),
-        None => Ok(Line::Keep {
-            cpu,
-            number: rest.parse::<u32>()?,
-        }),
+    match (parts(text), kept(text)) {
+        (Some((_, cpu, number, reply)), _) => unfinished(cpu, number, reply),
+        (None, Some((cpu, number))) => Ok(Line::Keep { cpu, number }),
+        (None, None) => Err(Fail::from("no line")),
     }
+}
+
+fn kept(text: &str) -> Option<(u8, u32)> {
+    let (_word, rest) = text.split_once(' ')?;
+    let (cpu, number) = rest.split_once(' ')?;
+    Some((cpu.parse::<u8>().ok()?, number.parse::<u32>().ok()?))
 }
 
 fn unfinished(cpu: u8, number: u32, reply: &str) -> Result<Line, Fail> {
@@ -66,19 +68,27 @@ fn has_text(alloc: Global, certificate: &Certificate) -> Result<bool, Fail> {
     let mut text = Vec::new(alloc);
     text.extend_from_slice(b"before ")?;
     write_certificate(certificate, &mut text)?;
-    Ok(text.as_slice().strip_prefix(b"before ".as_slice()) == Some(TEXT.as_bytes()))
+    Ok(is_behind(text.as_slice(), TEXT))
 }
 
 fn comes_back(alloc: Global, certificate: &Certificate) -> Result<bool, Fail> {
     let again = certificate_reads_back(alloc, certificate)?;
-    Ok(again.len() == 4 && has_text(alloc, &again)?)
+    is_whole(alloc, &again)
+}
+
+fn is_whole(alloc: Global, certificate: &Certificate) -> Result<bool, Fail> {
+    Ok(certificate.len() == 4 && has_text(alloc, certificate)?)
+}
+
+fn is_written(alloc: Global, certificate: &Certificate) -> Result<bool, Fail> {
+    Ok(has_text(alloc, certificate)? && comes_back(alloc, certificate)?)
 }
 
 #[test]
 fn writes_what_is_claimed(rt: HostRuntime) -> Result<(), Fail> {
     let mut certificate = Certificate::new(rt.alloc());
     claim_lines(&mut certificate, TEXT)?;
-    assert!(rt; has_text(rt.alloc(), &certificate)? && comes_back(rt.alloc(), &certificate)?);
+    assert!(rt; is_written(rt.alloc(), &certificate)?);
     Ok(())
 }
 
@@ -102,10 +112,15 @@ fn has_its_lines(lines: &Certificate) -> bool {
         )
 }
 
+// Whether no text has no line.
+fn is_empty(alloc: Global) -> Result<bool, Fail> {
+    Ok(read(alloc, b"")?.is_empty())
+}
+
 #[test]
 fn reads_each_line(rt: HostRuntime) -> Result<(), Fail> {
+    assert!(rt; is_empty(rt.alloc())?);
     let lines = read(rt.alloc(), b"u 0 0 err 255 0\nk 1 0\nk 7 999999\n")?;
     assert!(rt; has_its_lines(&lines));
-    assert!(rt; read(rt.alloc(), b"")?.is_empty());
     Ok(())
 }

@@ -24,13 +24,19 @@ fn has_appended(
     Ok(out.as_slice() == text)
 }
 
+fn are_appended(out: &mut Vec<u8>) -> Result<bool, Fail> {
+    let text = b"c4000152 ffffffffffffffff00000001 0";
+    let (front, _) = text.split_at(25);
+    Ok(
+        has_appended(out, FunctionId::GranuleUndelegate, u64::MAX, front)?
+            && has_appended(out, FunctionId::Exit, 0, text)?,
+    )
+}
+
 #[test]
 fn writes_commands(rt: HostRuntime) -> Result<(), Fail> {
     let mut out = Vec::new(rt.alloc());
-    let text = b"c4000152 ffffffffffffffff00000001 0";
-    let (front, _) = text.split_at(25);
-    assert!(rt; has_appended(&mut out, FunctionId::GranuleUndelegate, u64::MAX, front)?);
-    assert!(rt; has_appended(&mut out, FunctionId::Exit, 0, text)?);
+    assert!(rt; are_appended(&mut out)?);
     Ok(())
 }
 
@@ -45,18 +51,23 @@ fn counting() -> Reply {
     Reply::Ok(words)
 }
 
-fn is_written(alloc: Global, reply: &Reply, text: &[u8]) -> Result<bool, Fail> {
+fn is_written(alloc: Global, reply: Reply, text: &[u8]) -> Result<bool, Fail> {
     let mut out = Vec::new(alloc);
-    write_reply(reply, &mut out)?;
+    write_reply(&reply, &mut out)?;
     Ok(out.as_slice() == text)
+}
+
+fn are_written(alloc: Global) -> Result<bool, Fail> {
+    Ok(
+        is_written(alloc, counting(), b"ok 1 2 3 4 5 6 7 8 9 a")?
+            && is_written(alloc, Reply::Err(10, 0), b"err 10 0")?
+            && is_written(alloc, Reply::Misplaced, b"misplaced")?,
+    )
 }
 
 #[test]
 fn writes_replies(rt: HostRuntime) -> Result<(), Fail> {
-    let is_counted = is_written(rt.alloc(), &counting(), b"ok 1 2 3 4 5 6 7 8 9 a")?;
-    let is_refused = is_written(rt.alloc(), &Reply::Err(10, 0), b"err 10 0")?;
-    let is_misplaced = is_written(rt.alloc(), &Reply::Misplaced, b"misplaced")?;
-    assert!(rt; is_counted && is_refused && is_misplaced);
+    assert!(rt; are_written(rt.alloc())?);
     Ok(())
 }
 
@@ -76,14 +87,16 @@ fn are_read() -> bool {
         && decimal_from(b"18446744073709551615") == Some(u64::MAX)
 }
 
+fn is_pushed(alloc: Global) -> Result<bool, Fail> {
+    let mut out = Vec::new(alloc);
+    push_decimal(&mut out, u64::MAX)?;
+    Ok(out.as_slice() == b"18446744073709551615".as_slice())
+}
+
 #[test]
 fn decimals(rt: HostRuntime) -> Result<(), Fail> {
-    assert!(rt; are_read());
     let others = "18446744073709551616 99999999999999999999 00 +1 a ";
-    assert!(rt; none_is_read(others));
-    let mut out = Vec::new(rt.alloc());
-    push_decimal(&mut out, u64::MAX)?;
-    assert!(rt; out.as_slice() == b"18446744073709551615".as_slice());
+    assert!(rt; are_read() && none_is_read(others) && is_pushed(rt.alloc())?);
     Ok(())
 }
 

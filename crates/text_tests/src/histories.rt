@@ -10,15 +10,24 @@ use text_writers::{history_reads_back, write_history};
 
 // The event that a line of a history's text states.
 fn event(line: &str) -> Result<Event, Fail> {
-    let (kind, rest) = line.split_once(' ').ok_or("no event")?;
-    let (cpu, rest) = rest.split_once(' ').ok_or("no CPU")?;
-    let (number, text) = rest.split_once(' ').ok_or("no number")?;
-    let (cpu, number) = (cpu.parse::<u8>()?, number.parse::<u32>()?);
-    if kind == "c" {
-        called(cpu, number, text)
-    } else {
-        returned(cpu, number, text)
+    match parts(line) {
+        Some(("c", cpu, number, text)) => called(cpu, number, text),
+        Some((_, cpu, number, text)) => returned(cpu, number, text),
+        None => Err(Fail::from("no event")),
     }
+}
+
+/// A word, a CPU, a number and what is behind them, with a space between each two.
+pub(crate) fn parts(line: &str) -> Option<(&str, u8, u32, &str)> {
+    let (word, rest) = line.split_once(' ')?;
+    let (cpu, rest) = numbered(rest)?;
+    let (number, rest) = numbered(rest)?;
+    Some((word, u8::try_from(cpu).ok()?, number, rest))
+}
+
+fn numbered(text: &str) -> Option<(u32, &str)> {
+    let (number, rest) = text.split_once(' ')?;
+    Some((number.parse::<u32>().ok()?, rest))
 }
 
 pub(crate) fn called(cpu: u8, number: u32, command: &str) -> Result<Event, Fail> {
@@ -157,19 +166,31 @@ fn has_text(alloc: Global, history: &History) -> Result<bool, Fail> {
     let mut text = Vec::new(alloc);
     text.extend_from_slice(b"before ")?;
     write_history(history, &mut text)?;
-    Ok(text.as_slice().strip_prefix(b"before ".as_slice()) == Some(TEXT.as_bytes()))
+    Ok(is_behind(text.as_slice(), TEXT))
+}
+
+pub(crate) fn is_behind(written: &[u8], text: &str) -> bool {
+    written.strip_prefix(b"before ".as_slice()) == Some(text.as_bytes())
 }
 
 fn comes_back(alloc: Global, history: &History) -> Result<bool, Fail> {
     let again = history_reads_back(alloc, history)?;
-    Ok(again.len() == 6 && has_text(alloc, &again)?)
+    is_whole(alloc, &again)
+}
+
+fn is_whole(alloc: Global, history: &History) -> Result<bool, Fail> {
+    Ok(history.len() == 6 && has_text(alloc, history)?)
+}
+
+fn is_written(alloc: Global, history: &History) -> Result<bool, Fail> {
+    Ok(has_text(alloc, history)? && comes_back(alloc, history)?)
 }
 
 #[test]
 fn writes_what_is_recorded(rt: HostRuntime) -> Result<(), Fail> {
     let mut history = empty(rt.alloc(), 4096, 8)?;
     record_lines(&mut history, EVENTS)?;
-    assert!(rt; has_text(rt.alloc(), &history)? && comes_back(rt.alloc(), &history)?);
+    assert!(rt; is_written(rt.alloc(), &history)?);
     Ok(())
 }
 
@@ -190,12 +211,15 @@ fn is_last_call(call: &Call, command: &Command) -> bool {
     is_answered && call.called == 5 && call.command == *command
 }
 
+fn has_copy(alloc: Global, history: &History) -> Result<bool, Fail> {
+    let again = history.copy(alloc)?;
+    Ok(is_whole(alloc, &again)? && has_last_call(&again)?)
+}
+
 #[test]
 fn copies_each_event(rt: HostRuntime) -> Result<(), Fail> {
     let history = read(rt.alloc(), TEXT.as_bytes())?;
-    let again = history.copy(rt.alloc())?;
-    assert!(rt; again.len() == 6 && has_text(rt.alloc(), &again)?);
-    assert!(rt; has_last_call(&again)?);
+    assert!(rt; has_copy(rt.alloc(), &history)?);
     Ok(())
 }
 
@@ -212,11 +236,19 @@ fn has_its_places(history: &History) -> bool {
 }
 
 fn has_its_call(history: &History) -> bool {
-    match (history.call_of(0, 0), history.command_at(0)) {
-        (Some(call), Some(command)) => {
-            is_answered(&call) && is_delegate(&call) && call.command == command.to_command()
-        }
-        _ => false,
+    match history.call_of(0, 0) {
+        Some(call) => is_answered(&call) && is_delegate(&call) && is_first(history, &call.command),
+        None => false,
+    }
+}
+
+fn is_first(history: &History, command: &Command) -> bool {
+    if history.is_empty() {
+        return false;
+    }
+    match history.command_at(0) {
+        Some(first) => *command == first.to_command(),
+        None => false,
     }
 }
 
@@ -246,12 +278,17 @@ fn has_its_events(history: &History) -> bool {
         && history.called_at(1).is_none()
 }
 
+fn has_its_one_call(history: &History) -> bool {
+    has_its_places(history)
+        && has_its_call(history)
+        && history.places_of(0, 1).is_none()
+        && history.call_of(0, 1).is_none()
+}
+
 #[test]
 fn finds_the_call_that_was_read(rt: HostRuntime) -> Result<(), Fail> {
     let history = read(rt.alloc(), b"rmh1 4 1\nc 0 0 c4000151 1000\nr 0 0 ok\n")?;
-    assert!(rt; has_its_sizes(&history) && has_its_places(&history));
-    assert!(rt; has_its_call(&history));
-    assert!(rt; has_its_events(&history));
-    assert!(rt; history.places_of(0, 1).is_none() && history.call_of(0, 1).is_none());
+    assert!(rt; has_its_sizes(&history) && has_its_events(&history));
+    assert!(rt; has_its_one_call(&history));
     Ok(())
 }
