@@ -8,8 +8,6 @@
 mod escaping;
 mod laws;
 mod page;
-#[cfg(test)]
-mod tests;
 
 pub use laws::{escaped_plain, own_pieces_mark_up};
 pub use page::{Markup, Page};

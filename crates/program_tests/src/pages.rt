@@ -1,6 +1,6 @@
 //! A text that would be markup, and markup beside it.
 
-use crate::{Markup, Page};
+use markup::{Markup, Page};
 use std::process::Abort;
 use std::test::Fail;
 
@@ -12,7 +12,7 @@ enum Paragraph {
 
 impl Markup for Paragraph {
     ghost use Rattle.std.specs.Prelude.{codes};
-    ghost use Rattle.markup.specs.declared.tests.Paragraph.TheVariants.{Start, Titled, End};
+    ghost use Rattle.program_tests.specs.declared.pages.Paragraph.TheVariants.{Start, Titled, End};
 
     ghost text = { elim [ Start ↦ codes "<p title=\"" | Titled ↦ codes "\">" | End ↦ codes "</p>" ] };
 
