@@ -1,9 +1,9 @@
 //! What `clap` makes of arguments.
 
 ghost use Rattle.std.specs.Prelude.{◌≡◌, List, [], IfErr, IfNone, IfOk, IfSome, OnOk, true, false, map, option_map, string_bytes};
-ghost use Rattle.clap.specs.Words.{App, Row, app_of, fault_of, first_of, found_of, is_simple, is_simple_and_free};
-ghost use Rattle.clap.specs.Words.{kind_of, matches_of, new_rule, rows_of, rule_of};
-ghost use Rattle.file_arguments.specs.Arguments.{AskForNothing, AsksFor, IsNoForm, IsRefusalOf, flag_rule, is_set, option_rule};
+ghost use Rattle.clap.specs.Words.{App, FailsBy, Row, Rule, app_of, fault_of, first_of, found_of, is_simple, is_simple_and_free};
+ghost use Rattle.clap.specs.Words.{kind_of, matches_of, new_rule, rows_of, rule_of, with_rule};
+ghost use Rattle.file_arguments.specs.Arguments.{AskForNothing, AsksFor, IsNoForm, IsRefusalOf, command_of, flag_rule, is_set, option_rule};
 ghost use Rattle.file_arguments.specs.declared.parsing.Refusal.TheVariants.{NoMemory};
 
 use clap::error::ErrorKind;
@@ -79,10 +79,20 @@ fn parsed<'a, F: Form<'a>>(
     ensures refused { IfErr result (AskForNothing F.app F.is_asked (map string_bytes arguments.now)) }
 {
     let command = F::command(alloc, version)?;
-    match command.try_get_matches_from(arguments) {
+    match matched(command, arguments) {
         Ok(matches) => Ok(matches),
         Err(error) => Err(refused_by(alloc, &error)),
     }
+}
+
+// The same by a command line in which no argument has a rule on another.
+fn matched<'a>(command: Command<'a>, arguments: &'a [String]) -> Result<ArgMatches<'a>, Error>
+    requires simple { is_simple (app_of command) ≡ true }
+    requires free { is_simple_and_free (app_of command) ≡ true }
+    ensures rows { IfOk result (λ matches. rows_of (found_of matches) ≡ matches_of (app_of command.entry) (map string_bytes arguments.now)) }
+    ensures kinds { FailsBy (fault_of (app_of command.entry) (map string_bytes arguments.now)) result }
+{
+    command.try_get_matches_from(arguments)
 }
 
 // The refusal that an error is, with its text.
@@ -97,6 +107,33 @@ fn refused_by(alloc: Global, error: &Error) -> Refusal
         ErrorKind::DisplayVersion => Refusal::Shown(text),
         ErrorKind::OutOfMemory => Refusal::NoMemory,
         _ => Refusal::Arguments(text),
+    }
+}
+
+/// A command line without arguments. `version` is printed after its name.
+pub(crate) fn command_named<'a>(
+    alloc: Global,
+    name: &'a str,
+    version: &'a str,
+    about: &'a str,
+) -> Command<'a>
+    ensures { app_of result ≡ command_of name.now [] }
+{
+    Command::new(alloc, name).version(version).about(about)
+}
+
+/// The command line with one argument more, where there is one.
+pub(crate) fn with_argument<'a>(
+    command: Result<Command<'a>, AllocError>,
+    argument: Arg<'a>,
+) -> Result<Command<'a>, AllocError>
+    requires { argument.global ≡ false }
+    ensures { (app : App) (rule : Rule) → IfOk command.entry (λ command. app_of command ≡ app) → rule_of argument.entry ≡ rule
+        → IfOk result (λ command. app_of command ≡ with_rule app rule) }
+{
+    match command {
+        Ok(command) => command.arg(argument),
+        Err(refused) => Err(refused),
     }
 }
 

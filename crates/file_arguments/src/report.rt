@@ -5,7 +5,9 @@ ghost use Rattle.clap.specs.Words.{rule_of};
 ghost use Rattle.file_arguments.specs.Reports.{AskForNoReport, AsksForReport, IsReport, around_rule, report_command};
 
 use crate::options::{Options, Output};
-use crate::parsing::{Form, Refusal, asked, flag_named, option_named, path_named, value};
+use crate::parsing::{
+    Form, Refusal, asked, command_named, flag_named, option_named, path_named, value, with_argument,
+};
 use clap::builder::ValueParser;
 use clap::{Arg, ArgMatches, Command};
 use std::alloc::{AllocError, Global};
@@ -36,6 +38,16 @@ const FORMAT_HELP: &str = "Print the report as a line FILE:LINE: error: .. [NAME
 
 const GRANULE_HELP: &str = "Print each step that changed the granule or names it";
 
+const JSON_HELP: &str = "Print the report as one JSON object";
+
+const ROWS_HELP: &str = "Print how often each condition refused";
+
+const SCENARIO_HELP: &str = "Print what the scenario in FILE runs";
+
+const HISTORY_HELP: &str = "The history: which CPU called what, and what came back";
+
+const CERT_HELP: &str = "The certificate: the claimed order of the calls";
+
 /// Reads what is asked after the program's name: one output at most with `HISTORY CERT`, or `--scenario FILE`. A path that begins
 /// with a dash stands after `--`. `version` is the text that `--version` prints after the name.
 pub fn report_asked<'a>(
@@ -62,40 +74,23 @@ rmmexplain --scenario FILE\n\n\
 For more information, try '--help'.\n";
 
     fn command(alloc: Global, version: &'a str) -> Result<Command<'a>, AllocError> {
-        let page = option_named(alloc, "html", "FILE", PAGE_HELP);
-        let json = flag_named(alloc, "json", "Print the report as one JSON object");
-        let format = option_named(alloc, "format", "NAME", FORMAT_HELP);
-        let granule = option_named(alloc, "granule", "ADDRESS", GRANULE_HELP);
-        let rows = flag_named(alloc, "rows", "Print how often each condition refused");
-        let scenario = option_named(
-            alloc,
-            "scenario",
-            "FILE",
-            "Print what the scenario in FILE runs",
+        let about = "Prints the verdict on a history and a certificate, with the reason";
+        let command = Ok(command_named(alloc, "rmmexplain", version, about).override_usage(USAGE));
+        let command = with_argument(command, option_named(alloc, "html", "FILE", PAGE_HELP));
+        let command = with_argument(command, around(alloc));
+        let command = with_argument(command, flag_named(alloc, "json", JSON_HELP));
+        let command = with_argument(command, option_named(alloc, "format", "NAME", FORMAT_HELP));
+        let command = with_argument(
+            command,
+            option_named(alloc, "granule", "ADDRESS", GRANULE_HELP),
         );
-        let history = path_named(
-            alloc,
-            "HISTORY",
-            "The history: which CPU called what, and what came back",
+        let command = with_argument(command, flag_named(alloc, "rows", ROWS_HELP));
+        let command = with_argument(
+            command,
+            option_named(alloc, "scenario", "FILE", SCENARIO_HELP),
         );
-        let certificate = path_named(
-            alloc,
-            "CERT",
-            "The certificate: the claimed order of the calls",
-        );
-        Command::new(alloc, "rmmexplain")
-            .version(version)
-            .about("Prints the verdict on a history and a certificate, with the reason")
-            .override_usage(USAGE)
-            .arg(page)?
-            .arg(around(alloc))?
-            .arg(json)?
-            .arg(format)?
-            .arg(granule)?
-            .arg(rows)?
-            .arg(scenario)?
-            .arg(history)?
-            .arg(certificate)
+        let command = with_argument(command, path_named(alloc, "HISTORY", HISTORY_HELP));
+        with_argument(command, path_named(alloc, "CERT", CERT_HELP))
     }
 
     fn from_values(matches: &ArgMatches<'a>) -> Option<Report<'a>> {

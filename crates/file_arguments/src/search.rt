@@ -5,7 +5,10 @@ ghost use Rattle.clap.specs.Words.{rule_of};
 ghost use Rattle.file_arguments.specs.Searches.{AskForNoSearch, AsksForSearch, IsLimit, IsSearch};
 ghost use Rattle.file_arguments.specs.Searches.{history_rule, limit_rule, search_command};
 
-use crate::parsing::{Form, Refusal, asked, flag_named, is_given, option_named, path_named, value};
+use crate::parsing::{
+    Form, Refusal, asked, command_named, flag_named, is_given, option_named, path_named, value,
+    with_argument,
+};
 use clap::builder::ValueParser;
 use clap::{Arg, ArgMatches, Command};
 use std::alloc::{AllocError, Global};
@@ -24,6 +27,11 @@ pub struct Search<'a> {
     pub has_json: bool,
     pub history: &'a str,
 }
+
+const EXPLAIN_HELP: &str =
+    "Where there is no order, print the longest beginning of one and why no call comes next";
+
+const JSON_HELP: &str = "Print the answer as one JSON object";
 
 /// Reads `[--limit N] [--explain|--json] HISTORY` after the program's name. A path that begins with a dash stands after `--`. `version`
 /// is the text that `--version` prints after the name.
@@ -47,19 +55,12 @@ impl<'a> Form<'a> for Search<'a> {
         "error: HISTORY is required, the limit is a number, and --explain doesn't go with --json\n\nFor more information, try '--help'.\n";
 
     fn command(alloc: Global, version: &'a str) -> Result<Command<'a>, AllocError> {
-        let explain = flag_named(
-            alloc,
-            "explain",
-            "Where there is no order, print the longest beginning of one and why no call comes next",
-        );
-        let json = flag_named(alloc, "json", "Print the answer as one JSON object");
-        Command::new(alloc, "rmmfind")
-            .version(version)
-            .about("Searches for an order of a history's calls that is a linearization")
-            .arg(limit(alloc))?
-            .arg(explain)?
-            .arg(json)?
-            .arg(history(alloc))
+        let about = "Searches for an order of a history's calls that is a linearization";
+        let command = Ok(command_named(alloc, "rmmfind", version, about));
+        let command = with_argument(command, limit(alloc));
+        let command = with_argument(command, flag_named(alloc, "explain", EXPLAIN_HELP));
+        let command = with_argument(command, flag_named(alloc, "json", JSON_HELP));
+        with_argument(command, history(alloc))
     }
 
     fn from_values(matches: &ArgMatches<'a>) -> Option<Search<'a>> {
