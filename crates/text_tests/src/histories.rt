@@ -105,14 +105,20 @@ fn push_round(history: &mut History, number: u32) -> Result<bool, Fail> {
     Ok(true)
 }
 
+fn push_rounds(history: &mut History) -> Result<bool, Fail> {
+    for number in 0..9 {
+        if !push_round(history, number)? {
+            return Ok(false);
+        }
+    }
+    Ok(history.len() == 36)
+}
+
 // One allocation may be refused in `make_room`, and none in the push after it.
 #[test]
 fn push_after_make_room_is_never_refused(rt: HostRuntime) -> Result<(), Fail> {
     let mut history = empty(rt.alloc(), 4, 2)?;
-    for number in 0..9 {
-        assert!(rt; push_round(&mut history, number)?);
-    }
-    assert!(rt; history.len() == 36);
+    assert!(rt; push_rounds(&mut history)?);
     Ok(())
 }
 
@@ -146,13 +152,22 @@ fn short_call() -> Result<Event, Fail> {
 #[test]
 fn fits_what_can_follow(rt: HostRuntime) -> Result<(), Fail> {
     let mut history = empty(rt.alloc(), 4, 1)?;
-    let first = "r 0 0 ok\nc 1 0 c4000151 1000\nc 0 1 c4000151 1000\n";
-    assert!(rt; history.is_empty() && none_fits(&history, first)?);
-    assert!(rt; !history.fits(&short_call()?));
+    assert!(rt; fits_no_wrong_first(&history)?);
     record_lines(&mut history, "c 0 0 c4000151 1000\n")?;
-    assert!(rt; none_fits(&history, "c 0 1 c4000151 1000\nr 0 1 ok\n")?);
-    assert!(rt; history.fits(&event("r 0 0 misplaced")?));
+    assert!(rt; fits_its_return_alone(&history)?);
     Ok(())
+}
+
+fn fits_no_wrong_first(history: &History) -> Result<bool, Fail> {
+    let first = "r 0 0 ok\nc 1 0 c4000151 1000\nc 0 1 c4000151 1000\n";
+    Ok(history.is_empty() && none_fits(history, first)? && !history.fits(&short_call()?))
+}
+
+fn fits_its_return_alone(history: &History) -> Result<bool, Fail> {
+    Ok(
+        none_fits(history, "c 0 1 c4000151 1000\nr 0 1 ok\n")?
+            && fits_line(history, "r 0 0 misplaced")?,
+    )
 }
 
 const TEXT: &str = "rmh1 4096 8\nc 7 0 c4000151 fff000\nc 0 0 c4000152 ffffffffffffffff\n\

@@ -43,18 +43,24 @@ fn bad_line(alloc: Global, is_history: bool, pieces: &[&[u8]]) -> Result<u64, Fa
 
 // Whether the text has that bad line where it is cut at each single place, and where each byte is a piece.
 fn is_cut_alike(alloc: Global, is_history: bool, expected: u64, text: &[u8]) -> Result<bool, Fail> {
-    let mut bytes = Vec::new(alloc);
     for place in 0..text.len() {
         let (front, back) = text.split_at(place);
         if bad_line(alloc, is_history, &[front, b"".as_slice(), back])? != expected {
             return Ok(false);
         }
-        bytes.push(&text[place..place + 1])?;
     }
     Ok(
         bad_line(alloc, is_history, &[text])? == expected
-            && bad_line(alloc, is_history, bytes.as_slice())? == expected,
+            && bad_line_by_bytes(alloc, is_history, text)? == expected,
     )
+}
+
+fn bad_line_by_bytes(alloc: Global, is_history: bool, text: &[u8]) -> Result<u64, Fail> {
+    let mut bytes = Vec::new(alloc);
+    for place in 0..text.len() {
+        bytes.push(&text[place..place + 1])?;
+    }
+    bad_line(alloc, is_history, bytes.as_slice())
 }
 
 fn are_cut_alike(alloc: Global, is_history: bool, rows: &[u8]) -> Result<bool, Fail> {
@@ -109,12 +115,25 @@ fn is_long_claim_told(line: &[u8], is_long: bool) -> Result<bool, Fail> {
 // A line without its newline is bad as soon as more than 256 bytes of it have come.
 #[test]
 fn tells_a_line_that_is_too_long(rt: HostRuntime) -> Result<(), Fail> {
-    for (count, is_long) in [(255, false), (256, false), (257, true), (1_000_000, true)] {
-        let line = vec![in rt.alloc(); b'c'; count]?;
-        assert!(rt; is_long_line_told(rt.alloc(), line.as_slice(), is_long)?);
-        assert!(rt; is_long_claim_told(line.as_slice(), is_long)?);
-    }
+    assert!(rt; are_long_told(rt.alloc())?);
     Ok(())
+}
+
+fn are_long_told(alloc: Global) -> Result<bool, Fail> {
+    Ok(
+        is_long_told(alloc, 255, false)?
+            && is_long_told(alloc, 256, false)?
+            && is_long_told(alloc, 257, true)?
+            && is_long_told(alloc, 1_000_000, true)?,
+    )
+}
+
+fn is_long_told(alloc: Global, count: usize, is_long: bool) -> Result<bool, Fail> {
+    let line = vec![in alloc; b'c'; count]?;
+    Ok(
+        is_long_line_told(alloc, line.as_slice(), is_long)?
+            && is_long_claim_told(line.as_slice(), is_long)?,
+    )
 }
 
 fn is_told_again(reader: &mut Reader) -> bool {
@@ -140,12 +159,17 @@ fn record_call(history: &mut History, number: u32) -> Result<(), Fail> {
     record(history, returned(0, number, "ok")?)
 }
 
+fn record_calls(history: &mut History) -> Result<(), Fail> {
+    for number in 0..249 {
+        record_call(history, number)?;
+    }
+    Ok(())
+}
+
 // A header and 249 calls that have returned.
 fn many_lines(alloc: Global) -> Result<Vec<u8>, Fail> {
     let mut history = empty(alloc, 4, 1)?;
-    for number in 0..249 {
-        record_call(&mut history, number)?;
-    }
+    record_calls(&mut history)?;
     let mut text = Vec::new(alloc);
     text_writers::write_history(&history, &mut text)?;
     Ok(text)
@@ -156,22 +180,19 @@ fn is_late_told(reader: &mut Reader, piece: &[u8]) -> bool {
     matches!(reader.feed(piece), Err(HistoryFault::BadLine(500)))
 }
 
-fn is_late_told_twice(reader: &mut Reader) -> bool {
-    is_late_told(reader, b"c 0 250 c4000151 1000\n")
-        && is_late_told(reader, b"c 0 249 c4000151 1000\n")
-}
-
-fn feed_many_lines(alloc: Global, reader: &mut Reader) -> Result<(), Fail> {
+fn is_late_told_twice(alloc: Global, reader: &mut Reader) -> Result<bool, Fail> {
     reader.feed(many_lines(alloc)?.as_slice())?;
-    Ok(())
+    Ok(
+        is_late_told(reader, b"c 0 250 c4000151 1000\n")
+            && is_late_told(reader, b"c 0 249 c4000151 1000\n"),
+    )
 }
 
 // Of a longer text the lines up to the bad one are enough.
 #[test]
 fn tells_a_bad_line_before_the_rest(rt: HostRuntime) -> Result<(), Fail> {
     let mut reader = Reader::new(rt.alloc());
-    feed_many_lines(rt.alloc(), &mut reader)?;
-    assert!(rt; is_late_told_twice(&mut reader));
-    assert!(rt; is_bad_at_end(reader, 500)?);
+    let is_late = is_late_told_twice(rt.alloc(), &mut reader)?;
+    assert!(rt; is_late && is_bad_at_end(reader, 500)?);
     Ok(())
 }
