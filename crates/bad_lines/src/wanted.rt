@@ -7,7 +7,7 @@ ghost use Rattle.rmm_spec.specs.Text.{parts_of};
 ghost use Rattle.bad_lines.specs.Wanted.{IsNumber, IsWord, Leads, MayEnd, behind_number};
 ghost use Rattle.bad_lines.specs.declared.wanted.Wanted.TheVariants as wanted;
 
-use granule_state::granule_limit;
+use memory_map::granule_limit;
 use rmi_codec::{Parts, decimal_from, next_word, words_of};
 use rmm_spec::Version;
 

@@ -3,7 +3,7 @@
 use crate::shown::Shown;
 use crate::wanted::Wanted;
 use crate::wrong_part::WrongPart;
-use granule_state::granule_limit;
+use memory_map::granule_limit;
 use std::fmt;
 
 impl fmt::Display for Wanted {

@@ -2,8 +2,8 @@
 //! but what is said of a file that is no TOML are the words of the crate `toml`.
 
 use anyhow::{Context, Result};
+use scenario::read_scenario;
 use scenario_report::report;
-use scenario_text::read_scenario;
 use std::alloc::Global;
 use std::fs;
 use std::rt::Files;

@@ -3,8 +3,8 @@ use Rattle.std.proofs.Common.{◌≡◌, ◌≢◌, ℕ, zero, suc, ◌+◌, ◌
 use Rattle.std.specs.Prelude.{IfOk, IfErr, IsOk, MatchResult}
 use Rattle.std.proofs.lemmas.List.{append-nil, length-map, length-take-le}
 use Rattle.std.proofs.lemmas.List.Splits.{join_with_byte-slice_split}
-use Rattle.line_pieces.proofs.LineLengths.{length-line_text, width-line}
-use Rattle.line_pieces.proofs.Pieces.{IsBadLine-too_long}
+use Rattle.rmi_codec.proofs.LineLengths.{length-line_text, width-line}
+use Rattle.rmi_codec.proofs.Pieces.{IsBadLine-too_long}
 use Rattle.spec_lemmas.proofs.CertificateLines.{certificates_by_lines, line_parts-one_line, InCertificates-from_lines}
 use Rattle.spec_lemmas.proofs.Lines.{append-cons-not_nil, each-right, map_last}
 use Rattle.spec_lemmas.proofs.Texts.{AllByRecursion-append}

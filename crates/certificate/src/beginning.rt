@@ -10,8 +10,7 @@ ghost use Rattle.rmm_spec.specs.declared.line.Line.TheVariants as line;
 
 use crate::certificate::MOST_LINES;
 use crate::spelled::{kept_front, line_from};
-use line_pieces::UnfinishedLine;
-use rmi_codec::next_line;
+use rmi_codec::{UnfinishedLine, next_line};
 use rmm_spec::Line;
 use std::marker::Model;
 

@@ -4,5 +4,5 @@
 use std::process::ExitCode;
 
 fn main(rt: HostRuntime) -> ExitCode {
-    ExitCode::from(checking::run(&rt))
+    ExitCode::from(check_command::run(&rt))
 }

@@ -2,7 +2,7 @@
 use Rattle.std.proofs.Common.{◌≡◌, ℕ, ◌+◌, ◌^◌, ◌<◌, ◌≤◌, List, [], ◌∷◌, ◌++◌, length, take, Option, Some, None, Result, Ok, Err, ap, ◌∙◌, arith}
 use Rattle.certificate.proofs.PieceLemmas.{take_line}
 use Rattle.certificate.specs.Pieces.{Takes, with_told}
-use Rattle.line_pieces.specs.Newlines.{newlines}
+use Rattle.rmi_codec.specs.Newlines.{newlines}
 use Rattle.rmm_spec.specs.declared.line.Line.{Line}
 use Rattle.rmm_spec.specs.declared.verdict.Reason.{Reason}
 use Rattle.rmm_spec.specs.declared.verdict.Reason.TheVariants as reason

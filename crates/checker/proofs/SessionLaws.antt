@@ -17,7 +17,7 @@ use Rattle.rmm_spec.specs.Judgement.{Judges, JudgesOrder}
 use Rattle.rmm_spec.specs.State.{State}
 use Rattle.rmm_spec.specs.Text.{IsBadLine}
 use Rattle.checker.specs.Failure.{AreJudged}
-use Rattle.line_pieces.specs.Newlines.{newlines}
+use Rattle.rmi_codec.specs.Newlines.{newlines}
 use Rattle.checker.specs.Offers.{AreOffersFor}
 use Rattle.checker.specs.Session.{BeginsJudged, HasJudged, HasJudgedBy, offers_of}
 use Rattle.checker.specs.declared.session.Session.{Session}

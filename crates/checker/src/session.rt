@@ -1,7 +1,7 @@
 //! A certificate, judged as its text comes.
 
 ghost use Rattle.std.specs.Prelude.{◌≡◌, ◌↔◌, ◌≤◌, ◌+◌, ℕ, List, [], ◌++◌, length, false, IsTrue, IsErr, IfOk, OnOk, OnErr};
-ghost use Rattle.line_pieces.specs.Newlines.{newlines};
+ghost use Rattle.rmi_codec.specs.Newlines.{newlines};
 ghost use Rattle.rmm_spec.specs.HistoryText.{IsHistoryText};
 ghost use Rattle.rmm_spec.specs.Judgement.{Judges};
 

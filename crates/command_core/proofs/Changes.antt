@@ -17,7 +17,7 @@ use Rattle.rmm_spec.specs.Step.{Step, outcome}
 use Rattle.rmm_spec.specs.Cell.{Cell, RecAux, put}
 use Rattle.rmm_spec.specs.Shape.{IsWellShaped, CpuPlace}
 use Rattle.rmm_spec.specs.Local.{put_all}
-use Rattle.rmm_sound.proofs.Runs.{done_applies}
+use Rattle.rmm_laws.proofs.Runs.{done_applies}
 use Rattle.world_laws.proofs.Locals.{unchanged-is_local, step-is_local}
 use Rattle.spec_lemmas.proofs.Maps.{put-other, put-same}
 use Rattle.world_laws.proofs.Refusals.{Step-refused}
@@ -27,9 +27,9 @@ use Rattle.shape_laws.proofs.Cells.{cell-rec}
 use Rattle.shape_laws.proofs.Ties.{well_shaped-is_sound}
 use Rattle.command_core.specs.Seen.{known_cell}
 use Rattle.command_core.specs.Changed.{place_with_rec, place_with_rec_change, new_place, IsOnCpu, CanChange, CanAnswer, Answers, IsFurthest, given_of}
-use Rattle.walk_laws.specs.TableCells.{is_moved, holds_page, holds_realm, holds_rec, holds_change}
-use Rattle.walk_laws.proofs.Wholes.{held-contains}
-use Rattle.walk_laws.proofs.Steps.{cells-changed as tables-changed}
+use Rattle.world_laws.specs.TableCells.{is_moved, holds_page, holds_realm, holds_rec, holds_change}
+use Rattle.world_laws.proofs.Wholes.{held-contains}
+use Rattle.world_laws.proofs.Steps.{cells-changed as tables-changed}
 use Rattle.command_core.proofs.Wholes.{Whole, state, walk_whole, same_at}
 
 -- ---- granules with two tags are two

@@ -17,8 +17,8 @@ pub use Rattle.rmm_spec.specs.State.{RealmRecord, RecRecord, State}
 pub use Rattle.rmm_spec.specs.declared.{accepted.Accepted.Accepted, accepted.Accepted.TheVariants.Done, accepted.Accepted.TheVariants.Reaches, call.Call.Call, change.Change.Change, change.Change.TheVariants.Unchanged, command.Command.Command, refusal.Refusal.Refusal}
 pub use Rattle.world_laws.specs.Replaced.{held_at, replaced_all, replaced_cells}
 unfoldable pub use Rattle.command_rows.specs.{Answers.outside_answer}
-unfoldable pub use Rattle.walk_laws.specs.{SeenState.seen_state, SeenState.table_placed, Walking.way_of}
-pub use Rattle.walk_laws.specs.SeenState.{table_held}
+unfoldable pub use Rattle.world_laws.specs.{SeenState.seen_state, SeenState.table_placed, Walking.way_of}
+pub use Rattle.world_laws.specs.SeenState.{table_held}
 unfoldable pub use Rattle.command_core.specs.{Changed.can_make, Changed.new_cells, Named.has_wrong, Named.words_fit, Settled.is_settled, Unshaped.is_unshaped, Walks.way_taken}
 pub use Rattle.command_core.specs.Changed.{IsAnswer, hold_of}
 pub use Rattle.command_core.specs.Decided.{misshaped}

@@ -16,12 +16,12 @@ use Rattle.rmm_spec.specs.Table.{TableRecord, place_number}
 use Rattle.rmm_spec.specs.TableCells.{leaf_of}
 use Rattle.rmm_spec.specs.Walk.{is_table, passes, linked_entry, entry_at, has_entry}
 use Rattle.rmm_spec.specs.Flat.{is_table_of}
-use Rattle.rmm_sound.proofs.Cases.{spot_hit}
+use Rattle.rmm_laws.proofs.Cases.{spot_hit}
 use Rattle.spec_lemmas.proofs.Placed.{passing_below, any_below-from}
 use Rattle.spec_lemmas.proofs.TableSearches.{search-places}
-use Rattle.walk_laws.specs.SeenState.{found_or, entry_in, entry_held, table_seen, leaf_seen}
-use Rattle.walk_laws.proofs.Found.{placed-holds, any_below-same}
-use Rattle.walk_laws.proofs.Tables.{entry-seen}
+use Rattle.world_laws.specs.SeenState.{found_or, entry_in, entry_held, table_seen, leaf_seen}
+use Rattle.world_laws.proofs.Found.{placed-holds, any_below-same}
+use Rattle.world_laws.proofs.Tables.{entry-seen}
 use Rattle.command_core.specs.Standing.{StandsIn, IsHeldTable, is_under, is_above_held}
 
 -- ---- where the table is held

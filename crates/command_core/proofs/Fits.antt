@@ -24,9 +24,9 @@ use Rattle.rmm_spec.specs.declared.change.RealmChange.{RealmChange}
 use Rattle.rmm_spec.specs.declared.change.RecChange.{RecChange}
 use Rattle.rmm_spec.specs.Sound.{IsTableOf}
 use Rattle.rmm_spec.specs.Walk.{table_size}
-use Rattle.rmm_sound.proofs.Spaces.{space_cases}
+use Rattle.rmm_laws.proofs.Spaces.{space_cases}
 use Rattle.shape_laws.specs.Whole.{table_changed}
-use Rattle.walk_laws.specs.TableCells.{is_moved, holds_page, holds_realm, holds_rec, holds_change}
+use Rattle.world_laws.specs.TableCells.{is_moved, holds_page, holds_realm, holds_rec, holds_change}
 use Rattle.command_core.specs.Seen.{known_cell}
 use Rattle.command_core.specs.Changed.{is_plain, counts_in, is_realm_update, fits_realm, is_rec_update, fits_rec, fits_realm_change, fits_rec_change, fits_cells, can_count, CanMake, CanChange, fits_page, fits_entries}
 use Rattle.command_core.proofs.Wholes.{Whole, state, same_at, few_recs, realm_at-cell, rec_at-cell}

@@ -9,7 +9,7 @@ use Rattle.spec_lemmas.proofs.Members.{Contains-head, Contains-tail, slice_get-f
 use Rattle.world_laws.proofs.Refusals.{IsInputError, IsRefusedInFront, by_words, by_tag, decided-front, answer_of-front, words-are_local, addresses-are_local, tags-are_local}
 use Rattle.command_rows.specs.Answers.{host_answer}
 use Rattle.command_core.specs.Named.{is_wrong_for, is_wrong}
-use Rattle.walk_laws.specs.SeenState.{realm_behind, cell_or}
+use Rattle.world_laws.specs.SeenState.{realm_behind, cell_or}
 use Rattle.command_core.proofs.Rising.{none_at, found-contains, right_tag}
 
 -- ---- tests on lists

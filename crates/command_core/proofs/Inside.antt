@@ -17,11 +17,11 @@ use Rattle.rmm_spec.specs.Step.RealmCall.{answer_to_realm, rec_exit, rec_change,
 use Rattle.rmm_spec.specs.Cell.{Cell}
 use Rattle.spec_lemmas.proofs.Members.{Contains-head, Contains-tail}
 use Rattle.command_rows.specs.Answers.{IsInsideBy, class_answer, inside_answer}
-use Rattle.walk_laws.specs.Walking.{way, is_walk_held, is_refused_early}
-use Rattle.walk_laws.proofs.Seen.{realm-same, rec-same}
-use Rattle.walk_laws.proofs.Settled.{get-told}
+use Rattle.world_laws.specs.Walking.{way, is_walk_held, is_refused_early}
+use Rattle.world_laws.proofs.Seen.{realm-same, rec-same}
+use Rattle.world_laws.proofs.Settled.{get-told}
 use Rattle.rmm_spec.specs.Walk.{half, is_protected}
-use Rattle.walk_laws.specs.SeenState.{table_behind}
+use Rattle.world_laws.specs.SeenState.{table_behind}
 use Rattle.command_core.specs.Changed.{CanAnswer}
 use Rattle.command_core.specs.Walks.{way_inside, way_to_read, spare}
 use Rattle.command_core.specs.Unshaped.{has_other_owner, is_misplaced, is_misfit_way, is_misfit}

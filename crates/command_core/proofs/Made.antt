@@ -3,7 +3,7 @@ use Rattle.command_core.proofs.Common.{◌∙◌, ◌∷◌, ◌≡◌, Accepted
 use Rattle.rmm_spec.specs.Rows.{ok, reply_of}
 use Rattle.rmm_spec.specs.Step.{CarriesOut, outcome}
 use Rattle.rmm_spec.specs.Local.{LocalStep, put_all}
-use Rattle.rmm_sound.proofs.Runs.{done_applies}
+use Rattle.rmm_laws.proofs.Runs.{done_applies}
 use Rattle.shape_laws.specs.Whole.{side_changed}
 use Rattle.shape_laws.proofs.Ties.{well_shaped-is_sound}
 use Rattle.command_core.specs.Changed.{new_place, CanAnswer}

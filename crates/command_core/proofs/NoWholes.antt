@@ -14,9 +14,9 @@ use Rattle.rmm_spec.specs.Shape.{CpuPlace, HoldsTable}
 use Rattle.world_laws.proofs.Locals.{agrees-at}
 use Rattle.spec_lemmas.proofs.Members.{each_of_two}
 use Rattle.command_core.specs.Settled.{is_all_held, is_read_over, is_settled_outside, is_settled_inside}
-use Rattle.walk_laws.specs.Walking.{Way}
-use Rattle.walk_laws.specs.Misfits.{is_place, is_other_table, is_misfit_root}
-use Rattle.walk_laws.proofs.Misfits.{misfit-none}
+use Rattle.world_laws.specs.Walking.{Way}
+use Rattle.world_laws.specs.Misfits.{is_place, is_other_table, is_misfit_root}
+use Rattle.world_laws.proofs.Misfits.{misfit-none}
 use Rattle.command_core.specs.Walks.{way_inside}
 use Rattle.command_core.specs.Unshaped.{is_other_aux, is_bad_aux, are_bad_auxes, has_bad_aux, can_learn, has_bad_owner, has_other_owner, is_misplaced, is_misfit_way, has_misfit_part, is_unshaped_outside}
 use Rattle.command_core.proofs.Fronts.{wrong_tag}

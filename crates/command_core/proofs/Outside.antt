@@ -15,7 +15,7 @@ use Rattle.rmm_spec.specs.Step.Front.{with_front}
 use Rattle.rmm_spec.specs.Step.Rec.{rec_destroy, rec_enter}
 use Rattle.rmm_spec.specs.Step.RealmCall.{rec_change}
 use Rattle.rmm_spec.specs.Cell.{Cell}
-use Rattle.walk_laws.proofs.Seen.{tag-same, realm-same, rec-same, held-placed, has_entry-same}
+use Rattle.world_laws.proofs.Seen.{tag-same, realm-same, rec-same, held-placed, has_entry-same}
 use Rattle.command_core.specs.Changed.{CanAnswer}
 use Rattle.command_core.specs.Named.{holds_all}
 use Rattle.command_core.specs.Settled.{is_root_held, are_auxes_held, is_realm_in, is_owner_held, is_complete}

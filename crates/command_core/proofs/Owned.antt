@@ -7,7 +7,7 @@ use Rattle.rmm_spec.specs.Step.Terms.{needed}
 use Rattle.rmm_spec.specs.Cell.{Cell}
 use Rattle.spec_lemmas.proofs.Members.{each_of_one}
 use Rattle.command_rows.specs.Answers.{IsOwned, IsInside}
-use Rattle.walk_laws.specs.SeenState.{realm_behind, cell_or}
+use Rattle.world_laws.specs.SeenState.{realm_behind, cell_or}
 use Rattle.command_core.specs.Unshaped.{can_learn, has_bad_owner, has_misfit_part}
 use Rattle.command_core.specs.Settled.{is_realm_in, is_owner_held, is_complete}
 use Rattle.command_core.proofs.Fronts.{wrong_tag}

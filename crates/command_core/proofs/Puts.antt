@@ -12,9 +12,9 @@ use Rattle.rmm_spec.specs.declared.entry.Entry.{Entry}
 use Rattle.rmm_spec.specs.Table.{TableRecord}
 use Rattle.rmm_spec.specs.Cell.{Cell, table_in}
 use Rattle.shape_laws.specs.Whole.{cell_with_entries, table_changed}
-use Rattle.walk_laws.specs.Held.{known_cell}
-use Rattle.walk_laws.specs.TableCells.{entry_cells, holds_page, holds_realm, holds_rec, holds_change}
-use Rattle.walk_laws.proofs.Found.{placed-holds}
+use Rattle.world_laws.specs.Held.{known_cell}
+use Rattle.world_laws.specs.TableCells.{entry_cells, holds_page, holds_realm, holds_rec, holds_change}
+use Rattle.world_laws.proofs.Found.{placed-holds}
 use Rattle.command_core.specs.Changed.{fits_realm_change, fits_rec_change, fits_page, fits_entries, fits_cells}
 use Rattle.shape_laws.proofs.Cells.{cell-table}
 

@@ -20,7 +20,7 @@ use Rattle.command_core.specs.Furthest.{furthest}
 use Rattle.command_core.specs.Changed.{hold_changed, Answers, CanMakeAnswer}
 use Rattle.command_core.specs.Unshaped.{is_misfit, is_unshaped_outside}
 use Rattle.command_core.specs.Settled.{is_all_held, is_settled_outside, is_settled_inside}
-use Rattle.walk_laws.specs.Walking.{Way}
+use Rattle.world_laws.specs.Walking.{Way}
 use Rattle.command_core.specs.Plan.{AllowsStep, IsReady}
 use Rattle.command_core.specs.Decided.{rows_answer, made_answer, settled_answer, made_change}
 use Rattle.command_core.proofs.Fits.{makes}

@@ -1,7 +1,7 @@
 -- Which granules are held.
 use Rattle.command_core.proofs.Common.{◌==◌, ◌∷◌, ◌≡◌, Bool, HeldCell, List, Some, [], cell_in, false, if◌then◌else◌, is_held, is_some, refl, replaced_cells, true, ℕ}
 use Rattle.rmm_spec.specs.Cell.{Cell}
-pub use Rattle.walk_laws.proofs.Wholes.{held-contains}
+pub use Rattle.world_laws.proofs.Wholes.{held-contains}
 
 -- what is held is held, whatever its cells are
 pub is_held-replaced_cells : (held : List HeldCell) (g granule : ℕ) (cell : Cell) → is_held g (replaced_cells held granule cell) ≡ is_held g held

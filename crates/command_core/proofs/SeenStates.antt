@@ -4,7 +4,7 @@ use Rattle.std.specs.Prelude.{unwrap_or}
 use Rattle.rmm_spec.specs.declared.tag.Tag.{Tag}
 use Rattle.rmm_spec.specs.Lookup.{no_realm, no_rec}
 use Rattle.rmm_spec.specs.Cell.{Cell, rec_in}
-use Rattle.walk_laws.specs.SeenState.{realm_behind, cell_or, cell_seen}
+use Rattle.world_laws.specs.SeenState.{realm_behind, cell_or, cell_seen}
 
 -- what is seen at a granule that is held is its cell
 cell-seen : (config : Config) (held : List HeldCell) (g : ℕ) (c : Cell)

@@ -19,8 +19,8 @@ use Rattle.command_core.proofs.Walked.{taken-way}
 use Rattle.command_core.specs.declared.next.Next.{Next}
 use Rattle.command_core.specs.declared.next.Next.TheVariants.{Ready}
 use Rattle.command_core.specs.Named.{is_less, lesser, least_missing, is_upward, is_downward, holds_all}
-use Rattle.walk_laws.specs.SeenState.{found_or, first_held, table_behind}
-use Rattle.walk_laws.specs.Walking.{Way, keeps_realm, is_told, are_told}
+use Rattle.world_laws.specs.SeenState.{found_or, first_held, table_behind}
+use Rattle.world_laws.specs.Walking.{Way, keeps_realm, is_told, are_told}
 use Rattle.command_core.specs.Walks.{Part, way_to_read, way_inside, come_to, is_above, is_realm_spare, spare, wanted}
 use Rattle.command_core.specs.Unshaped.{can_learn, has_bad_owner, is_misfit_way, is_misfit, has_misfit_part, is_unshaped_outside}
 use Rattle.command_core.specs.Settled.{is_complete, is_all_held, is_read_over, is_settled_outside, is_settled_inside}
@@ -28,7 +28,7 @@ use Rattle.command_core.specs.Plan.{IsStep, IsPlanned, is_ready}
 use Rattle.command_core.specs.Next.{last_taken, taken, take_named, take_least, take_part, take_root, take_auxes, next_aux, learn_realm, take_realm, next_to_enter, first_named, free_or_take, next_with_parts, next_to_walk, next_on_way, place_names, next_to_read, next_outside, next_inside, next_unsettled, next}
 use Rattle.command_core.proofs.Inside.{fitting-granule, fitting-place}
 use Rattle.command_core.proofs.Ready.{settled-ready}
-use Rattle.walk_laws.proofs.Wholes.{held-contains}
+use Rattle.world_laws.proofs.Wholes.{held-contains}
 use Rattle.command_core.proofs.Rising.{upward-rises, downward-rises}
 
 -- ---- the last taken

@@ -12,18 +12,18 @@ use Rattle.rmm_spec.specs.Walk.{entry_size, table_number}
 use Rattle.rmm_spec.specs.Step.{answer_of, outcome}
 use Rattle.rmm_spec.specs.Step.Ripas.{IsReached, stretch_change, reached_change}
 use Rattle.rmm_spec.specs.Local.{LocalStep}
-use Rattle.rmm_sound.proofs.Entries.{value_there}
-use Rattle.rmm_sound.proofs.Runs.{reached_applies}
+use Rattle.rmm_laws.proofs.Entries.{value_there}
+use Rattle.rmm_laws.proofs.Runs.{reached_applies}
 use Rattle.world_laws.proofs.Refusals.{outcome-host}
 use Rattle.shape_laws.specs.Whole.{side_changed}
 use Rattle.shape_laws.proofs.Ties.{well_shaped-is_sound}
 use Rattle.command_rows.specs.Answers.{IsOwned}
-use Rattle.walk_laws.specs.TableCells.{holds_change, tables_changed}
-use Rattle.walk_laws.specs.Walking.{Way, keeps_realm, are_told, is_table_error, is_refused_early, seen_answer, is_way_settled}
-use Rattle.walk_laws.proofs.Accepted.{accepted-held}
-use Rattle.walk_laws.proofs.Settled.{IsHosts, hosts, stretch-placed, first-reached, reached-told, reached-seen, early-error}
-use Rattle.walk_laws.proofs.Steps.{cells-held, reached-local}
-use Rattle.walk_laws.proofs.Told.{walk-told, early-told}
+use Rattle.world_laws.specs.TableCells.{holds_change, tables_changed}
+use Rattle.world_laws.specs.Walking.{Way, keeps_realm, are_told, is_table_error, is_refused_early, seen_answer, is_way_settled}
+use Rattle.world_laws.proofs.AcceptedWalks.{accepted-held}
+use Rattle.world_laws.proofs.Settled.{IsHosts, hosts, stretch-placed, first-reached, reached-told, reached-seen, early-error}
+use Rattle.world_laws.proofs.Steps.{cells-held, reached-local}
+use Rattle.world_laws.proofs.ToldWalks.{walk-told, early-told}
 use Rattle.command_core.specs.Changed.{new_place, hold_changed, CanChange, IsFurthest}
 use Rattle.command_core.specs.Decided.{made_answer}
 use Rattle.command_core.specs.Furthest.{furthest}

@@ -8,7 +8,7 @@ use Rattle.rmm_spec.specs.Shape.{CpuPlace, IsWellShaped, count_below}
 use Rattle.rmm_spec.specs.Local.{Agrees}
 use Rattle.spec_lemmas.proofs.Placed.{passing_below, any_below-from, running, runs_on-running, cell_is_granule, cell_granule, rec_granule}
 use Rattle.shape_laws.proofs.Cells.{cell-rec}
-use Rattle.walk_laws.proofs.Wholes as walks
+use Rattle.world_laws.proofs.Wholes as walks
 use Rattle.command_core.specs.Seen.{known_cell}
 use Rattle.command_core.proofs.Searches.{greatest_below-one, any_below-counted}
 

@@ -35,7 +35,7 @@ use Rattle.rmm_spec.specs.declared.change.EntryChange.TheVariants.{Replaced, Rip
 use Rattle.rmm_spec.specs.declared.change.TagChange.{TagChange}
 use Rattle.rmm_spec.specs.Step.Terms.{is_space}
 use Rattle.rmm_spec.specs.Walk.{table_size}
-use Rattle.walk_laws.specs.TableCells.{realm_cells, rec_cells, table_cells, holds_change}
+use Rattle.world_laws.specs.TableCells.{realm_cells, rec_cells, table_cells, holds_change}
 use Rattle.rmm_spec.specs.Cell.{Cell, Delegated, Rd, Rec, RecAux, Rtt}
 use Rattle.rmm_spec.specs.Shape.{Side, CpuPlace, Outside, Inside, IsWellShaped}
 use Rattle.rmm_spec.specs.Local.{HeldCell, Hold, Agrees, LocalStep}

@@ -18,7 +18,7 @@ use Rattle.rmm_spec.specs.Shape.{Side, CpuPlace, Outside, Inside}
 use Rattle.rmm_spec.specs.Local.{HeldCell, Hold}
 use Rattle.command_rows.specs.Answers.{outside_answer, inside_answer}
 use Rattle.command_core.specs.Changed.{can_make}
-use Rattle.walk_laws.specs.SeenState.{seen_state}
+use Rattle.world_laws.specs.SeenState.{seen_state}
 use Rattle.command_core.specs.Furthest.{furthest}
 use Rattle.command_core.specs.Sides.{are_vmids_told, are_recs_told}
 use Rattle.command_core.specs.Unshaped.{is_unshaped}

@@ -11,7 +11,7 @@ use Rattle.rmm_spec.specs.Step.Terms.{words_of, named}
 use Rattle.rmm_spec.specs.Cell.{Cell, Rd, Rec, tag_of, is_data, Rtt}
 use Rattle.rmm_spec.specs.Locks.{is_named, depth, leads_to}
 use Rattle.rmm_spec.specs.Local.{HeldCell, granules_held}
-use Rattle.walk_laws.specs.Walking.{is_told}
+use Rattle.world_laws.specs.Walking.{is_told}
 use Rattle.command_core.specs.Seen.{cell_in, is_held}
 
 -- ---- tags

@@ -17,7 +17,7 @@ use Rattle.rmm_spec.specs.Local.{HeldCell, granules_held}
 use Rattle.rmm_spec.specs.Locks.{needs_outside}
 use Rattle.command_core.specs.declared.next.Next.{Next}
 use Rattle.command_core.specs.declared.next.Next.TheVariants.{Take, Free, Ready}
-use Rattle.walk_laws.specs.Walking.{Way, keeps_realm, are_told}
+use Rattle.world_laws.specs.Walking.{Way, keeps_realm, are_told}
 use Rattle.command_core.specs.Seen.{cell_in, is_held}
 use Rattle.command_core.specs.Walks.{Part, spare, wanted, way_taken, way_inside}
 use Rattle.command_core.specs.Named.{is_upward, is_downward, least_missing}

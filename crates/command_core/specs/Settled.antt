@@ -10,7 +10,7 @@ use Rattle.rmm_spec.specs.Step.Terms.{named}
 use Rattle.rmm_spec.specs.Cell.{Cell, Rd, Rec}
 use Rattle.rmm_spec.specs.Shape.{CpuPlace, Outside, Inside}
 use Rattle.rmm_spec.specs.Local.{HeldCell}
-use Rattle.walk_laws.specs.Walking.{Way, is_walk_held}
+use Rattle.world_laws.specs.Walking.{Way, is_walk_held}
 use Rattle.command_core.specs.Seen.{cell_in, is_held}
 use Rattle.command_core.specs.Walks.{spare, is_walk_over, way_taken, way_inside}
 use Rattle.command_core.specs.Named.{has_wrong, words_fit, holds_all}

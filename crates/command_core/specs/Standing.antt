@@ -4,7 +4,7 @@ use Rattle.std.specs.List.{list_any}
 use Rattle.rmm_spec.specs.Table.{TableRecord, place_number}
 use Rattle.rmm_spec.specs.Update.{is_same_entry}
 use Rattle.rmm_spec.specs.Local.{HeldCell, granules_held}
-use Rattle.walk_laws.specs.SeenState.{table_held, table_placed}
+use Rattle.world_laws.specs.SeenState.{table_held, table_placed}
 
 -- the table of that number at the level, in the granule where it is held
 pub record StandsIn (held : List HeldCell) (rd level number : ℕ) (table : TableRecord) : Type 0 where

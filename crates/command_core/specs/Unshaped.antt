@@ -12,8 +12,8 @@ use Rattle.rmm_spec.specs.Step.Terms.{needed}
 use Rattle.rmm_spec.specs.Cell.{Cell, Rec, is_aux}
 use Rattle.rmm_spec.specs.Shape.{CpuPlace, Outside, Inside}
 use Rattle.rmm_spec.specs.Local.{HeldCell}
-use Rattle.walk_laws.specs.Walking.{Way}
-use Rattle.walk_laws.specs.Misfits.{is_misfit_root, is_misfit_walk}
+use Rattle.world_laws.specs.Walking.{Way}
+use Rattle.world_laws.specs.Misfits.{is_misfit_root, is_misfit_walk}
 use Rattle.command_core.specs.Seen.{cell_in, is_held}
 use Rattle.command_core.specs.Walks.{way_taken, way_inside}
 use Rattle.command_core.specs.Named.{has_wrong}

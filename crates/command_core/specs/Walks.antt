@@ -10,9 +10,9 @@ use Rattle.rmm_spec.specs.Table.{TableRecord}
 use Rattle.rmm_spec.specs.Walk.{table_number, entry_number, reach, is_protected}
 use Rattle.rmm_spec.specs.Cell.{Cell, Rd, Rec}
 use Rattle.rmm_spec.specs.Local.{HeldCell}
-use Rattle.walk_laws.specs.Held.{cell_in, is_held}
-use Rattle.walk_laws.specs.SeenState.{table_held, first_held, table_behind, table_placed, table_seen, seen_state}
-use Rattle.walk_laws.specs.Walking.{Way, way, way_of, keeps_realm, part_below, end_entry, are_told, is_refused_early, seen_answer, is_way_settled}
+use Rattle.world_laws.specs.Held.{cell_in, is_held}
+use Rattle.world_laws.specs.SeenState.{table_held, first_held, table_behind, table_placed, table_seen, seen_state}
+use Rattle.world_laws.specs.Walking.{Way, way, way_of, keeps_realm, part_below, end_entry, are_told, is_refused_early, seen_answer, is_way_settled}
 
 -- where a host's command walks, if its words are allowed
 unfoldable pub way_taken : Call → Option Way

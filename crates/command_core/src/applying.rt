@@ -16,7 +16,7 @@ use crate::change_room::Room;
 use crate::held::Held;
 use crate::put_cells::put_cells;
 use granule_cells::{Cell, CpuPlace, Side};
-use granule_state::Pa;
+use memory_map::Pa;
 use rmm_spec::{Change, RecChange, RecUpdate};
 
 /// Makes the change, with the room that was taken for it. The records are updated as the definitions say; no memory is taken.

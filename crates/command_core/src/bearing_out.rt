@@ -12,7 +12,7 @@ ghost use Rattle.command_core.specs.Settled.{is_settled};
 ghost use Rattle.command_core.specs.Sides.{side_of};
 
 use granule_cells::Side;
-use granule_state::{Config, Pa};
+use memory_map::{Config, Pa};
 use rmm_spec::{Accepted, Call, Change, Command, FunctionId, Refusal};
 
 /// Whether the side table lists nothing of what the command's rows ask it for, and can count the REC that the answer makes, if

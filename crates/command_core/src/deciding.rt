@@ -18,7 +18,7 @@ use crate::unshaped::is_unshaped;
 use arrayvec::ArrayVec;
 use command_rows::{answer_inside, answer_outside, reached_change};
 use granule_cells::{CpuPlace, Side};
-use granule_state::Config;
+use memory_map::Config;
 use rmm_spec::{Accepted, Call, Change, Command, Condition, Refusal, Reply, Stretch};
 
 /// The reply and the change of a command that what is held settles. Together they are a step of the machine, whatever

@@ -7,9 +7,9 @@ ghost use Rattle.command_core.specs.Furthest as spec;
 use crate::held::Held;
 use crate::held_sight::HeldSight;
 use crate::misfits::table_size;
+use memory_map::{can_be_set, entry_number, table_number};
 use rmm_spec::Stretch;
 use std::cmp::min;
-use table_entries::{can_be_set, entry_number, table_number};
 
 // How many bytes an entry of the level covers.
 #[tactic(auto, unfolding(rmm_spec::specs::Walk::entry_size))]
@@ -35,7 +35,7 @@ fn most_set(stretch: &Stretch) -> u64
 
 impl<'a, H: Held> HeldSight<'a, H> {
     ghost use Rattle.std.specs.Prelude.{◌≡◌, ◌≤◌, ◌<◌, ◌^◌};
-    ghost use Rattle.walk_laws.specs.SeenState.{seen_state};
+    ghost use Rattle.world_laws.specs.SeenState.{seen_state};
     ghost use Rattle.command_core.specs.Furthest as spec;
 
     // Whether the RIPAS of the entry so many behind the first may be set.

@@ -6,7 +6,7 @@ ghost use Rattle.world_laws.specs.Replaced.{replaced_cells};
 ghost use Rattle.command_core.specs.Seen.{cell_of, cell_in, is_held, are_distinct};
 
 use granule_cells::Cell;
-use granule_state::Pa;
+use memory_map::Pa;
 
 /// Up to six cells, each of a granule of its own, wherever they lie. None is copied.
 pub trait Held {

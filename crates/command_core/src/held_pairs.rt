@@ -6,7 +6,7 @@ ghost use Rattle.command_core.specs.Seen.{are_distinct};
 use crate::held::Held;
 use arrayvec::ArrayVec;
 use granule_cells::Cell;
-use granule_state::Pa;
+use memory_map::Pa;
 use std::mem::replace;
 
 /// Up to six cells with their granules, in the order in which they were taken.

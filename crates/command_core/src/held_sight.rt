@@ -8,10 +8,9 @@ use crate::taking::is_granule;
 use command_rows::Sight;
 use command_words::is_tag;
 use granule_cells::{Cell, Side};
-use granule_state::{Config, Pa};
+use memory_map::{Config, Pa, entry_number, table_number};
 use realm_desc::{Realm, Rec};
 use rmm_spec::{Entry, EntryTest, Tag, Version, Walked};
-use table_entries::{entry_number, table_number};
 
 /// Held cells with the side table, on a machine of some size. It stands for the one state that the cells tell of. Who plans what to
 /// take has no side table.
@@ -25,8 +24,8 @@ pub(crate) struct HeldSight<'a, H: Held> {
 impl<'a, H: Held> HeldSight<'a, H> {
     ghost use Rattle.std.specs.Prelude.{◌≡◌};
     ghost use Rattle.rmm_spec.specs.Cell as whole;
-    ghost use Rattle.walk_laws.specs.Held.{cell_in};
-    ghost use Rattle.walk_laws.specs.SeenState as spec;
+    ghost use Rattle.world_laws.specs.Held.{cell_in};
+    ghost use Rattle.world_laws.specs.SeenState as spec;
 
     // The state of a granule. That of a realm whose table is held is known.
     fn tag(&self, granule: u64) -> Tag
@@ -74,9 +73,9 @@ impl<'a, H: Held> HeldSight<'a, H> {
     }
 }
 
-#[tactic(auto, unfolding(walk_laws::specs::SeenState::seen_state, rmm_spec::specs::Lookup::has_tag))]
+#[tactic(auto, unfolding(world_laws::specs::SeenState::seen_state, rmm_spec::specs::Lookup::has_tag))]
 impl<'a, H: Held> Sight for HeldSight<'a, H> {
-    ghost use Rattle.walk_laws.specs.SeenState.{seen_state};
+    ghost use Rattle.world_laws.specs.SeenState.{seen_state};
     ghost use Rattle.std.specs.Prelude.{option_map, option_copied};
     ghost use Rattle.command_core.specs.Sides.{side_of, are_vmids_told, are_recs_told};
 

@@ -9,17 +9,16 @@ ghost use Rattle.rmm_spec.specs.Table.{place_number};
 ghost use Rattle.rmm_spec.specs.Update.{is_same_entry};
 ghost use Rattle.rmm_spec.specs.Walk.{is_table};
 ghost use Rattle.shape_laws.specs.Whole as whole_spec;
-ghost use Rattle.walk_laws.specs.SeenState as spec;
+ghost use Rattle.world_laws.specs.SeenState as spec;
 ghost use Rattle.command_core.specs.Standing as standing;
 
 use crate::held::Held;
 use crate::held_sight::HeldSight;
 use command_words::is_space;
 use granule_cells::Cell;
-use granule_state::Pa;
+use memory_map::{Pa, is_table, linked, passes, table_number};
 use rmm_spec::{Entry, EntryChange, EntryTest, Place, Ripas};
 use rtt_table::Table;
-use table_entries::{is_table, linked, passes, table_number};
 
 /// How many entries a table has.
 const ENTRIES: u64 = 512;
@@ -158,7 +157,7 @@ fn has_dead_link(table: &Table, level: u8) -> bool
 }
 
 /// The granule of the first held table of that place.
-#[tactic(auto, unfolding(walk_laws::specs::SeenState::table_placed))]
+#[tactic(auto, unfolding(world_laws::specs::SeenState::table_placed))]
 pub(crate) fn placed<H: Held>(held: &H, rd: u64, level: u8, number: u64) -> Option<u64>
     ensures { result ≡ spec.table_placed (H.cells held.now) rd level number }
 {
@@ -181,8 +180,8 @@ impl<'a, H: Held> HeldSight<'a, H> {
     ghost use Rattle.rmm_spec.specs.Walk as walks;
     ghost use Rattle.rmm_spec.specs.declared.entry.Entry.TheVariants.{Unassigned};
     ghost use Rattle.rmm_spec.specs.declared.tag.Ripas.TheVariants.{Empty};
-    ghost use Rattle.walk_laws.specs.SeenState as spec;
-    ghost use Rattle.walk_laws.specs.SeenState.{seen_state};
+    ghost use Rattle.world_laws.specs.SeenState as spec;
+    ghost use Rattle.world_laws.specs.SeenState.{seen_state};
     ghost use Rattle.command_core.specs.Standing.{IsHeldTable, is_above_held};
 
     // Whether a table of the realm is held in a granule.
@@ -196,7 +195,7 @@ impl<'a, H: Held> HeldSight<'a, H> {
     }
 
     /// The granule of the first held table of the realm.
-    #[tactic(auto, unfolding(walk_laws::specs::SeenState::table_behind))]
+    #[tactic(auto, unfolding(world_laws::specs::SeenState::table_behind))]
     pub(crate) fn behind(&self, rd: u64) -> Option<u64>
         ensures { result ≡ spec.table_behind (H.cells self.now.held.now) rd }
     {
@@ -219,7 +218,7 @@ impl<'a, H: Held> HeldSight<'a, H> {
     }
 
     /// The width of a realm's address space, where a held table of it tells that.
-    #[tactic(auto, unfolding(walk_laws::specs::SeenState::realm_behind))]
+    #[tactic(auto, unfolding(world_laws::specs::SeenState::realm_behind))]
     pub(crate) fn width(&self, rd: u64) -> Option<u8>
         ensures known { option_map spec.blank_realm result ≡ spec.realm_behind (H.cells self.now.held.now) rd }
         ensures space { IfSome result (λ w. IsTrue (is_space w (spec.start_of w))) }
@@ -242,7 +241,7 @@ impl<'a, H: Held> HeldSight<'a, H> {
     }
 
     // The entry of that number, where its table is held.
-    #[tactic(auto, unfolding(walk_laws::specs::SeenState::entry_held))]
+    #[tactic(auto, unfolding(world_laws::specs::SeenState::entry_held))]
     fn entry_held(&self, rd: u64, level: u8, number: u64) -> Option<Entry>
         ensures { result ≡ spec.entry_held (H.cells self.now.held.now) rd level number }
     {
@@ -253,7 +252,7 @@ impl<'a, H: Held> HeldSight<'a, H> {
     }
 
     /// The granule of the table of that place: what the entry above links to, or where that isn't held, that of a held one.
-    #[tactic(auto, unfolding(walk_laws::specs::SeenState::table_seen))]
+    #[tactic(auto, unfolding(world_laws::specs::SeenState::table_seen))]
     pub(crate) fn table(&self, rd: u64, level: u8, number: u64) -> Option<u64>
         ensures { result ≡ spec.table_seen (H.cells self.now.held.now) rd level number }
     {
@@ -267,7 +266,7 @@ impl<'a, H: Held> HeldSight<'a, H> {
     }
 
     // The leaf of that number, where its table is held.
-    #[tactic(auto, unfolding(walk_laws::specs::SeenState::leaf_seen))]
+    #[tactic(auto, unfolding(world_laws::specs::SeenState::leaf_seen))]
     fn leaf(&self, rd: u64, level: u8, number: u64) -> Option<Entry>
         ensures { result ≡ spec.leaf_seen (H.cells self.now.held.now) rd level number }
     {
@@ -289,7 +288,7 @@ impl<'a, H: Held> HeldSight<'a, H> {
     }
 
     /// The entry of that number at the level.
-    #[tactic(auto, unfolding(walk_laws::specs::SeenState::seen_state, rmm_spec::specs::Walk::entry_at))]
+    #[tactic(auto, unfolding(world_laws::specs::SeenState::seen_state, rmm_spec::specs::Walk::entry_at))]
     pub(crate) fn entry(&self, rd: u64, level: u8, number: u64) -> Entry
         ensures { result ≡ walks.entry_at (seen_state self.now.config.now (H.cells self.now.held.now)) rd level number }
     {
@@ -297,7 +296,7 @@ impl<'a, H: Held> HeldSight<'a, H> {
     }
 
     /// The deepest level up to `max` at which a table covers the address.
-    #[tactic(auto, unfolding(walk_laws::specs::SeenState::seen_state))]
+    #[tactic(auto, unfolding(world_laws::specs::SeenState::seen_state))]
     pub(crate) fn reach(&self, rd: u64, ipa: u64, max: u8) -> u8
         ensures level { result ≡ walks.reach (seen_state self.now.config.now (H.cells self.now.held.now)) rd ipa max }
         ensures within { result ≤ max }

@@ -4,8 +4,8 @@ ghost use Rattle.std.specs.Prelude.{◌≡◌, ◌-◌, ◌*◌, ◌/◌, ◌^�
 ghost use Rattle.rmm_spec.specs.Cell as whole;
 ghost use Rattle.rmm_spec.specs.Lookup as lookup;
 ghost use Rattle.rmm_spec.specs.Walk.{table_size};
-ghost use Rattle.walk_laws.specs.SeenState.{table_placed};
-ghost use Rattle.walk_laws.specs.TableCells as tables;
+ghost use Rattle.world_laws.specs.SeenState.{table_placed};
+ghost use Rattle.world_laws.specs.TableCells as tables;
 ghost use Rattle.command_core.specs.Changed as spec;
 ghost use Rattle.command_core.specs.Foreseen.{side_or_unlisted};
 ghost use Rattle.command_core.specs.Seen as seen;
@@ -18,7 +18,7 @@ use crate::misfits::table_size;
 use crate::taking::{is_granule, is_held};
 use command_words::is_space;
 use granule_cells::{Cell, Side};
-use granule_state::{Config, Pa};
+use memory_map::{Config, Pa};
 use realm_desc::{HashAlgorithm, Rec};
 use rmm_spec::{
     Change, EntryChange, RealmChange, RealmUpdate, RecChange, RecUpdate, Tag, TagChange,
@@ -188,7 +188,7 @@ fn fits_entries(change: &EntryChange) -> bool
 }
 
 // Whether the records that are held are what the change updates.
-#[tactic(auto, unfolding(walk_laws::specs::TableCells::holds_change))]
+#[tactic(auto, unfolding(world_laws::specs::TableCells::holds_change))]
 fn fits_cells<H: Held>(held: &H, change: &Change) -> bool
     ensures { result ≡ spec.fits_cells (H.cells held.now) change.now }
 {

@@ -2,7 +2,7 @@
 
 ghost use Rattle.std.specs.Prelude.{◌≡◌, ◌==◌, ◌*◌, option_map, option_copied};
 ghost use Rattle.rmm_spec.specs.Walk as walk;
-ghost use Rattle.walk_laws.specs.Misfits as spec;
+ghost use Rattle.world_laws.specs.Misfits as spec;
 ghost use Rattle.command_core.specs.Seen.{cell_of};
 
 use crate::held::Held;
@@ -10,10 +10,9 @@ use crate::held_sight::HeldSight;
 use crate::held_tables::table_in;
 use crate::taking::is_granule;
 use granule_cells::Cell;
-use granule_state::{Ipa, Pa};
+use memory_map::{Ipa, Pa, table_number};
 use rmm_spec::{Entry, Place};
 use rtt_table::{Table, index_of};
-use table_entries::table_number;
 
 /// How many bytes a table of the level covers.
 #[tactic(auto, unfolding(rmm_spec::specs::Walk::table_size))]
@@ -64,9 +63,9 @@ impl<'a, H: Held> HeldSight<'a, H> {
     ghost use Rattle.std.specs.Prelude.{◌≡◌, ◌<◌, slice_get};
     ghost use Rattle.std.specs.List.{list_any};
     ghost use Rattle.rmm_spec.specs.Local.{granules_held};
-    ghost use Rattle.walk_laws.specs.Held.{cell_in};
-    ghost use Rattle.walk_laws.specs.SeenState.{table_held};
-    ghost use Rattle.walk_laws.specs.Misfits as spec;
+    ghost use Rattle.world_laws.specs.Held.{cell_in};
+    ghost use Rattle.world_laws.specs.SeenState.{table_held};
+    ghost use Rattle.world_laws.specs.Misfits as spec;
 
     // Whether what an entry of a table names can't be: no granule, or held as something else.
     #[tactic(auto, unfolding(rmm_spec::specs::Table::place_number))]
@@ -138,7 +137,7 @@ impl<'a, H: Held> HeldSight<'a, H> {
     }
 
     /// Whether a walk in the tables of the realm for the address meets such.
-    #[tactic(auto, unfolding(walk_laws::specs::Misfits::is_misfit_walk))]
+    #[tactic(auto, unfolding(world_laws::specs::Misfits::is_misfit_walk))]
     pub(crate) fn is_misfit_walk(&self, rd: u64, ipa: u64) -> bool
         ensures { result ≡ spec.is_misfit_walk self.now.config.now (H.cells self.now.held.now) rd ipa }
     {

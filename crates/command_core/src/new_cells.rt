@@ -5,15 +5,15 @@ ghost use Rattle.rmm_spec.specs.Cell as whole;
 ghost use Rattle.rmm_spec.specs.Local.{HeldCell};
 ghost use Rattle.world_laws.specs.Replaced.{replaced_cells, replaced_all};
 ghost use Rattle.shape_laws.specs.Whole.{cell_with_tag, cell_with_rec};
-ghost use Rattle.walk_laws.specs.SeenState.{table_held};
-ghost use Rattle.walk_laws.specs.TableCells.{tag_cells, realm_cells, rec_cells};
+ghost use Rattle.world_laws.specs.SeenState.{table_held};
+ghost use Rattle.world_laws.specs.TableCells.{tag_cells, realm_cells, rec_cells};
 ghost use Rattle.command_core.specs.Changed.{AreAllHeld, is_plain, fits_rec, fits_realm_change, fits_rec_change, fits_page};
 ghost use Rattle.command_core.specs.NewCells.{new_cell};
 ghost use Rattle.command_core.specs.Seen.{cell_of, is_held, known_cell};
 
 use crate::held::Held;
 use granule_cells::{Cell, Descriptor};
-use granule_state::Pa;
+use memory_map::Pa;
 use rmm_spec::{RealmChange, RecChange, RecUpdate, Tag, TagChange};
 
 /// Puts another cell in the place of the one that is held at a granule.

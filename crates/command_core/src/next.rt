@@ -1,6 +1,6 @@
 //! What a CPU does next.
 
-use granule_state::Pa;
+use memory_map::Pa;
 
 /// What a CPU does next for a command that it hasn't committed.
 #[derive(Clone, Copy)]

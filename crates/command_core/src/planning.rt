@@ -22,7 +22,7 @@ use crate::taking::{is_downward, is_held, is_upward, least_missing};
 use crate::ways::{keeps_realm, way_given};
 use command_words::{Caller, Name, Terms, Way, needed, one, terms_of, two};
 use granule_cells::{Cell, CpuPlace};
-use granule_state::{Config, Pa};
+use memory_map::{Config, Pa};
 use realm_desc::Rec;
 use rmm_spec::{Call, Command, Tag};
 

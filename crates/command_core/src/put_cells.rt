@@ -5,7 +5,7 @@ ghost use Rattle.rmm_spec.specs.declared.change.RealmUpdate.TheVariants.{RecCoun
 ghost use Rattle.rmm_spec.specs.Cell as whole;
 ghost use Rattle.world_laws.specs.Replaced.{held_at, replaced_all};
 ghost use Rattle.shape_laws.specs.Whole.{cell_with_realm};
-ghost use Rattle.walk_laws.specs.TableCells.{realm_cells, rec_cells};
+ghost use Rattle.world_laws.specs.TableCells.{realm_cells, rec_cells};
 ghost use Rattle.command_core.specs.Changed.{new_cells, AreHeld, AreAllHeld, counts_in, fits_realm_change, fits_rec_change, fits_cells};
 ghost use Rattle.command_core.specs.Rooms.{IsRoomFor};
 ghost use Rattle.command_core.specs.Seen.{cell_of, is_held};
@@ -16,13 +16,13 @@ use crate::held_tables::table_changed;
 use crate::new_cells::{page_after, put, put_new, rec_after, take_changed_realm, take_realm};
 use crate::put_tables::{destroy_table, make_table, put_entries, table_at};
 use granule_cells::{Cell, Descriptor};
-use granule_state::Pa;
+use memory_map::Pa;
 use realm_desc::Rec;
 use rmm_spec::{Change, RealmChange, RecChange};
 use rtt_table::Table;
 
 /// Puts in the cells that the change means, each in the place of the one that is held at its granule.
-#[tactic(auto, unfolding(crate::specs::Changed::new_cells, walk_laws::specs::TableCells::table_cells, walk_laws::specs::TableCells::holds_change))]
+#[tactic(auto, unfolding(crate::specs::Changed::new_cells, world_laws::specs::TableCells::table_cells, world_laws::specs::TableCells::holds_change))]
 pub(crate) fn put_cells<H: Held>(held: &mut H, change: &Change, room: Room)
     requires held { AreHeld (H.cells held.old) change.now }
     requires fits { IsTrue (fits_cells (H.cells held.old) change.now) }

@@ -8,8 +8,8 @@ ghost use Rattle.rmm_spec.specs.Cell as whole;
 ghost use Rattle.rmm_spec.specs.Walk as walk;
 ghost use Rattle.world_laws.specs.Replaced.{replaced_cells, replaced_all};
 ghost use Rattle.shape_laws.specs.Whole as spec_whole;
-ghost use Rattle.walk_laws.specs.SeenState.{table_held, table_placed};
-ghost use Rattle.walk_laws.specs.TableCells.{tag_cells, realm_cells, rec_cells, entry_cells, table_cells};
+ghost use Rattle.world_laws.specs.SeenState.{table_held, table_placed};
+ghost use Rattle.world_laws.specs.TableCells.{tag_cells, realm_cells, rec_cells, entry_cells, table_cells};
 ghost use Rattle.command_core.specs.Changed.{AreAllHeld, fits_realm_change, fits_rec_change, fits_page, fits_entries};
 ghost use Rattle.command_core.specs.Seen.{is_held, known_cell};
 
@@ -18,7 +18,7 @@ use crate::held_tables::{placed, table_in};
 use crate::misfits::table_size;
 use crate::new_cells::{page_after, put, put_new, rec_after, take_changed_realm};
 use granule_cells::Cell;
-use granule_state::Pa;
+use memory_map::Pa;
 use rmm_spec::{Entry, EntryChange, Place, RealmChange, RecChange, TagChange};
 use rtt_table::Table;
 
@@ -134,7 +134,7 @@ fn width_in<H: Held>(held: &H, granule: u64) -> u8
 }
 
 /// Puts in a new table, and the link to it above.
-#[tactic(auto, unfolding(walk_laws::specs::TableCells::table_cells))]
+#[tactic(auto, unfolding(world_laws::specs::TableCells::table_cells))]
 pub(crate) fn make_table<H: Held>(
     held: &mut H,
     rd: u64,
@@ -158,7 +158,7 @@ pub(crate) fn make_table<H: Held>(
 }
 
 /// Takes a table out, and puts an entry where the link to it was.
-#[tactic(auto, unfolding(walk_laws::specs::TableCells::table_cells))]
+#[tactic(auto, unfolding(world_laws::specs::TableCells::table_cells))]
 pub(crate) fn destroy_table<H: Held>(
     held: &mut H,
     rd: u64,

@@ -10,7 +10,7 @@ ghost use Rattle.command_core.specs.Sides.{side_of};
 
 use crate::change_room::Room;
 use granule_cells::{Descriptor, Side};
-use granule_state::Pa;
+use memory_map::Pa;
 use realm_desc::{HashAlgorithm, Realm, Space};
 use rmm_spec::{Change, Entry, Place, Ripas};
 use rtt_table::Table;

@@ -21,7 +21,7 @@ use crate::unshaped::{self, is_misfit};
 use crate::ways::way_given;
 use command_words::{Caller, Name, Terms};
 use granule_cells::{Cell, CpuPlace};
-use granule_state::{Config, Pa};
+use memory_map::{Config, Pa};
 use rmm_spec::Call;
 
 // Whether each granule that is named is one.

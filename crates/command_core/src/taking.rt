@@ -12,7 +12,7 @@ use crate::held::Held;
 use crate::held_sight::HeldSight;
 use command_words::{Name, is_tag};
 use granule_cells::Cell;
-use granule_state::{Config, Pa, granule_at};
+use memory_map::{Config, Pa, granule_at};
 use rmm_spec::Entry;
 
 /// Whether a granule is one of the machine's.

@@ -11,7 +11,7 @@ use crate::taking::{has_wrong, is_granule, is_held};
 use crate::ways::way_taken;
 use command_words::{Way, needed, two};
 use granule_cells::{Cell, CpuPlace};
-use granule_state::{Config, Pa};
+use memory_map::{Config, Pa};
 use realm_desc::Rec;
 use rmm_spec::{Call, Tag};
 

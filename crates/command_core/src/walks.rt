@@ -1,7 +1,7 @@
 //! What a walk of a command has come to, told by the tables that are held.
 
 ghost use Rattle.std.specs.Prelude.{◌≡◌, ◌<◌, not, IfSome, option_map};
-ghost use Rattle.walk_laws.specs.Walking as walking;
+ghost use Rattle.world_laws.specs.Walking as walking;
 ghost use Rattle.command_core.specs.Walks as spec;
 ghost use Rattle.command_core.specs.Ways.{part_seen};
 
@@ -12,9 +12,8 @@ use crate::ways::{keeps_realm, part_below};
 use command_rows::answer_outside;
 use command_words::{Name, Way, is_tag, named};
 use granule_cells::Cell;
-use granule_state::Pa;
+use memory_map::{Pa, entry_number, is_table, table_number};
 use rmm_spec::{Call, Entry, Refusal, Tag};
-use table_entries::{entry_number, is_table, table_number};
 
 /// A part of what is held: the granule that names it, at which of its entries where that is a table's, and the part.
 #[derive(Clone, Copy)]
@@ -26,9 +25,9 @@ pub(crate) struct Part {
 
 impl<'a, H: Held> HeldSight<'a, H> {
     ghost use Rattle.std.specs.Prelude.{◌≡◌, ◌<◌, ◌&&◌, Some, IfSome, IsTrue, is_some, is_none, option_map};
-    ghost use Rattle.walk_laws.specs.Held.{cell_in};
-    ghost use Rattle.walk_laws.specs.Walking as walking;
-    ghost use Rattle.walk_laws.specs.SeenState as seen;
+    ghost use Rattle.world_laws.specs.Held.{cell_in};
+    ghost use Rattle.world_laws.specs.Walking as walking;
+    ghost use Rattle.world_laws.specs.SeenState as seen;
     ghost use Rattle.command_core.specs.Walks as spec;
     ghost use Rattle.command_words.specs.Ways.{way_seen};
     ghost use Rattle.command_core.specs.Ways.{part_seen};
@@ -57,7 +56,7 @@ impl<'a, H: Held> HeldSight<'a, H> {
     }
 
     /// Whether the walk ends at a table that is held: at the last level that is asked for, or at an entry that is no link.
-    #[tactic(auto, unfolding(walk_laws::specs::Walking::is_walk_held))]
+    #[tactic(auto, unfolding(world_laws::specs::Walking::is_walk_held))]
     pub(crate) fn is_walk_held(&self, way: &Way) -> bool
         ensures { result ≡ walking.is_walk_held self.now.config.now (H.cells self.now.held.now) (way_seen way.now) }
     {
@@ -109,7 +108,7 @@ impl<'a, H: Held> HeldSight<'a, H> {
     }
 
     /// Whether the tags of all granules that are named are told.
-    #[tactic(auto, unfolding(walk_laws::specs::Walking::are_told))]
+    #[tactic(auto, unfolding(world_laws::specs::Walking::are_told))]
     pub(crate) fn are_told(&self, call: &Call) -> bool
         ensures { result ≡ walking.are_told call.now (H.cells self.now.held.now) }
     {

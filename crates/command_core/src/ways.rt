@@ -3,7 +3,7 @@
 ghost use Rattle.std.specs.Prelude.{◌≡◌, option_map};
 ghost use Rattle.rmm_spec.specs.Rows.{all_allowed};
 ghost use Rattle.rmm_spec.specs.Step.Terms.{words_of};
-ghost use Rattle.walk_laws.specs.Walking as spec;
+ghost use Rattle.world_laws.specs.Walking as spec;
 ghost use Rattle.command_core.specs.Walks as own;
 ghost use Rattle.command_words.specs.Ways.{way_seen};
 
@@ -27,7 +27,7 @@ pub(crate) fn way_given(call: &Call, allowed: bool) -> Option<Way>
 }
 
 /// Whether a command reads more of its realm than the address space, so that it keeps the realm to its commit.
-#[tactic(auto, unfolding(walk_laws::specs::Walking::keeps_realm))]
+#[tactic(auto, unfolding(world_laws::specs::Walking::keeps_realm))]
 pub(crate) fn keeps_realm(call: &Call) -> bool
     ensures { result ≡ spec.keeps_realm call.now }
 {
@@ -35,7 +35,7 @@ pub(crate) fn keeps_realm(call: &Call) -> bool
 }
 
 /// The granule below the walk's end that a command takes out: a table that it reads first, or a page.
-#[tactic(auto, unfolding(walk_laws::specs::Walking::part_below))]
+#[tactic(auto, unfolding(world_laws::specs::Walking::part_below))]
 pub(crate) fn part_below(call: &Call, entry: Entry) -> Option<u64>
     ensures { result ≡ spec.part_below call.now entry }
 {

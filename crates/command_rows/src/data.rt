@@ -6,11 +6,11 @@ ghost use Rattle.rmm_spec.specs.Step.Data as spec;
 use crate::reply::{done, done_with};
 use crate::sight::Sight;
 use command_words::is_page;
+use memory_map::{entry_address, entry_number, entry_ripas, is_assigned, is_ram, is_unassigned};
 use rmm_spec::{
     Accepted, Change, Condition, Entry, EntryChange, RealmChange, RealmUpdate, Refusal, Ripas, Tag,
     TagChange,
 };
-use table_entries::{entry_address, entry_number, entry_ripas, is_assigned, is_ram, is_unassigned};
 
 #[tactic(auto, unfolding(rmm_spec::specs::Step::Data::data_create, rmm_spec::specs::Step::Terms::words_of, rmm_spec::specs::Step::Terms::named, rmm_spec::specs::Lookup::realm_at))]
 #[inline(never)]

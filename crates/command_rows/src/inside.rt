@@ -11,10 +11,10 @@ ghost use Rattle.command_rows.specs.Answers.{IsInside, inside_answer, realm_answ
 use crate::reply::accepted_at;
 use crate::sight::Sight;
 use command_words::{Caller, caller_of};
+use memory_map::entry_ripas;
 use realm_desc::Rec;
 use rec_steps::{answer_to_call, answer_to_exit};
 use rmm_spec::{Accepted, Call, Condition, Refusal, Ripas};
-use table_entries::entry_ripas;
 
 /// What a call is answered in the state of the sight, given from inside of the REC.
 #[tactic(auto, unfolding(crate::specs::Answers::IsInside, crate::specs::Answers::inside_answer))]

@@ -3,10 +3,10 @@
 ghost use Rattle.std.specs.Prelude.{◌≡◌};
 ghost use Rattle.rmm_spec.specs.Step.Ripas as spec;
 
+use memory_map::entry_number;
 use rmm_spec::{
     Change, EntryChange, RealmChange, RealmUpdate, RecChange, RecUpdate, Ripas, Stretch, StretchUse,
 };
-use table_entries::entry_number;
 
 /// What is changed where the stretch is set up to top.
 #[tactic(auto, unfolding(rmm_spec::specs::Step::Ripas::reached_change))]

@@ -5,8 +5,8 @@ ghost use Rattle.rmm_spec.specs.Step.Ripas as spec;
 
 use crate::sight::Sight;
 use command_words::{is_aligned, is_page};
+use memory_map::{entry_size, is_unassigned};
 use rmm_spec::{Accepted, Condition, Refusal, Stretch, StretchUse, Tag};
-use table_entries::{entry_size, is_unassigned};
 
 #[tactic(auto, unfolding(rmm_spec::specs::Step::Ripas::rtt_init_ripas, rmm_spec::specs::Step::Terms::words_of, rmm_spec::specs::Step::Terms::named, rmm_spec::specs::Lookup::realm_at))]
 #[inline(never)]

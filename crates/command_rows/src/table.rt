@@ -6,11 +6,9 @@ ghost use Rattle.rmm_spec.specs.Step.Table as spec;
 use crate::reply::{done, done_with, told};
 use crate::sight::Sight;
 use command_words::is_aligned;
+use memory_map::{entry_address, entry_ripas, entry_state, is_table, ripas_number, table_number};
 use realm_desc::Realm;
 use rmm_spec::{Accepted, Change, Condition, Entry, EntryTest, Refusal, Removal, Ripas, Tag};
-use table_entries::{
-    entry_address, entry_ripas, entry_state, is_table, ripas_number, table_number,
-};
 
 #[tactic(auto, unfolding(rmm_spec::specs::Step::Table::rtt_create, rmm_spec::specs::Step::Terms::words_of, rmm_spec::specs::Step::Terms::named, rmm_spec::specs::Lookup::realm_at))]
 #[inline(never)]

@@ -9,9 +9,9 @@ ghost use Rattle.rmm_spec.specs.Step.Unprotected as spec;
 use crate::reply::done;
 use crate::sight::Sight;
 use command_words::{is_host_page, is_page};
+use memory_map::{entry_number, is_assigned_ns, is_unassigned_ns};
 use realm_desc::Realm;
 use rmm_spec::{Accepted, Change, Condition, Entry, EntryChange, Refusal};
-use table_entries::{entry_number, is_assigned_ns, is_unassigned_ns};
 
 #[tactic(auto, unfolding(rmm_spec::specs::Step::Unprotected::rtt_map_unprotected, rmm_spec::specs::Step::Terms::words_of, rmm_spec::specs::Step::Terms::named, rmm_spec::specs::Lookup::realm_at))]
 #[inline(never)]

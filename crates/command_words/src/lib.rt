@@ -10,7 +10,7 @@ mod names;
 mod terms;
 mod words;
 
-pub use granule_state::is_page;
+pub use memory_map::is_page;
 pub use name_list::{Name, Names};
 pub use names::{is_tag, needed, one, two};
 pub use rmi_view::{Caller, caller_of};

@@ -12,7 +12,7 @@ ghost use Rattle.command_words.specs.Ways.{way_seen};
 use crate::name_list::{Name, Names};
 use crate::names::{four, needed, none, one, three, two};
 use crate::words::{are_apart, is_aligned, is_host_page, is_space, is_width};
-use granule_state::is_page;
+use memory_map::is_page;
 use rmi_view::{Caller, caller_of};
 use rmm_spec::{Call, FunctionId, Tag};
 

@@ -6,10 +6,9 @@ ghost use Rattle.rmm_spec.specs.Step.Terms as spec;
 ghost use Rattle.rmm_spec.specs.Walk as walk;
 ghost use Rattle.realm_desc.specs.View.{algorithm_number};
 
-use granule_state::is_page;
+use memory_map::{entry_size, is_page};
 use realm_desc::{HashAlgorithm, Space};
 use rmm_spec::Version;
-use table_entries::entry_size;
 
 /// Where the host's memory ends: its addresses have 48 bits.
 const HOST_END: u64 = 1 << 48;

@@ -15,7 +15,7 @@ use crate::site::Site;
 use crate::token::CpuToken;
 use command_core::{Room, foresee, room_for};
 use granule_lock::Hold;
-use granule_state::Config;
+use memory_map::Config;
 use rmi_view::ReplyRef;
 use rmm_spec::{Accepted, Change, Command, Condition, Refusal};
 use std::alloc::{AllocError, Global};

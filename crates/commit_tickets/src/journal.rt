@@ -11,7 +11,7 @@ ghost use Rattle.commit_tickets.specs.Entries.{entry_of};
 use crate::site::Site;
 use command_core::Side;
 use command_log::{CommandLog, Logged};
-use granule_state::Config;
+use memory_map::Config;
 use spec_machine::Machine;
 use std::marker::Model;
 use std::sync::ledger::Book;

@@ -17,7 +17,7 @@ use crate::journal::Journal;
 use crate::site::Site;
 use crate::token::CpuToken;
 use granule_lock::Hold;
-use granule_state::Config;
+use memory_map::Config;
 use rmm_spec::Command;
 use std::alloc::Global;
 

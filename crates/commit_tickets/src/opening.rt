@@ -9,7 +9,7 @@ use crate::site::Site;
 use crate::token::CpuToken;
 use command_core::{CpuPlace, Side};
 use command_log::CommandLog;
-use granule_state::Config;
+use memory_map::Config;
 use spec_machine::Machine;
 use std::alloc::{AllocError, Global};
 use std::sync::ledger::Blank;

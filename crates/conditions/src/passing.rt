@@ -13,13 +13,13 @@ use crate::place::rec_inside;
 use crate::test::{EntryKind, RealmTest, RecTest, Test, WalkTest, WordTest};
 use command_rows::Sight;
 use command_words::{algorithm_in, is_aligned, is_page, is_space, is_width};
-use realm_desc::{Realm, Rec};
-use rmm_spec::{Entry, EntryTest, Removal, Tag, Walked};
-use spec_machine::Machine;
-use table_entries::{
+use memory_map::{
     entry_ripas, entry_size, is_assigned, is_assigned_ns, is_ram, is_table, is_unassigned,
     is_unassigned_ns, table_number,
 };
+use realm_desc::{Realm, Rec};
+use rmm_spec::{Entry, EntryTest, Removal, Tag, Walked};
+use spec_machine::Machine;
 
 /// Whether the test passes.
 #[tactic(auto, unfolding(crate::specs::Tests::passes, rmm_spec::specs::Lookup::rec_at))]

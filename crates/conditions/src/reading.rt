@@ -9,11 +9,11 @@ use crate::source::Source;
 use arrayvec::ArrayVec;
 use command_rows::Sight;
 use measure::{words, words8};
+use memory_map::{entry_address, entry_ripas, entry_state, ripas_number};
 use realm_desc::{Realm, Rec};
 use rec_steps::answer_to_exit;
 use rmm_spec::{Measurement, RealmState, Tag, Walked};
 use spec_machine::Machine;
-use table_entries::{entry_address, entry_ripas, entry_state, ripas_number};
 
 /// What the source has.
 #[tactic(auto, unfolding(crate::specs::Reading::read))]

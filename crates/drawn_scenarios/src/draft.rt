@@ -5,7 +5,7 @@ use crate::drafting::{Amount, Edges, drafted_programs};
 use crate::schedule::Schedule;
 use crate::sharing::Sharing;
 use anyhow::{Context, Result, bail};
-use granule_state::Config;
+use memory_map::Config;
 use rmm_spec::Command;
 use scenario::{Due, Scenario, is_scenario};
 use std::alloc::{AllocError, Global};

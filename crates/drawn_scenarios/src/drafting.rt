@@ -10,7 +10,7 @@ use crate::sharing::Sharing;
 use crate::words::walks;
 use anyhow::{Result, bail};
 use arrayvec::ArrayVec;
-use granule_state::Config;
+use memory_map::Config;
 use rmm_spec::{Accepted, Command, FunctionId, Reply, Stretch};
 use spec_machine::Machine;
 use std::alloc::Global;

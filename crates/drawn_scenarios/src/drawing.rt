@@ -7,7 +7,7 @@ use crate::sharing::Sharing;
 use crate::words::{drawn_place, drawn_word};
 use arrayvec::ArrayVec;
 use command_words::{Name, named};
-use granule_state::GRANULE_BYTES;
+use memory_map::GRANULE_BYTES;
 use rmm_spec::{Call, Command, FunctionId, Tag};
 use spec_machine::OwnerRow;
 

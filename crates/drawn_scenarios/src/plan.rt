@@ -6,7 +6,7 @@ use crate::drafting::{Amount, Edges, drafted_programs};
 use crate::schedule::Schedule;
 use crate::sharing::Sharing;
 use anyhow::Result;
-use granule_state::Config;
+use memory_map::Config;
 use scenario::Scenario;
 use std::alloc::Global;
 

@@ -3,7 +3,7 @@
 ghost use Rattle.std.specs.Prelude.{◌<◌};
 
 use crate::dice::Dice;
-use granule_state::Config;
+use memory_map::Config;
 use scenario::{Due, Will};
 
 /// A schedule that is drawn turn by turn. For one seed and as many CPUs it is the same.

@@ -5,7 +5,7 @@ ghost use Rattle.rmm_spec.specs.declared.version.Version.TheVariants.{One};
 ghost use Rattle.rmm_spec.specs.HistoryText.{granule_limit};
 
 use crate::dice::Dice;
-use granule_state::{Config, granule_limit};
+use memory_map::{Config, granule_limit};
 use rmm_spec::Version;
 
 /// Which granules a CPU draws from.

@@ -4,7 +4,7 @@ ghost use Rattle.std.specs.Prelude.{◌<◌};
 
 use crate::dice::Dice;
 use crate::drawing::Granules;
-use granule_state::GRANULE_BYTES;
+use memory_map::GRANULE_BYTES;
 use rmm_spec::FunctionId;
 
 /// What some words of a command say together: an address space, an entry at an address, or a stretch of entries.

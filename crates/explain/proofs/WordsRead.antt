@@ -18,7 +18,7 @@ use Rattle.rmm_spec.specs.Step.{answer_of, is_placed, outcome}
 use Rattle.rmm_spec.specs.Step.Terms.{Class, ByHost, ByRealm, ByExit, class_of, named, words_of}
 use Rattle.spec_lemmas.proofs.Behind.{behind}
 use Rattle.rmm_laws.proofs.RowLaws.{front-rest, outcome-leads}
-use Rattle.rmm_sound.proofs.Applies.{inside_running}
+use Rattle.rmm_laws.proofs.Applies.{inside_running}
 use Rattle.conditions.specs.declared.source.Source.TheVariants as source
 use Rattle.conditions.specs.Reading.{read, request_read}
 use Rattle.explain.specs.Deciding.{words_source}

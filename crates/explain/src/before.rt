@@ -14,9 +14,9 @@ use arrayvec::ArrayVec;
 use command_rows::Sight;
 use command_words::{Name, Way, named, way_of, words_allow};
 use conditions::rec_inside;
+use memory_map::entry_number;
 use rmm_spec::Call;
 use spec_machine::{Machine, OwnerRow};
-use table_entries::entry_number;
 use told::{EntryRead, GranuleBefore, RealmBefore, RecBefore, StateBefore, WalkBefore};
 
 /// What the CPU's command names, in the machine's state.

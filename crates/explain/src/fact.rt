@@ -16,12 +16,12 @@ ghost use Rattle.explain.specs.Facts.{IsEntryIn, IsFact, IsFound, IsRealmFact, I
 
 use command_rows::Sight;
 use conditions::{RealmTest, RecTest, Test, WordTest, rec_inside};
-use granule_state::GRANULE_BYTES;
+use memory_map::{
+    GRANULE_BYTES, entry_address, entry_ripas, entry_size, entry_state, passes, ripas_number,
+    table_number,
+};
 use rmm_spec::{Entry, EntryTest, Removal, Tag, Version};
 use spec_machine::{Machine, OwnerRow};
-use table_entries::{
-    entry_address, entry_ripas, entry_size, entry_state, passes, ripas_number, table_number,
-};
 use told::{EntryRead, Fact};
 
 /// How many entries a table has.

@@ -1,9 +1,9 @@
 //! How far a command may get whose end is left to the monitor.
 
 use command_rows::Sight;
+use memory_map::{can_be_set, entry_number};
 use rmm_spec::{Accepted, Refusal};
 use spec_machine::Machine;
-use table_entries::{can_be_set, entry_number};
 use told::entry_size;
 
 /// How many entries a table has.

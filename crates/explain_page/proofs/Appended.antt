@@ -1,7 +1,7 @@
 -- A page that is appended, from what its writers wrote.
 use Rattle.std.proofs.Common.{◌≡◌, sym, ap, ◌∙◌, ℕ, List, [], ◌∷◌, ◌++◌}
 use Rattle.std.proofs.lemmas.Grind.{flat_map-append}
-use Rattle.markup.specs.Pieces.{Piece, Own, piece_text, texts, IsWritten}
+use Rattle.explain_page.specs.Pieces.{Piece, Own, piece_text, texts, IsWritten}
 use Rattle.rmm_spec.specs.declared.verdict.Verdict.{Verdict}
 use Rattle.rmm_spec.specs.VerdictText.{verdict_line}
 use Rattle.explain_page.specs.Head.{head_pieces, head_text}

@@ -1,2 +1,6 @@
+mod Lengths
+mod Marks
+mod Pieces
+mod Plain
 mod Appended
 mod Said

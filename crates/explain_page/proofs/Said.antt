@@ -2,8 +2,8 @@
 use Rattle.std.proofs.Common.{◌≡◌, refl, sym, ap, ◌∙◌, ℕ, List, [], ◌∷◌, ◌++◌, append_assoc, append-nil, subst}
 use Rattle.std.proofs.lemmas.Grind.{flat_map-append}
 use Rattle.std.specs.Prelude.{decimal}
-use Rattle.markup.specs.Escaped.{escaped}
-use Rattle.markup.specs.Pieces.{Piece, Own, Number, Text, piece_text, texts}
+use Rattle.explain_page.specs.Escaped.{escaped}
+use Rattle.explain_page.specs.Pieces.{Piece, Own, Number, Text, piece_text, texts}
 use Rattle.explain_page.specs.declared.own.Own as own
 use Rattle.explain_page.specs.declared.own.Own.TheVariants.{Frame}
 use Rattle.explain_page.specs.declared.own.frame.Frame.TheVariants.{Report, End}

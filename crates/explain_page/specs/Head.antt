@@ -1,6 +1,6 @@
 -- The texts of a head's pieces of markup, and what a head consists of.
 use Rattle.std.specs.Prelude.{ℕ, List, [], ◌∷◌, ◌++◌, codes}
-use Rattle.markup.specs.Pieces.{Piece, Own, Text}
+use Rattle.explain_page.specs.Pieces.{Piece, Own, Text}
 use Rattle.explain_page.specs.declared.own.head.Head.{Head}
 use Rattle.explain_page.specs.declared.own.head.Head.TheVariants.{Start, Style, TextStyle, PictureStyle, Heading, HeadingEnd}
 use Rattle.explain_page.specs.declared.own.head.TheConstants.{START, TEXT_STYLE, PICTURE_STYLE}

@@ -1,6 +1,6 @@
 -- What a page consists of, and how it ends.
 use Rattle.std.specs.Prelude.{◌≡◌, ℕ, List, [], ◌∷◌, ◌++◌}
-use Rattle.markup.specs.Pieces.{Piece, Own, Number, Text, texts}
+use Rattle.explain_page.specs.Pieces.{Piece, Own, Number, Text, texts}
 use Rattle.rmm_spec.specs.declared.verdict.Verdict.{Verdict}
 use Rattle.rmm_spec.specs.VerdictText.{verdict_line}
 use Rattle.explain_page.specs.declared.own.Own as own

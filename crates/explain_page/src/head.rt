@@ -1,13 +1,13 @@
 //! The head of a page: its title, its style sheet and its headline.
 
 ghost use Rattle.std.specs.Prelude.{◌≡◌, ◌++◌, IfOk, OnOk};
-ghost use Rattle.markup.specs.Pieces.{texts};
+ghost use Rattle.explain_page.specs.Pieces.{texts};
 ghost use Rattle.rmm_spec.specs.VerdictText.{verdict_line};
 ghost use Rattle.explain_page.specs.Head.{head_pieces, head_text, headline_pieces, style_pieces, title_pieces};
 
+use crate::Page;
 use crate::own::Head;
 use checker::{Verdict, verdict_text};
-use markup::Page;
 use std::alloc::{AllocError, Global};
 
 /// The head of a page, up to its headline's end. The title and the headline are the verdict's line.
@@ -23,7 +23,7 @@ pub(crate) fn head_of(alloc: Global, verdict: &Verdict) -> Result<Page<Head>, Al
     Ok(head)
 }
 
-#[tactic(auto, unfolding(crate::specs::Head::title_pieces, markup::specs::Pieces::texts))]
+#[tactic(auto, unfolding(crate::specs::Head::title_pieces, crate::specs::Pieces::texts))]
 fn write_title(head: &mut Page<Head>, line: &[u8]) -> Result<(), AllocError>
     ensures { OnOk result (head.new.bytes ≡ head.old.bytes ++ texts head_text (title_pieces line.now)) }
 {
@@ -31,7 +31,7 @@ fn write_title(head: &mut Page<Head>, line: &[u8]) -> Result<(), AllocError>
     head.text(line)
 }
 
-#[tactic(auto, unfolding(crate::specs::Head::style_pieces, markup::specs::Pieces::texts))]
+#[tactic(auto, unfolding(crate::specs::Head::style_pieces, crate::specs::Pieces::texts))]
 fn write_style(head: &mut Page<Head>) -> Result<(), AllocError>
     ensures { OnOk result (head.new.bytes ≡ head.old.bytes ++ texts head_text style_pieces) }
 {
@@ -40,7 +40,7 @@ fn write_style(head: &mut Page<Head>) -> Result<(), AllocError>
     head.say(Head::PictureStyle)
 }
 
-#[tactic(auto, unfolding(crate::specs::Head::headline_pieces, markup::specs::Pieces::texts))]
+#[tactic(auto, unfolding(crate::specs::Head::headline_pieces, crate::specs::Pieces::texts))]
 fn write_headline(head: &mut Page<Head>, line: &[u8]) -> Result<(), AllocError>
     ensures { OnOk result (head.new.bytes ≡ head.old.bytes ++ texts head_text (headline_pieces line.now)) }
 {

@@ -10,17 +10,17 @@ mod table;
 mod tag;
 mod words;
 
+use crate::Markup;
 pub(crate) use attribute::Attribute;
 pub(crate) use class::Class;
 pub(crate) use frame::Frame;
 pub(crate) use head::{Head, START};
-use markup::Markup;
 pub(crate) use table::Table;
 pub(crate) use tag::Tag;
 pub(crate) use words::Words;
 
 /// What stands behind the head of a page, of such pieces.
-pub(crate) type Page = markup::Page<Own>;
+pub(crate) type Page = crate::Page<Own>;
 
 /// A piece of markup.
 #[derive(Clone, Copy)]

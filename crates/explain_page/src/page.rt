@@ -1,7 +1,7 @@
 //! Pages.
 
 ghost use Rattle.std.specs.Prelude.{◌≡◌, ◌++◌, IfOk, OnOk, OnErr};
-ghost use Rattle.markup.specs.Pieces.{IsWritten};
+ghost use Rattle.explain_page.specs.Pieces.{IsWritten};
 ghost use Rattle.explain.specs.Explained.{verdict_of};
 ghost use Rattle.explain_page.specs.Own.{own_text};
 ghost use Rattle.explain_page.specs.Page.{AppendsPage, AppendsReport};

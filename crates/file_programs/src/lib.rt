@@ -1,14 +1,21 @@
-//! What programs that read whole files and print a text have in common: their arguments, their faults, a line and an exit status for each.
-//! It promises that a fault ends a program by one table, that reading, writing and printing report no fault but their own, and that what
-//! is printed is what the writer took. A pipe that its reader has closed ends a program without a line, and where the line of a fault can't
-//! be written to standard error, the status alone reports it. What the arguments are and which bytes a file has is beyond its clauses.
-//! The programs `rmmexplain` and `rmmfind` depend on it.
+//! What programs that read whole files and print a text have in common: files, faults, exit statuses, and the release that they are of.
+//! It promises that a fault ends a program by one table, that reading, writing and printing report no fault but their own, that a history is
+//! read no further than its first bad line, and byte for byte what `--version` prints and how a report ends (`append_judged`). The release's constants
+//! stand nowhere else in code; `tests/quick` compares the kit with the one at hand. Where the line of a fault can't be printed, the status reports it.
+//! Which bytes a file has is beyond its clauses. `rmmexplain`, `rmmfind`, `rmmdraw` and `rmmmerge` depend on it.
 #![tactic(auto)]
 
 mod arguments;
 mod fault;
+mod file;
 mod files;
+mod judged;
+mod version;
 
 pub use arguments::{arguments_of, shown};
+pub use check_command::HistoryRead;
 pub use fault::{Fault, end};
+pub use file::{history_at, judged_name};
 pub use files::{bytes_of, print, write_file};
+pub use judged::{Judged, append_judged};
+pub use version::{KIT, RULES, VERSION, version_text};

@@ -4,9 +4,9 @@ ghost use Rattle.std.specs.Prelude.{◌≡◌, ◌≤◌, ◌<◌, ℕ, IfSome, 
 ghost use Rattle.rmm_spec.specs.Walk as walk;
 ghost use Rattle.finding.specs.Ends.{IsBelow, IsEnd};
 
+use memory_map::table_number;
 use rmm_spec::Stretch;
 use std::cmp::min;
-use table_entries::table_number;
 
 /// The greatest end below `above` that a stretch may have by the words of its command. Whether its entries may be set is left open.
 pub(crate) fn next_end(stretch: &Stretch, above: Option<u64>) -> Option<u64>

@@ -8,7 +8,7 @@ use crate::fault::FlatFault;
 use crate::kept::Kept;
 use crate::machine::FlatMachine;
 use command_rows::Sight;
-use granule_state::Pa;
+use memory_map::Pa;
 use realm_desc::Rec;
 use rmm_spec::{Change, RealmChange, RealmUpdate, RecChange, RecUpdate, Tag, TagChange};
 

@@ -5,7 +5,7 @@ ghost use Rattle.std.specs.Prelude.{◌≡◌};
 use crate::fault::FlatFault;
 use crate::kept::{Kept, Spot};
 use command_rows::{Sight, answer_inside, answer_outside, reached_change};
-use granule_state::{Config, GRANULE_BYTES};
+use memory_map::{Config, GRANULE_BYTES};
 use realm_desc::Rec;
 use rmm_spec::{Accepted, Call, Command, Entry, Refusal, Reply, Tag};
 use std::alloc::Global;

@@ -4,9 +4,9 @@ use crate::machine::FlatMachine;
 use crate::walks::is_granule;
 use command_rows::Sight;
 use command_words::is_tag;
+use memory_map::{entry_number, table_number};
 use realm_desc::{Realm, Rec};
 use rmm_spec::{Entry, EntryTest, Tag, Version, Walked};
-use table_entries::{entry_number, table_number};
 
 #[tactic(auto, unfolding(crate::specs::Flat::state_of, rmm_spec::specs::Lookup::has_tag))]
 impl Sight for FlatMachine {

@@ -8,7 +8,7 @@ use crate::kept::{Kept, Spot};
 use crate::machine::FlatMachine;
 use crate::walks::ENTRIES;
 use command_rows::Sight;
-use granule_state::Pa;
+use memory_map::Pa;
 use realm_desc::{HashAlgorithm, Realm, Space};
 use rmm_spec::{Entry, EntryChange, Ripas, Tag};
 

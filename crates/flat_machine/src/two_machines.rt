@@ -4,11 +4,10 @@ use crate::fault::FlatFault;
 use crate::machine::FlatMachine;
 use crate::walks::ENTRIES;
 use arrayvec::ArrayVec;
-use granule_state::Config;
+use memory_map::{Config, entry_size};
 use rmm_spec::{Accepted, Command, Refusal, Reply, Stretch};
 use spec_machine::Machine;
 use std::alloc::{AllocError, Global};
-use table_entries::entry_size;
 
 /// Both machines, to which the same steps are offered.
 #[derive(Drop)]

@@ -5,10 +5,11 @@ ghost use Rattle.rmm_spec.specs.Lookup as lookup;
 
 use crate::kept::{Kept, Spot};
 use crate::machine::FlatMachine;
-use granule_state::{Config, granule_at};
+use memory_map::{
+    Config, can_be_set, entry_number, entry_size, granule_at, linked, passes, table_number,
+};
 use realm_desc::{Realm, Rec};
 use rmm_spec::{Entry, EntryTest, Stretch, Tag};
-use table_entries::{can_be_set, entry_number, entry_size, linked, passes, table_number};
 
 /// How many entries a table has.
 pub(crate) const ENTRIES: u64 = 512;

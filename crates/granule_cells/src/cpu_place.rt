@@ -1,6 +1,6 @@
 //! Where a CPU is.
 
-use granule_state::Pa;
+use memory_map::Pa;
 
 /// In the host's world, or inside a REC of the realm at rd.
 #[derive(Clone, Copy)]

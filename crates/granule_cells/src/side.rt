@@ -4,7 +4,7 @@ ghost use Rattle.std.specs.Prelude.{◌≡◌, ◌<◌, ◌≤◌, ◌-◌, ◌/
 ghost use Rattle.rmm_spec.specs.Lookup.{is_granule};
 ghost use Rattle.granule_cells.specs.declared.side.TheConstants.{GRANULES};
 
-use granule_state::{GRANULE_BYTES, MOST_GRANULES, Pa};
+use memory_map::{GRANULE_BYTES, MOST_GRANULES, Pa};
 use std::alloc::{AllocError, Global};
 
 /// How many VMIDs there are.

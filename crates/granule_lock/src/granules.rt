@@ -10,7 +10,7 @@ ghost use Rattle.granule_lock.specs.HeldCells.{freed_cells, hold_cells, IsLastHe
 
 use crate::granule::Granule;
 use crate::hold::Hold;
-use granule_state::{Config, GRANULE_BYTES, Pa};
+use memory_map::{Config, GRANULE_BYTES, Pa};
 use std::alloc::{AllocError, Global};
 use std::marker::Model;
 use std::sync::Wait;

@@ -3,7 +3,7 @@
 ghost use Rattle.std.specs.Prelude.{◌≡◌, Some};
 
 use command_core::{Cell, Held, HeldPairs};
-use granule_state::Pa;
+use memory_map::Pa;
 use std::snapshot::Snapshot;
 
 /// A cell on its way between its granule and a hold. It has no `Drop`: it is put among those that are held, or it goes home.

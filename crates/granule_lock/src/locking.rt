@@ -11,7 +11,7 @@ ghost use Rattle.granule_lock.specs.Locked.{AreGranules, IsPlannedStep, IsReache
 use crate::granules::Granules;
 use crate::hold::Hold;
 use command_core::{CpuPlace, Held, Next, next_step};
-use granule_state::{Config, Pa};
+use memory_map::{Config, Pa};
 use rmm_spec::{Call, Command};
 use std::sync::Wait;
 

@@ -8,9 +8,9 @@ use Rattle.std.proofs.lemmas.List.Sums.{length-filter, count_by-le-length}
 use Rattle.std.proofs.lemmas.List.Splits.{join_with_byte-slice_split}
 use Rattle.rmm_spec.specs.declared.event.Event.{Event}
 use Rattle.rmm_spec.specs.declared.event.Event.TheVariants.{Called, Returned}
-use Rattle.line_pieces.proofs.LineLengths.{length-line_text, width-called, width-returned, width-config}
-use Rattle.line_pieces.proofs.Pieces.{IsBadLine-too_long, behind_good, newlines-lines}
-use Rattle.line_pieces.specs.Newlines.{newlines}
+use Rattle.rmi_codec.proofs.LineLengths.{length-line_text, width-called, width-returned, width-config}
+use Rattle.rmi_codec.proofs.Pieces.{IsBadLine-too_long, behind_good, newlines-lines}
+use Rattle.rmi_codec.specs.Newlines.{newlines}
 use Rattle.rmm_spec.specs.Text.{IsBadLine, line_text, lines_text, parts_of, HasNoNewline}
 use Rattle.rmm_spec.specs.HistoryText.{Config, History, IsHistory, IsEvent, InHistories, IsHistoryText, CanFollow, cpu_of, config_parts, event_parts, history_text, rank}
 use Rattle.spec_lemmas.proofs.Lines.{AreOneLineEach, IsLineGrammar, IsBadLine-line, IsBadLine-unfinished, IsBadLine-full, append-cons-not_nil, IsOneLine-from_parts, AreOneLineEach-map, map_cut, lines_text-push, IsBadLine-end}

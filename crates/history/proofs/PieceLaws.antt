@@ -1,8 +1,8 @@
 -- What the first bytes of a text say of its bad line, before the header and behind it.
 use Rattle.std.proofs.Common.{◌≡◌, ℕ, ◌+◌, ◌-◌, ◌<◌, ◌≤◌, List, [], ◌∷◌, ◌++◌, length, take, Option, Some, None, sym, ap, ◌∙◌, subst, arith, append_assoc, length-append}
 use Rattle.std.proofs.Math.Seq.{take-append-add, take-append_seam}
-use Rattle.line_pieces.proofs.Pieces.{newlines-lines}
-use Rattle.line_pieces.specs.Newlines.{newlines}
+use Rattle.rmi_codec.proofs.Pieces.{newlines-lines}
+use Rattle.rmi_codec.specs.Newlines.{newlines}
 use Rattle.rmm_spec.specs.HistoryText.{InHistories}
 use Rattle.rmm_spec.specs.Text.{HasNoNewline, IsBadLine}
 use Rattle.history.specs.Faults.{EndsWithEvent, EventEndsIn}

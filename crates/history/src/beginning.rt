@@ -1,7 +1,7 @@
 //! The beginning of a history's text.
 
 ghost use Rattle.std.specs.Prelude.{◌≡◌, ◌≢◌, ◌<◌, ℕ, List, [], ◌∷◌, ◌++◌, ◌≤◌, length, take, Err, IfOk, IfErr, OnOk, IfSome, IfNone};
-ghost use Rattle.line_pieces.specs.Newlines.{newlines};
+ghost use Rattle.rmi_codec.specs.Newlines.{newlines};
 ghost use Rattle.rmm_spec.specs.HistoryText.{InHistories, IsHistoryText};
 ghost use Rattle.rmm_spec.specs.Text.{HasNoNewline, IsBadLine};
 ghost use Rattle.history.specs.Faults.{IsFaultOf, EndsWithEvent, EventEndsIn};
@@ -11,8 +11,7 @@ ghost use Rattle.history.specs.Pieces.{IsReadWell, next_number};
 use crate::fault::HistoryFault;
 use crate::history::History;
 use crate::reading::{read_line, record_front};
-use line_pieces::{MOST_BYTES, UnfinishedLine};
-use rmi_codec::next_line;
+use rmi_codec::{MOST_BYTES, UnfinishedLine, next_line};
 use std::alloc::Global;
 use std::marker::Model;
 

@@ -20,7 +20,7 @@ use crate::entry::{
 };
 use crate::event_ref::EventRef;
 use crate::subhistory::{Subhistory, copies, make_room_at};
-use granule_state::Config;
+use memory_map::Config;
 use rmi_codec::reply_has_text;
 use rmi_view::{CommandRef, ReplyRef};
 use rmm_spec::{Command, Event, Reply};

@@ -18,8 +18,8 @@ mod reading;
 mod subhistory;
 
 pub use fault::HistoryFault;
-pub use granule_state::Config;
 pub use history::{Answer, Call, History, MOST_LINES, Places};
 pub use laws::read_pieces;
+pub use memory_map::Config;
 pub use reader::{Reader, read};
 pub use rmm_spec::{Command, Event, Reply};

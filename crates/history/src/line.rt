@@ -6,7 +6,7 @@ ghost use Rattle.rmm_spec.specs.HistoryText.{mark};
 ghost use Rattle.rmm_spec.specs.Text.{parts_of};
 ghost use Rattle.history.specs.Spelling.{IsHeaderOf, IsNoHeader};
 
-use granule_state::Config;
+use memory_map::Config;
 use rmi_codec::{Parts, decimal_from};
 use rmm_spec::Version;
 

@@ -1,7 +1,7 @@
 //! Texts, read to histories.
 
 ghost use Rattle.std.specs.Prelude.{◌≡◌, ◌≢◌, ◌<◌, ℕ, List, [], ◌++◌, Ok, Err, IfOk, IfErr, OnOk};
-ghost use Rattle.line_pieces.specs.Newlines.{newlines};
+ghost use Rattle.rmi_codec.specs.Newlines.{newlines};
 ghost use Rattle.rmm_spec.specs.HistoryText.{InHistories, IsHistoryText};
 ghost use Rattle.rmm_spec.specs.Text.{IsBadLine};
 ghost use Rattle.history.specs.Faults.{IsFaultOf, EventEndsIn};

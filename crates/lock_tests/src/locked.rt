@@ -10,7 +10,7 @@ ghost use Rattle.granule_lock.specs.HeldCells.{hold_cells};
 
 use command_core::{Cell, Held};
 use granule_lock::{Granules, Hold};
-use granule_state::{Config, Pa};
+use memory_map::{Config, Pa};
 use rmm_spec::Tag;
 use std::alloc::Global;
 use std::sync::Wait;

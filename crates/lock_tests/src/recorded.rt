@@ -6,9 +6,9 @@ ghost use Rattle.lock_tests.specs.Called.{HasCalled};
 
 use arrayvec::ArrayVec;
 use event_queue::{CpuPass, OrderPass, Recorder, ScribePass, fit_a_history};
-use granule_state::Config;
 use history::{History, Reply};
-use queue_runs::{Calls, record_beside};
+use memory_map::Config;
+use queue_threads::{Calls, record_beside};
 use rmi_codec::read_command;
 use rmi_view::ReplyRef;
 use std::alloc::{AllocError, Global};

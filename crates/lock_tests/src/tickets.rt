@@ -10,7 +10,7 @@ use command_core::{CpuPlace, Held, Next, next_lock};
 use command_log::CommandLog;
 use commit_tickets::{CommitFault, CpuToken, Done, Journal, Site, commit};
 use granule_lock::{Granules, Hold, free_all, lock_for};
-use granule_state::{Config, Pa};
+use memory_map::{Config, Pa};
 use rmm_spec::{Command, FunctionId, Reply, Tag};
 use std::alloc::Global;
 use std::marker::Brand;

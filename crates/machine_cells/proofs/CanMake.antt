@@ -22,10 +22,10 @@ use Rattle.rmm_spec.specs.Shape.{count_below}
 use Rattle.rmm_spec.specs.Sound.{IsTableOf}
 use Rattle.rmm_spec.specs.State.{RecRecord}
 use Rattle.rmm_spec.specs.Walk.{is_table}
-use Rattle.rmm_sound.proofs.Entries.{leaf_there}
-use Rattle.rmm_sound.proofs.Searches.{realm_there, rec_there}
-use Rattle.rmm_sound.proofs.Spaces.{space_cases}
-use Rattle.rmm_sound.proofs.Tags.{has_tag-other}
+use Rattle.rmm_laws.proofs.Entries.{leaf_there}
+use Rattle.rmm_laws.proofs.Searches.{realm_there, rec_there}
+use Rattle.rmm_laws.proofs.Spaces.{space_cases}
+use Rattle.rmm_laws.proofs.Tags.{has_tag-other}
 use Rattle.realm_desc.specs.Updates.{IsRecUpdate}
 use Rattle.shape_laws.specs.Whole.{cell_with_tag, changed_at, cells_with_tag_change, cells_with_realm_change}
 use Rattle.machine_cells.specs.Changes.{CanGetTag, CanUpdate, TakesIndex}

@@ -3,7 +3,7 @@ use Rattle.machine_cells.proofs.Common.{◌≡◌, ◌≤◌, Entry, Granules, I
 use Rattle.rmm_spec.specs.Cell.{tables_of}
 use Rattle.rmm_spec.specs.Table.{entry_index, place_number}
 use Rattle.rmm_spec.specs.Walk.{walk}
-use Rattle.rmm_sound.proofs.Walked.{table_number-entry}
+use Rattle.rmm_laws.proofs.Walked.{table_number-entry}
 use Rattle.shape_laws.proofs.Finds.{holds-found}
 use Rattle.shape_laws.proofs.Ties.{IsTied-shaped}
 use Rattle.machine_cells.specs.Searches.{StandsAs}

@@ -10,8 +10,8 @@ use Rattle.rmm_spec.specs.TableCells.{table_in}
 use Rattle.rmm_spec.specs.Cell as spec
 use Rattle.spec_lemmas.proofs.TagLaws.{sameb-tag_number}
 use Rattle.lemmas.proofs.Tests.{both_ways}
-use Rattle.rtt_walk.specs.Plain.{cells_from, table_or_none}
-use Rattle.rtt_walk.specs.PlainLaws.{table_in-no_granule, table_in-cells_from}
+use Rattle.rtt_table.specs.Plain.{cells_from, table_or_none}
+use Rattle.rtt_table.specs.PlainLaws.{table_in-no_granule, table_in-cells_from}
 use Rattle.machine_cells.specs.Whole.{placed_at, table_numbered, tables_in, values_below}
 use Rattle.machine_cells.proofs.Kept.{granule_placed, place-granule, place_within}
 

@@ -5,7 +5,7 @@ use Rattle.std.proofs.lemmas.Bool.{false_from_ne_true, false≢true, eq-eqb}
 use Rattle.rmm_spec.specs.Lookup.{any_below, has_vmid, is_vmid_used, is_owned_by, has_rec, rec_inside}
 use Rattle.rmm_spec.specs.Cell.{Cell, Undelegated, realm_in, realms_of, recs_of}
 use Rattle.rmm_spec.specs.Shape.{Side, CpuPlace, Inside, IsWellShaped, count_below}
-use Rattle.rmm_sound.proofs.Searches.{inside_runs}
+use Rattle.rmm_laws.proofs.Searches.{inside_runs}
 use Rattle.shape_laws.proofs.Ties.{well_shaped-is_sound}
 use Rattle.spec_lemmas.proofs.Placed.{passing_below, any_below-from, runs_on-running, cell_granule, is_inside-inside}
 

@@ -9,9 +9,9 @@ use Rattle.rmm_spec.specs.Step.Terms.{is_space}
 use Rattle.rmm_spec.specs.Walk.{entry_for, linked_entry, reach, walk, full, IsWalk}
 use Rattle.rmm_spec.specs.Sound.{IsSound}
 use Rattle.spec_lemmas.proofs.WalkLaws.{table_number-suc, reach-zero, reach-le, reach-covers, reach-below}
-use Rattle.rmm_sound.proofs.Entries.{entry-link}
-use Rattle.rmm_sound.proofs.Spaces.{space_cases}
-use Rattle.rmm_sound.proofs.Walked.{table_number-entry, start_above}
+use Rattle.rmm_laws.proofs.Entries.{entry-link}
+use Rattle.rmm_laws.proofs.Spaces.{space_cases}
+use Rattle.rmm_laws.proofs.Walked.{table_number-entry, start_above}
 use Rattle.machine_cells.specs.Walks.{StartsAt}
 use Rattle.machine_cells.proofs.Walkable.{root_number}
 

@@ -12,8 +12,8 @@ use Rattle.rmm_spec.specs.Cell.{Cell, realms_of, tables_of}
 use Rattle.rmm_spec.specs.Flat.{table_granule, leaf_in_tables}
 use Rattle.rmm_spec.specs.Shape.{Side, CpuPlace, HoldsTable, IsWellShaped}
 use Rattle.spec_lemmas.proofs.WalkLaws.{table_number-suc}
-use Rattle.rmm_sound.proofs.Spaces.{space_cases}
-use Rattle.rmm_sound.proofs.Walked.{table_number-entry}
+use Rattle.rmm_laws.proofs.Spaces.{space_cases}
+use Rattle.rmm_laws.proofs.Walked.{table_number-entry}
 use Rattle.spec_lemmas.proofs.FlatTables.{IsAtSpot, found_at_spot, spot_is_found}
 use Rattle.shape_laws.proofs.Finds.{table_granule-holds, holds-found}
 use Rattle.shape_laws.proofs.Ties.{IsTied-shaped}

@@ -1,6 +1,6 @@
 -- No granule has two tables.
 use Rattle.rmm_spec.specs.TableCells.{ArePlaced}
-use Rattle.rtt_walk.specs.PlainLaws.{cells_from-are_placed}
+use Rattle.rtt_table.specs.PlainLaws.{cells_from-are_placed}
 use Rattle.machine_cells.specs.declared.cell_list.CellList.{CellList}
 use Rattle.machine_cells.specs.Whole.{table_numbered, tables_in, values_below}
 

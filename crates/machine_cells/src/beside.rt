@@ -2,7 +2,7 @@
 
 use crate::granules::Granules;
 use granule_cells::CpuPlace;
-use granule_state::Pa;
+use memory_map::Pa;
 
 impl Granules {
     ghost use Rattle.std.specs.Prelude.{◌≡◌, is_some, IfSome};

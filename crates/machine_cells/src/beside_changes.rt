@@ -9,7 +9,7 @@ ghost use Rattle.machine_cells.specs.Whole.{cells_of, places_of};
 use crate::cell_list::CellList;
 use crate::places::Places;
 use granule_cells::{CpuPlace, Side};
-use granule_state::Pa;
+use memory_map::Pa;
 use realm_desc::Rec;
 use rmm_spec::{RecChange, RecUpdate};
 

@@ -6,11 +6,10 @@ ghost use Rattle.granule_places.specs.Placed.{count_in, room_in};
 use crate::slot::Slot;
 use crate::slot_list::SlotList;
 use granule_places::GranulePlaces;
-use granule_state::{Config, GRANULE_BYTES, Pa};
+use memory_map::{Config, GRANULE_BYTES, Pa};
 use realm_desc::{Realm, Rec};
 use rmm_spec::Tag;
-use rtt_table::Table;
-use rtt_walk::Cells;
+use rtt_table::{Cells, Table};
 use std::alloc::{AllocError, Global};
 
 /// The cells of a machine's granules, each at its granule's place. A granule without a place is the host's.

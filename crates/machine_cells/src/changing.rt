@@ -8,7 +8,7 @@ use crate::granules::Granules;
 use crate::slot::Slot;
 use crate::walks::table_size;
 use granule_cells::Descriptor;
-use granule_state::Pa;
+use memory_map::Pa;
 use realm_desc::{Realm, Rec};
 use rmm_spec::{Entry, EntryChange, Place, RealmChange, RecChange, Ripas, Tag, TagChange};
 use rtt_table::Table;

@@ -4,7 +4,7 @@ use crate::cell_list::CellList;
 use crate::near::Near;
 use crate::places::Places;
 use granule_cells::Side;
-use granule_state::{Config, MOST_GRANULES, granule_at};
+use memory_map::{Config, MOST_GRANULES, granule_at};
 use realm_desc::{Realm, Rec};
 use rmm_spec::{Tag, Version};
 use rtt_table::Table;

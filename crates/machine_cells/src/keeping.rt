@@ -11,7 +11,7 @@ use crate::same::same_config;
 use crate::slot_list::SlotList;
 use granule_cells::Cell;
 use granule_places::GranulePlaces;
-use granule_state::Config;
+use memory_map::Config;
 use std::alloc::{AllocError, Global};
 use std::rc::Rc;
 

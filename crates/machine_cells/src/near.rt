@@ -2,7 +2,7 @@
 
 ghost use Rattle.std.specs.Prelude.{◌<◌};
 
-use granule_state::GRANULE_BYTES;
+use memory_map::GRANULE_BYTES;
 
 /// How many granules are kept.
 const SLOTS: usize = 256;

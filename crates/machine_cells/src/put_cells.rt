@@ -8,7 +8,7 @@ ghost use Rattle.machine_cells.specs.Held.{number_of, seen};
 
 use crate::cell_list::CellList;
 use crate::slot::Slot;
-use granule_state::GRANULE_BYTES;
+use memory_map::GRANULE_BYTES;
 use rmm_spec::{EntryChange, RealmChange, RecChange, RecUpdate, Tag, TagChange};
 
 impl CellList {

@@ -4,9 +4,9 @@ ghost use Rattle.std.specs.Prelude.{◌≡◌, ◌≤◌, IsTrue, option_copied}
 ghost use Rattle.machine_cells.specs.Searches as search;
 
 use crate::granules::Granules;
+use memory_map::{can_be_set, entry_number, entry_size, passes, table_number};
 use rmm_spec::{Entry, EntryTest, Ripas, Stretch, StretchUse};
 use rtt_table::Table;
-use table_entries::{can_be_set, entry_number, entry_size, passes, table_number};
 
 impl Granules {
     ghost use Rattle.std.specs.Prelude.{◌≡◌, ◌^◌, ◌/◌, ◌<◌, ◌≤◌, IfSome, None, option_copied};

@@ -6,11 +6,10 @@ ghost use Rattle.rmm_spec.specs.Walk as spec;
 ghost use Rattle.machine_cells.specs.Walks.{IsFirst};
 
 use crate::granules::Granules;
-use granule_state::{Ipa, Pa};
+use memory_map::{Ipa, Pa, table_number};
 use realm_desc::Realm;
 use rmm_spec::{Entry, Ripas, Walked};
 use rtt_table::{Table, index_of};
-use table_entries::table_number;
 
 /// Where a walk starts.
 #[derive(Clone, Copy)]
@@ -122,7 +121,7 @@ impl Granules {
                 entry: Entry::Table(start.root.address()),
             };
         }
-        let end = rtt_walk::walk(&self.list, start.root, Ipa::new(ipa), max);
+        let end = rtt_table::walk(&self.list, start.root, Ipa::new(ipa), max);
         Walked {
             level: end.level,
             granule: end.pa.address(),
@@ -216,7 +215,7 @@ impl Granules {
         if start.level > level {
             return None;
         }
-        let end = rtt_walk::walk(&self.list, start.root, Ipa::new(ipa), level);
+        let end = rtt_table::walk(&self.list, start.root, Ipa::new(ipa), level);
         if end.level == level {
             Some(end.pa.address())
         } else {

@@ -6,9 +6,9 @@ pub use Rattle.std.specs.Prelude.{slice_get}
 unfoldable pub use Rattle.rmm_spec.specs.{CertificateText.line_parts}
 pub use Rattle.rmm_spec.specs.HistoryText.{event_parts}
 pub use Rattle.rmm_spec.specs.Text.{lines_text}
-pub use Rattle.recorded_events.specs.Events.{Call, Commit, Moment, Return}
-pub use Rattle.recorded_events.specs.Seen.{happened_seen}
-pub use Rattle.recorded_events.specs.Table.{Happened}
-pub use Rattle.granule_names.specs.Renamed.{lasts_in, no_lasts}
+pub use Rattle.merging.specs.Events.{Call, Commit, Moment, Return}
+pub use Rattle.merging.specs.SeenEvents.{happened_seen}
+pub use Rattle.merging.specs.Table.{Happened}
+pub use Rattle.merging.specs.Renamed.{lasts_in, no_lasts}
 pub use Rattle.merging.specs.Run.{Stand, events_from, events_of, known_front, lines_from, lines_of, returns_in, stand_at, stands_after, stands_with, starts}
 pub use Rattle.merging.specs.Seen.{stand_seen, stands_in}

@@ -1,3 +1,12 @@
+pub mod GrammarLaws
+mod SlotLaws
+mod SpellingLaws
+mod TableLaws
+mod PieceLaws
+pub mod NameLaws
+pub mod RoleLaws
+pub mod WordLaws
+mod PageLaws
 pub mod Common
 mod CountLaws
 mod RunLaws

@@ -4,13 +4,13 @@ use Rattle.std.proofs.Common.{drop, if◌then◌else◌}
 use Rattle.std.specs.Prelude.{◌==◌}
 use Rattle.std.proofs.lemmas.Option.{none-some}
 use Rattle.rmm_spec.specs.declared.function_id.FunctionId.{FunctionId}
-use Rattle.recorded_events.specs.Table.{Table}
-use Rattle.granule_names.proofs.NameLaws.{names_from-append}
-use Rattle.granule_names.specs.Names.{names_from}
-use Rattle.granule_names.specs.Renamed.{lasts_with, moment_addresses, renamed_moment}
-use Rattle.granule_names.specs.declared.names.Limits.{Limits}
+use Rattle.merging.specs.Table.{Table}
+use Rattle.merging.proofs.NameLaws.{names_from-append}
+use Rattle.merging.specs.Names.{names_from}
+use Rattle.merging.specs.Renamed.{lasts_with, moment_addresses, renamed_moment}
+use Rattle.merging.specs.declared.names.Limits.{Limits}
 use Rattle.rmm_spec.specs.HistoryText.{Config}
-use Rattle.recorded_events.specs.Faults.{IsTableOf}
+use Rattle.merging.specs.Faults.{IsTableOf}
 use Rattle.merging.specs.Merge.{Merge, AreReturns}
 use Rattle.merging.specs.Texts.{naming_asked, config_asked, IsMergedText}
 use Rattle.merging.specs.declared.texts.Asked.{Asked}

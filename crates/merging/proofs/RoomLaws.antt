@@ -2,14 +2,14 @@
 use Rattle.merging.proofs.Common.{◌++◌, ◌+◌, ◌<◌, ◌∷◌, ◌≡◌, ◌≤◌, Call, Commit, Happened, List, Moment, Return, Stand, [], append-nil, append_assoc, arith, event_parts, events_from, events_of, length, line_parts, lines_text, refl, stands_after, stands_with, starts, subst, suc, sym, take, zero, ℕ}
 use Rattle.std.proofs.Common.{◌-◌, true, if◌then◌else◌, nat_lt, length-append}
 use Rattle.std.specs.Prelude.{Result, Ok, Err, OnErr, is_err}
-use Rattle.line_pieces.proofs.LineLengths.{length-line_text, width-called, width-returned, width-config, width-line}
+use Rattle.rmi_codec.proofs.LineLengths.{length-line_text, width-called, width-returned, width-config, width-line}
 use Rattle.rmm_spec.specs.HistoryText.{Config, IsConfig, config_parts}
 use Rattle.rmm_spec.specs.Text.{line_text}
 use Rattle.rmm_spec.specs.declared.event.Event.{Event}
 use Rattle.rmm_spec.specs.declared.event.Event.TheVariants as event
 use Rattle.rmm_spec.specs.declared.line.Line.TheVariants as line
-use Rattle.recorded_events.specs.Events.{IsMoment}
-use Rattle.recorded_events.specs.Table.{IsHappened}
+use Rattle.merging.specs.Events.{IsMoment}
+use Rattle.merging.specs.Table.{IsHappened}
 use Rattle.merging.specs.Merge.{AreNumbered, CanMerge, moment_text, text_of}
 use Rattle.merging.specs.Run.{IsRun}
 use Rattle.merging.proofs.CountLaws.{AreCounted, AreCounted-step, IsLine-commit, calls-lt}

@@ -9,7 +9,7 @@ use Rattle.std.proofs.lemmas.Option.{none-some, get_or_from_slice_get}
 use Rattle.std.proofs.lemmas.List.{get_or-set_same, get_or-set_other, length-set, length-map, length-take, map-set}
 use Rattle.rmm_spec.specs.Cell.{put}
 use Rattle.spec_lemmas.proofs.Texts.{AllByRecursion-append}
-use Rattle.recorded_events.specs.Table.{IsHappened, slot_at}
+use Rattle.merging.specs.Table.{IsHappened, slot_at}
 use Rattle.merging.specs.Run.{start, stand_after, CanFollow, IsRun, call_count, return_count}
 use Rattle.merging.specs.Merge.{Walked, CanMerge, IsStep, AreFew, AreReturns, IsWalkedTo}
 use Rattle.merging.specs.declared.cpu.Cpu.{Cpu}

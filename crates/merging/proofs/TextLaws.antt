@@ -10,8 +10,8 @@ use Rattle.rmm_spec.specs.declared.line.Line.{Line}
 use Rattle.spec_lemmas.proofs.Lines.{lines_text-append}
 use Rattle.spec_lemmas.proofs.Records.{IsHistory-push}
 use Rattle.spec_lemmas.proofs.Texts.{AllByRecursion-append}
-use Rattle.recorded_events.specs.Events.{IsMoment}
-use Rattle.recorded_events.specs.Table.{IsHappened}
+use Rattle.merging.specs.Events.{IsMoment}
+use Rattle.merging.specs.Table.{IsHappened}
 use Rattle.merging.specs.Merge.{Merge, CanMerge, GrowsByHistory, GrowsByCertificate}
 use Rattle.merging.specs.Run.{Phase, Idle, Called, Committed, Fits, IsRun, event_count, events_merged, lines_merged}
 use Rattle.merging.proofs.CountLaws.{open_count, AreCounted, AreCounted-step, CanFollow-call, CanFollow-return, calls-lt, IsLine-commit, length-events_of}

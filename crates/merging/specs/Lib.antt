@@ -1,3 +1,15 @@
+pub mod Events
+pub mod SeenEvents
+pub mod Word
+pub mod Table
+pub mod Slots
+pub mod Faults
+pub mod Pieces
+pub mod Roles
+pub mod Names
+pub mod Renamed
+pub mod Laws
+pub mod Map
 pub mod Run
 pub mod Seen
 pub mod Naming

@@ -5,8 +5,8 @@ use Rattle.std.specs.Io.KnownBytes.{Appends}
 use Rattle.rmm_spec.specs.CertificateText.{IsCertificateText, line_parts}
 use Rattle.rmm_spec.specs.HistoryText.{Config, History, IsHistoryText, event_parts}
 use Rattle.rmm_spec.specs.Text.{lines_text}
-use Rattle.recorded_events.specs.Events.{Moment, Call, Commit, Return}
-use Rattle.recorded_events.specs.Table.{Happened, IsHappened}
+use Rattle.merging.specs.Events.{Moment, Call, Commit, Return}
+use Rattle.merging.specs.Table.{Happened, IsHappened}
 use Rattle.merging.specs.Run.{Stand, CanFollow, IsRun, starts, stand_at, stands_with, stands_after, event_count, line_count, events_of, lines_of, events_from, lines_from, events_merged, lines_merged, returns_in, known_front}
 use Rattle.merging.specs.declared.naming.Naming.{Naming}
 

@@ -1,10 +1,10 @@
 -- Events whose granules have names, and the names that they get.
 use Rattle.std.specs.Prelude.{⊤, ◌≡◌, ℕ, ◌<◌, ◌≤◌, nat_lt, if◌then◌else◌, List, [], ◌∷◌, ◌++◌, length, Option}
 use Rattle.rmm_spec.specs.declared.function_id.FunctionId.{FunctionId}
-use Rattle.recorded_events.specs.Table.{Happened}
-use Rattle.granule_names.specs.Names.{names_from}
-use Rattle.granule_names.specs.Renamed.{lasts_with, no_lasts, moment_addresses, renamed_slot}
-use Rattle.granule_names.specs.declared.names.Limits.{Limits}
+use Rattle.merging.specs.Table.{Happened}
+use Rattle.merging.specs.Names.{names_from}
+use Rattle.merging.specs.Renamed.{lasts_with, no_lasts, moment_addresses, renamed_slot}
+use Rattle.merging.specs.declared.names.Limits.{Limits}
 use Rattle.merging.specs.declared.naming.Naming.{Naming}
 use Rattle.merging.specs.declared.naming.Naming.TheVariants.{AsRecorded, ByNames}
 use Rattle.merging.specs.declared.naming.NamingFault.{NamingFault}

@@ -1,7 +1,7 @@
 -- Why events are no run.
 use Rattle.std.specs.Prelude.{⊤, ◌≡◌, ◌≢◌, ℕ, ◌+◌, ◌<◌, ◌≤◌, List, ◌∷◌, ◌++◌, length, Option}
-use Rattle.recorded_events.specs.Events.{Moment, Call, Commit, Return}
-use Rattle.recorded_events.specs.Table.{Happened}
+use Rattle.merging.specs.Events.{Moment, Call, Commit, Return}
+use Rattle.merging.specs.Table.{Happened}
 use Rattle.merging.specs.Run.{Phase, Idle, Called, Committed, Stand, starts, stands_after, IsRun, events_from, lines_from, returns_in, known_front}
 use Rattle.merging.specs.declared.fault.MergeFault.{MergeFault}
 use Rattle.merging.specs.declared.fault.MergeFault.TheVariants.{Hole, Refused}

@@ -6,8 +6,8 @@ use Rattle.rmm_spec.specs.declared.line.Line.{Line}
 use Rattle.rmm_spec.specs.declared.line.Line.TheVariants as line
 use Rattle.rmm_spec.specs.declared.reply.Reply.{Reply}
 use Rattle.rmm_spec.specs.Cell.{put}
-use Rattle.recorded_events.specs.Events.{Moment, Call, Commit, Return}
-use Rattle.recorded_events.specs.Table.{Happened}
+use Rattle.merging.specs.Events.{Moment, Call, Commit, Return}
+use Rattle.merging.specs.Table.{Happened}
 
 -- where a CPU is between two commands, or with one
 pub data Phase : Type 0 where

@@ -1,9 +1,9 @@
 -- What was taken of a source, and why no texts were made of it.
 use Rattle.std.specs.Prelude.{⊤, ℕ, List, ◌++◌, Option, Some, None, Result, Ok, Err}
-use Rattle.recorded_events.specs.Faults as reading
-use Rattle.recorded_events.specs.Pieces.{HasRead}
-use Rattle.recorded_events.specs.declared.fault.EventsFault.{EventsFault}
-use Rattle.recorded_events.specs.declared.reader.Reader.{Reader}
+use Rattle.merging.specs.Faults as reading
+use Rattle.merging.specs.Pieces.{HasRead}
+use Rattle.merging.specs.declared.event_fault.EventsFault.{EventsFault}
+use Rattle.merging.specs.declared.reader.Reader.{Reader}
 use Rattle.merging.specs.Texts.{IsFaultOfText}
 use Rattle.merging.specs.declared.source.SourceFault.{SourceFault}
 use Rattle.merging.specs.declared.source.SourceFault.TheVariants.{Events, Device, NoMemory}

@@ -1,10 +1,10 @@
 -- What is made of a recording's text.
 use Rattle.std.specs.Prelude.{◌≡◌, ℕ, ◌<◌, nat_lt, if◌then◌else◌, List, [], length, Option, Some, None, unwrap_or}
 use Rattle.rmm_spec.specs.HistoryText.{Config, IsConfig, granule_limit}
-use Rattle.recorded_events.specs.Faults.{IsTableOf}
-use Rattle.recorded_events.specs.Faults as reading
-use Rattle.recorded_events.specs.Table.{Happened, Table}
-use Rattle.granule_names.specs.Map.{map_from}
+use Rattle.merging.specs.Faults.{IsTableOf}
+use Rattle.merging.specs.Faults as reading
+use Rattle.merging.specs.Table.{Happened, Table}
+use Rattle.merging.specs.Map.{map_from}
 use Rattle.merging.specs.Naming.{names_of, events_named, own_granules, HasTooMany}
 use Rattle.merging.specs.Merge.{Merge}
 use Rattle.merging.specs.Refusals.{IsFaultOf}

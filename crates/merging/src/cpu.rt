@@ -1,13 +1,13 @@
 //! A CPU between two moments.
 
 ghost use Rattle.std.specs.Prelude.{◌≡◌, ◌+◌, ◌<◌, ◌^◌, IfSome, IfNone};
-ghost use Rattle.recorded_events.specs.Seen.{happened_seen, moment_seen, HasFewWords};
+ghost use Rattle.merging.specs.SeenEvents.{happened_seen, moment_seen, HasFewWords};
 ghost use Rattle.merging.specs.Refusals.{IsMisfit};
 ghost use Rattle.merging.specs.Run.{Fits, stand_after, start};
 ghost use Rattle.merging.specs.Seen.{phase_seen, stand_seen};
 
 use crate::fault::Refusal;
-use recorded_events::{HappenedRef, MomentRef};
+use crate::{HappenedRef, MomentRef};
 use rmm_spec::Reply;
 
 /// Where a CPU is with its last command.

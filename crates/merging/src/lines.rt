@@ -5,7 +5,7 @@ ghost use Rattle.rmi_codec.specs.Head.{head_text};
 ghost use Rattle.rmi_codec.specs.Spaced.{spaced};
 ghost use Rattle.rmi_view.specs.Seen as replied;
 ghost use Rattle.rmi_view.specs.Seen.{command_seen, reply_seen};
-ghost use Rattle.recorded_events.specs.Seen.{happened_seen, moment_seen, HasFewWords};
+ghost use Rattle.merging.specs.SeenEvents.{happened_seen, moment_seen, HasFewWords};
 ghost use Rattle.rmm_spec.specs.CertificateText.{line_parts};
 ghost use Rattle.rmm_spec.specs.CommandText.{reply_text};
 ghost use Rattle.rmm_spec.specs.HistoryText.{event_parts, config_parts, mark};
@@ -16,8 +16,8 @@ ghost use Rattle.merging.specs.Merge.{moment_text};
 ghost use Rattle.merging.specs.Seen.{stand_seen};
 
 use crate::cpu::Cpu;
+use crate::{HappenedRef, MomentRef};
 use history::Config;
-use recorded_events::{HappenedRef, MomentRef};
 use rmi_codec::{push_command, push_head, push_numbers, push_reply};
 use rmi_view::{CommandRef, ReplyRef};
 use rmm_spec::Version;

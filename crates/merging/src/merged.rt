@@ -10,9 +10,8 @@ use crate::fault::MergeFault;
 use crate::naming::Naming;
 use crate::run::Run;
 use crate::walk::{Walk, idle_cpus, step_told};
-use granule_names::Lasts;
+use crate::{EventTable, HappenedRef, Lasts, MomentRef};
 use history::Config;
-use recorded_events::{EventTable, HappenedRef, MomentRef};
 
 /// Which events are merged.
 #[derive(Clone, Copy)]
@@ -114,7 +113,7 @@ fn front_of(table: &EventTable) -> Front
 }
 
 ghost use Rattle.std.specs.Prelude.{◌+◌, ◌^◌, slice_index, slice_set};
-ghost use Rattle.recorded_events.specs.Seen.{happened_seen};
+ghost use Rattle.merging.specs.SeenEvents.{happened_seen};
 ghost use Rattle.merging.specs.Run.{return_count};
 
 // Counts the moment, where it is a return.

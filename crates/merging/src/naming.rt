@@ -1,16 +1,17 @@
 //! Names for the granules of a recording.
 
 ghost use Rattle.std.specs.Prelude.{◌≡◌, ◌<◌, ◌≤◌, length, IfOk, IfErr, OnOk, OnErr};
-ghost use Rattle.recorded_events.specs.Seen.{happened_seen, moment_seen, HasFewWords};
-ghost use Rattle.recorded_events.specs.Table.{IsHappened};
-ghost use Rattle.granule_names.specs.Names.{names_from};
-ghost use Rattle.granule_names.specs.Renamed.{lasts_in, moment_addresses};
+ghost use Rattle.merging.specs.SeenEvents.{happened_seen, moment_seen, HasFewWords};
+ghost use Rattle.merging.specs.Table.{IsHappened};
+ghost use Rattle.merging.specs.Names.{names_from};
+ghost use Rattle.merging.specs.Renamed.{lasts_in, moment_addresses};
 ghost use Rattle.merging.specs.Naming.{names_of, named_slot, own_granules, IsUnnamed, IsUnnamedNext};
 ghost use Rattle.merging.specs.Run.{known_front};
 ghost use Rattle.merging.specs.declared.naming.Naming.TheVariants.{ByNames};
 
-use granule_names::{Lasts, Limits, MOST_NAMES, NameFault, Names, map_text, renamed_slot};
-use recorded_events::{EventTable, HappenedRef};
+use crate::{
+    EventTable, HappenedRef, Lasts, Limits, MOST_NAMES, NameFault, Names, map_text, renamed_slot,
+};
 use std::alloc::{AllocError, Global};
 
 /// How addresses of granules are told.

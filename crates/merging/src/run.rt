@@ -3,10 +3,10 @@
 ghost use Rattle.std.specs.Prelude.{◌≡◌, length, IfOk};
 ghost use Rattle.merging.specs.Texts.{map_of};
 
+use crate::EventTable;
 use crate::merged::Front;
 use crate::naming::{Naming, naming_map};
 use history::Config;
-use recorded_events::EventTable;
 use std::alloc::{AllocError, Global};
 use std::marker::Model;
 

@@ -2,15 +2,15 @@
 
 ghost use Rattle.std.specs.Prelude.{◌≡◌, ℕ, ◌+◌, List, ◌++◌, Err, IfOk, IfErr};
 ghost use Rattle.devices.specs.Source.{GivesWhole, IsRefused};
-ghost use Rattle.recorded_events.specs.Faults.{IsTableOf};
-ghost use Rattle.recorded_events.specs.Faults as reading;
+ghost use Rattle.merging.specs.Faults.{IsTableOf};
+ghost use Rattle.merging.specs.Faults as reading;
 ghost use Rattle.merging.specs.Source.{IsFaultOfSource, IsTakenAs, IsUnread, source_failures};
 ghost use Rattle.merging.specs.Texts.{IsMergedText};
 
 use crate::run::Run;
 use crate::texts::{Asked, TextFault, merge_table};
+use crate::{EventTable, EventsFault, Reader};
 use devices::{ReadError, Source, Taker, read_whole};
-use recorded_events::{EventTable, EventsFault, Reader};
 use std::alloc::{AllocError, Global};
 
 /// Why no run was made of what a source gives.

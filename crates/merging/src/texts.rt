@@ -2,7 +2,7 @@
 
 ghost use Rattle.std.specs.Prelude.{◌≡◌, ◌≤◌, ℕ, List, length, IfOk, IfErr, OnOk};
 ghost use Rattle.std.specs.Option.{SomeIff};
-ghost use Rattle.recorded_events.specs.Faults.{IsTableOf};
+ghost use Rattle.merging.specs.Faults.{IsTableOf};
 ghost use Rattle.merging.specs.Refusals.{IsFaultOf};
 ghost use Rattle.merging.specs.Run.{starts, known_front, IsRun};
 ghost use Rattle.merging.specs.Naming.{events_named};
@@ -13,10 +13,9 @@ use crate::fault::MergeFault;
 use crate::merged::{Extent, merge};
 use crate::naming::{Naming, NamingFault, names_known};
 use crate::run::Run;
-use granule_names::{Limits, MOST_NAMES};
-use granule_state::granule_limit;
+use crate::{EventTable, EventsFault, Limits, MOST_NAMES};
 use history::Config;
-use recorded_events::{EventTable, EventsFault};
+use memory_map::granule_limit;
 use rmm_spec::Version;
 use std::alloc::Global;
 use thiserror::Error;

@@ -1,9 +1,9 @@
 //! A walk over what happened, moment after moment.
 
 ghost use Rattle.std.specs.Prelude.{◌≡◌, ℕ, ◌+◌, ◌<◌, ◌≤◌, ◌↔◌, length, slice_index_or, IsTrue, IfErr, OnOk};
-ghost use Rattle.granule_names.specs.Renamed.{lasts_in};
-ghost use Rattle.recorded_events.specs.Seen.{happened_seen, moment_seen, HasFewWords};
-ghost use Rattle.recorded_events.specs.Table.{IsHappened};
+ghost use Rattle.merging.specs.Renamed.{lasts_in};
+ghost use Rattle.merging.specs.SeenEvents.{happened_seen, moment_seen, HasFewWords};
+ghost use Rattle.merging.specs.Table.{IsHappened};
 ghost use Rattle.merging.specs.Merge.{AreFew, IsSmall, IsStep};
 ghost use Rattle.merging.specs.Naming.{named_slot};
 ghost use Rattle.merging.specs.Refusals.{IsFull, Refuses};
@@ -14,9 +14,8 @@ ghost use Rattle.merging.specs.declared.cpu.Cpu.{Cpu};
 use crate::cpu::{Cpu, misfit};
 use crate::fault::Refusal;
 use crate::naming::{Naming, named};
-use granule_names::{Lasts, MOST_NAMES};
+use crate::{HappenedRef, Lasts, MOST_NAMES, MomentRef};
 use history::MOST_LINES;
-use recorded_events::{HappenedRef, MomentRef};
 
 /// Where each CPU stands, and how many events of a history and lines of a certificate there were.
 #[derive(Drop)]

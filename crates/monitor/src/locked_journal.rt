@@ -8,7 +8,7 @@ use crate::ordered::HeldCommand;
 use commit_tickets::{CommitFault, CpuToken, Draft, JournalAccess, Site};
 use event_queue::CpuPass;
 use granule_lock::Hold;
-use granule_state::Config;
+use memory_map::Config;
 use rmm_spec::Command;
 use std::alloc::Global;
 use std::sync::Wait;

@@ -3,7 +3,7 @@
 ghost use Rattle.std.specs.Prelude.{◌≡◌, ℕ, ◌<◌, ◌≤◌, [], length, slice_get, Some, IfOk};
 
 use event_queue::{CpuPass, OrderPass, Recorder, ScribePass};
-use granule_state::Config;
+use memory_map::Config;
 use std::alloc::{AllocError, Global};
 use std::marker::Model;
 

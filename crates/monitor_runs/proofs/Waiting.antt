@@ -11,7 +11,7 @@ use Rattle.rmm_spec.specs.declared.command.Command.{Command}
 use Rattle.rmm_spec.specs.CommandText.{IsCommand}
 use Rattle.rmm_spec.specs.HistoryText.{Config}
 use Rattle.rmm_spec.specs.Scenario.{Scenario, IsScenario}
-use Rattle.scenario.specs.Seen.{seen_programs}
+use Rattle.scenario.specs.SeenPrograms.{seen_programs}
 use Rattle.commit_tickets.specs.View.{TokenView, before_commits, first_tokens}
 use Rattle.event_queue.specs.View.{CpuView, before_calls, count_recorded}
 use Rattle.monitor.specs.Cpus.{AreCpus}

@@ -12,7 +12,7 @@ use Rattle.rmm_spec.specs.Run.{JournalEntry}
 use Rattle.rmm_spec.specs.Scenario.{Scenario}
 use Rattle.commit_tickets.specs.View.{TokenView}
 use Rattle.monitor.specs.Closed.{Disagree, IsJournal}
-use Rattle.run_texts.specs.RunText.{run_text}
+use Rattle.world_runs.specs.RunText.{run_text}
 use Rattle.monitor_runs.specs.Worked.{HasBegun}
 
 -- The history is of the scenario's machine, and has of each CPU the first calls of its program, up to the end, to a commit that was

@@ -10,4 +10,4 @@ mod run;
 mod working;
 
 pub use run::threads_text;
-pub use run_texts::{RunFault, Verdict};
+pub use world_runs::{RunFault, Verdict};

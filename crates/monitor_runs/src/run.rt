@@ -2,21 +2,21 @@
 
 ghost use Rattle.std.specs.Prelude.{◌≡◌, ◌++◌, ℕ, List, IfOk, IfErr, OnErr};
 ghost use Rattle.rmm_spec.specs.Scenario.{IsScenario};
-ghost use Rattle.run_texts.specs.declared.fault.RunFault.TheVariants.{Disagrees};
+ghost use Rattle.world_runs.specs.declared.fault.RunFault.TheVariants.{Disagrees};
 ghost use Rattle.monitor_runs.specs.ThreadRun.{IsThreadRun, IsPrinted, MayDisagree};
 
 use crate::working::{Ended, Waiting, work_all};
 use certificate::Certificate;
-use granule_state::Config;
 use history::History;
+use memory_map::Config;
 use monitor::{CloseFault, Monitor, Queue, Site};
-use run_texts::{RunFault, Verdict, print_run};
 use scenario::{Scenario, copied_programs};
 use std::alloc::Global;
 use std::marker::Brand;
 use std::sync::Wait;
 use std::sync::ledger::Blank;
 use std::thread::Threads;
+use world_runs::{RunFault, Verdict, print_run};
 
 /// Runs a monitor: each CPU of the scenario executes its program on a thread of its own, while this thread drains. Appends the
 /// history, an empty line, the journal as a certificate, an empty line, and the line of the verdict on the two. Where the run

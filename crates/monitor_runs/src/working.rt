@@ -2,7 +2,7 @@
 
 ghost use Rattle.std.specs.Prelude.{◌≡◌, ◌≢◌, ◌+◌, ◌<◌, ◌++◌, ◌∷◌, [], All, length, map, IfOk, MatchResult};
 ghost use Rattle.rmm_spec.specs.Scenario.{IsScenario};
-ghost use Rattle.run_texts.specs.declared.fault.RunFault.TheVariants.{Disagrees};
+ghost use Rattle.world_runs.specs.declared.fault.RunFault.TheVariants.{Disagrees};
 ghost use Rattle.event_queue.specs.View.{CanDrain};
 ghost use Rattle.monitor_runs.specs.Worked.{CanWork, HasWorked, AreWaiting, IsLast, HaveWorked, HasEnded, promised};
 
@@ -10,7 +10,6 @@ use crate::cpu::Cpu;
 use history::History;
 use monitor::{CpuPass, CpuToken, Monitor, ScribePass, Site};
 use rmm_spec::Command;
-use run_texts::RunFault;
 use scenario::Scenario;
 use std::alloc::{AllocError, Global};
 use std::snapshot::Snapshot;
@@ -18,6 +17,7 @@ use std::sync::Wait;
 use std::sync::atomic::{AtomicU64, Ordering};
 use std::thread;
 use std::thread::{Promise, PromisedHandle, Threads};
+use world_runs::RunFault;
 
 /// The CPUs before their first commands: their tokens, their passes and their programs.
 #[derive(Drop)]

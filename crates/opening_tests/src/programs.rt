@@ -5,7 +5,7 @@ ghost use Rattle.std.specs.List.{AllByRecursion};
 ghost use Rattle.rmm_spec.specs.CommandText.{IsCommand};
 ghost use Rattle.world.specs.Opening.{CanOpen};
 
-use granule_state::Config;
+use memory_map::Config;
 use rmi_codec::has_text;
 use rmm_spec::Command;
 

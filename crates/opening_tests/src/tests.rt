@@ -1,7 +1,7 @@
 //! How many commands there can be.
 
 use crate::can_open;
-use granule_state::Config;
+use memory_map::Config;
 use rmi_codec::read_command;
 use rmm_spec::Command;
 use scenario::is_scenario;

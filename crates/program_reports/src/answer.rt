@@ -6,8 +6,8 @@ ghost use Rattle.program_reports.specs.Json.{AppendsJson};
 use crate::call::call_named;
 use crate::explanation::{append_object, begun};
 use crate::reply::reply_text;
+use crate::{List, Object};
 use certificate::{Certificate, LineRef};
-use json_objects::{List, Object};
 use std::alloc::{AllocError, Global};
 
 /// What was found.

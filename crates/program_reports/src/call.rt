@@ -2,8 +2,8 @@
 
 ghost use Rattle.std.specs.Prelude.{◌≡◌, IfOk, OnOk};
 
+use crate::Object;
 use crate::reply::reply_text;
-use json_objects::Object;
 use rmm_spec::{Command, FunctionId};
 use std::alloc::{AllocError, Global};
 use told::{EarlierStep, NamedCall};

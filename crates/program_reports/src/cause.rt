@@ -2,11 +2,11 @@
 
 ghost use Rattle.std.specs.Prelude.{◌≡◌};
 
+use crate::Object;
 use crate::call::{call_named, call_of, put_hex, step_naming, step_of};
 use crate::fact::fact_of;
 use crate::reply::{reply_text, specified_text};
 use crate::since::{late_of, since_of};
-use json_objects::Object;
 use std::alloc::{AllocError, Global};
 use told::{Cause, Deciding, RefusedLine, WrongWord, condition_name, condition_of, reply_word};
 

@@ -6,8 +6,8 @@ ghost use Rattle.program_reports.specs.Json.{AppendsJson};
 use crate::call::call_of;
 use crate::cause::put_cause;
 use crate::lines::Paths;
-use json_objects::{List, Object};
-use release::VERSION;
+use crate::{List, Object};
+use file_programs::VERSION;
 use std::alloc::{AllocError, Global};
 use told::{BadLine, Explanation, UnfinishedCall};
 

@@ -2,8 +2,8 @@
 
 ghost use Rattle.std.specs.Prelude.{◌≡◌, IfOk};
 
+use crate::Object;
 use crate::call::put_hex;
-use json_objects::Object;
 use realm_desc::RipasRequest;
 use rmm_spec::FunctionId;
 use std::alloc::{AllocError, Global};

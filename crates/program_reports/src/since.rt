@@ -2,9 +2,9 @@
 
 ghost use Rattle.std.specs.Prelude.{◌≡◌, IfOk};
 
+use crate::Object;
 use crate::call::{step_naming, step_of};
 use crate::fact::fact_of;
-use json_objects::Object;
 use std::alloc::{AllocError, Global};
 use told::{LateCommit, Since};
 

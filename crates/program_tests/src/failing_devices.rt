@@ -6,7 +6,7 @@ ghost use Rattle.devices.specs.Sink.{prepared_room};
 use crate::runtime::TestFile;
 use checker::Verdict;
 use devices::{FileSource, WriteError};
-use scenarios::{JudgeFault, Sink, judge};
+use run_commands::{JudgeFault, Sink, judge};
 use std::alloc::{AllocError, Global};
 use std::io::ErrorKind;
 

@@ -1,7 +1,7 @@
 //! The whole program on a runtime of the test's: words, files, devices.
 
 use crate::runtime::{TestFile, TestRuntime};
-use scenarios::run;
+use run_commands::run;
 use std::alloc::Global;
 use std::cell::RefCell;
 use std::io::ErrorKind;

@@ -1,6 +1,6 @@
 //! A text that would be markup, and markup beside it.
 
-use markup::{Markup, Page};
+use explain_page::{Markup, Page};
 use std::process::Abort;
 use std::test::Fail;
 

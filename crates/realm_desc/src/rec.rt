@@ -6,7 +6,7 @@ ghost use Rattle.realm_desc.specs.View.{pending_of};
 
 use crate::pending_exit::PendingExit;
 use crate::ripas_request::RipasRequest;
-use granule_state::Pa;
+use memory_map::Pa;
 use std::marker::Model;
 
 /// A REC, as its granule and its two auxiliary granules keep it (DEN0137, REC).

@@ -8,10 +8,9 @@ ghost use Rattle.rmm_spec.specs.Walk.{walk, entry_ripas, is_protected};
 ghost use Rattle.rec_steps.specs.Answers.{answer_at, IsStep};
 
 use crate::step::RecStep;
-use granule_state::is_page;
+use memory_map::{is_page, ripas_number};
 use realm_desc::Realm;
 use rmm_spec::{Condition, RecUpdate, Refusal, Ripas};
-use table_entries::ripas_number;
 
 #[tactic(auto, unfolding(rmm_spec::specs::Step::RealmCall::ipa_state_set, rmm_spec::specs::Step::Terms::words_of, rmm_spec::specs::Step::Terms::named))]
 pub(crate) fn ipa_state_set(

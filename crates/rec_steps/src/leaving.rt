@@ -15,9 +15,9 @@ ghost use Rattle.rec_steps.specs.Answers.{answer_at, IsStep};
 use crate::reply::reply_words;
 use crate::step::RecStep;
 use arrayvec::ArrayVec;
+use memory_map::ripas_number;
 use realm_desc::{PendingExit, Rec};
 use rmm_spec::{Condition, RealmUpdate, RecUpdate, Refusal, Reply};
-use table_entries::ripas_number;
 
 #[tactic(auto, unfolding(rmm_spec::specs::Step::RealmCall::host_call, rmm_spec::specs::Step::Terms::words_of, rmm_spec::specs::Step::Terms::named))]
 pub(crate) fn host_call(imm: u64) -> Result<RecStep, Refusal>

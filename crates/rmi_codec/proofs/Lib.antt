@@ -9,3 +9,5 @@ pub mod PrefixLaws
 pub mod WriteLaws
 mod FrontLaws
 mod FunctionLaws
+pub mod LineLengths
+pub mod Pieces

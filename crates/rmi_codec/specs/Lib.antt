@@ -4,3 +4,4 @@ pub mod Limited
 pub mod Beginning
 pub mod Head
 pub mod FunctionText
+pub mod Newlines

@@ -13,10 +13,10 @@ use Rattle.rmm_spec.specs.Step.{CarriesOut}
 use Rattle.rmm_spec.specs.Step.Front.{with_front}
 use Rattle.rmm_spec.specs.Step.Terms.{named, is_space, words_of}
 use Rattle.spec_lemmas.proofs.TagLaws.{with_tag-restored}
-use Rattle.rmm_sound.proofs.Cases.{spot_itself}
+use Rattle.rmm_laws.proofs.Cases.{spot_itself}
 use Rattle.rmm_laws.specs.Commands.{command}
 use Rattle.rmm_laws.proofs.Facts.{root_covers}
-use Rattle.rmm_sound.proofs.ByRows.{AllHold}
+use Rattle.rmm_laws.proofs.ByRows.{AllHold}
 use Rattle.spec_lemmas.proofs.Behind.{behind}
 use Rattle.rmm_laws.proofs.RowLaws.{Leads, front-rest, outcome-leads}
 

@@ -18,8 +18,8 @@ use Rattle.rmm_spec.specs.Ownership.{RecParts}
 use Rattle.rmm_spec.specs.State.{RecRecord}
 use Rattle.rmm_spec.specs.Update.{with_tag, with_leaf, with_ripas, entry_with_ripas, is_same_entry}
 use Rattle.rmm_spec.specs.Walk.{is_table, is_assigned, entry_at}
-use Rattle.rmm_sound.proofs.Cases.{spot_itself}
-use Rattle.rmm_sound.proofs.Searches.{realm_there, rec_there}
+use Rattle.rmm_laws.proofs.Cases.{spot_itself}
+use Rattle.rmm_laws.proofs.Searches.{realm_there, rec_there}
 use Rattle.rmm_laws.proofs.ChangeWords.{of_page, page_opened, page_closed, opened, closed}
 use Rattle.rmm_laws.proofs.Claims.{IsAmong}
 use Rattle.rmm_laws.proofs.Facts.{waits_not, entry_at-table, page-last, page-entry, entry-page, page-in_use, root_covers, unlinked-root}

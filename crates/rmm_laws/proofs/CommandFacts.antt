@@ -18,7 +18,7 @@ use Rattle.rmm_spec.specs.Walk.{entry_size, entry_for, is_multiple, reach, is_un
 use Rattle.rmm_spec.specs.Step.Ripas.{can_be_set, IsReached}
 use Rattle.spec_lemmas.proofs.WalkLaws.{reach-le, walk_ends_unlinked, first_reached}
 use Rattle.rmm_laws.proofs.ChangeWords.{is_within, opened, closed, root_of, rec_of}
-use Rattle.rmm_sound.proofs.ByRows.{AllHold}
+use Rattle.rmm_laws.proofs.ByRows.{AllHold}
 use Rattle.spec_lemmas.proofs.Behind.{behind}
 use Rattle.rmm_laws.proofs.RowLaws.{Leads, front-rest, outcome-leads}
 

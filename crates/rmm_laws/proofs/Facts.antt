@@ -9,7 +9,7 @@ use Rattle.rmm_spec.specs.declared.tag.Ripas.{Ripas}
 use Rattle.rmm_spec.specs.declared.tag.Ripas.TheVariants.{Empty}
 use Rattle.rmm_spec.specs.Walk.{table_size, full, is_table, linked_entry, entry_at, is_live, is_in_use, has_link, has_entry}
 use Rattle.rmm_spec.specs.Step.Terms.{is_space}
-use Rattle.rmm_sound.proofs.Searches.{any_below-false}
+use Rattle.rmm_laws.proofs.Searches.{any_below-false}
 use Rattle.rmm_laws.proofs.Tests.{some_value, there}
 
 -- ---- records

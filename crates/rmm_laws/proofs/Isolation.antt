@@ -9,10 +9,10 @@ use Rattle.rmm_spec.specs.HistoryText.{Config, History}
 use Rattle.rmm_spec.specs.Judgement.{IsIsolatedThroughout}
 use Rattle.rmm_spec.specs.Ownership.{latest_root, latest_rec, rec_claims, claims, claims_closed, claims_after, claims_from, without_claims, IsIsolated}
 use Rattle.rmm_spec.specs.Step.{CarriesOut}
-use Rattle.rmm_sound.proofs.Changes.{changed_sound}
-use Rattle.rmm_sound.proofs.Opening.{opening_sound}
-use Rattle.rmm_sound.proofs.Runs.{done_applies, reached_applies}
-use Rattle.rmm_sound.proofs.Searches.{realm_there, rec_there}
+use Rattle.rmm_laws.proofs.Changes.{changed_sound}
+use Rattle.rmm_laws.proofs.Opening.{opening_sound}
+use Rattle.rmm_laws.proofs.Runs.{done_applies, reached_applies}
+use Rattle.rmm_laws.proofs.Searches.{realm_there, rec_there}
 use Rattle.rmm_laws.proofs.ChangeAccounts.{roots_at, recs_at, change-accounts}
 use Rattle.rmm_laws.proofs.ChangeWords.{opened, closed}
 use Rattle.rmm_laws.proofs.CommandFacts.{Tells, OutcomeTells, outcome-tells}

@@ -11,7 +11,7 @@ use Rattle.rmm_spec.specs.declared.tag.Tag.TheVariants.{Undelegated, Rec, RecAux
 use Rattle.rmm_spec.specs.Change.{realm_updated, rec_updated, with_realm_change, with_rec_change, with_tag_change}
 use Rattle.rmm_spec.specs.State.{RecRecord}
 use Rattle.rmm_spec.specs.Ownership.{IsTied}
-use Rattle.rmm_sound.proofs.Searches.{rec_at-is}
+use Rattle.rmm_laws.proofs.Searches.{rec_at-is}
 use Rattle.rmm_laws.proofs.Claims.{IsAmong}
 use Rattle.rmm_laws.proofs.Owners.{IsKept}
 use Rattle.rmm_laws.proofs.Tests.{kept_unless}

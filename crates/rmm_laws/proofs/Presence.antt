@@ -8,8 +8,8 @@ use Rattle.rmm_spec.specs.Ownership.{IsTied}
 use Rattle.rmm_spec.specs.Sound.{has_aux}
 use Rattle.rmm_spec.specs.Walk.{full, reach, table_number}
 use Rattle.spec_lemmas.proofs.WalkLaws.{reach-is_walk}
-use Rattle.rmm_sound.proofs.Entries.{value_there, leaf_fits, fitting_leaf, entry-leaf, entry-link}
-use Rattle.rmm_sound.proofs.Searches.{rec_there, inside_runs}
+use Rattle.rmm_laws.proofs.Entries.{value_there, leaf_fits, fitting_leaf, entry-leaf, entry-link}
+use Rattle.rmm_laws.proofs.Searches.{rec_there, inside_runs}
 use Rattle.rmm_laws.specs.Presence.{HasEntry, HasWhatRowsRead}
 use Rattle.rmm_laws.proofs.Accepts.{sound-root}
 use Rattle.rmm_laws.proofs.Isolation.{run-owned}

@@ -12,8 +12,8 @@ use Rattle.rmm_spec.specs.Applicable.{CanChangeRealm, CanChangeRec, CanApply}
 use Rattle.rmm_spec.specs.Change.{new_realm, new_rec, realm_updated, rec_updated, with_tag_change, with_realm_change, with_rec_change, with_entry_change}
 use Rattle.rmm_spec.specs.Ownership.{RecParts}
 use Rattle.rmm_spec.specs.State.{RecRecord}
-use Rattle.rmm_sound.proofs.Records.{updated_like}
-use Rattle.rmm_sound.proofs.Searches.{realm_at-is, realm_there, rec_at-is, rec_there}
+use Rattle.rmm_laws.proofs.Records.{updated_like}
+use Rattle.rmm_laws.proofs.Searches.{realm_at-is, realm_there, rec_at-is, rec_there}
 use Rattle.rmm_laws.proofs.ChangeWords.{root_of, rec_of}
 use Rattle.rmm_laws.proofs.Keeps.{with_records, rec_updated-like, tag_change-rest, realm_change-rest, rec_change-rest}
 use Rattle.rmm_laws.proofs.Tests.{chosen}

@@ -9,7 +9,7 @@ use Rattle.rmm_spec.specs.Lookup.{is_inside}
 use Rattle.rmm_spec.specs.Step.{is_placed, misplacement, answer_of}
 use Rattle.rmm_spec.specs.Step.Front.{with_front}
 use Rattle.rmm_spec.specs.Step.Terms.{named, words_of}
-use Rattle.rmm_sound.proofs.ByRows.{AllHold, decided-accepted}
+use Rattle.rmm_laws.proofs.ByRows.{AllHold, decided-accepted}
 use Rattle.spec_lemmas.proofs.Behind.{behind}
 
 -- no refusal accepts

@@ -5,5 +5,5 @@
 use std::process::ExitCode;
 
 fn main(rt: HostRuntime) -> ExitCode {
-    ExitCode::from(scenarios::run(&rt, &rt))
+    ExitCode::from(run_commands::run(&rt, &rt))
 }

@@ -5,11 +5,10 @@
 mod text;
 
 use crate::text::text_of;
-use draw_words::{Asked, Request, Shared, Unasked, request_given};
 use drawn_scenarios::{Plan, Sharing};
-use file_programs::{Fault, end, print};
-use granule_state::Config;
-use release::VERSION;
+use file_arguments::rmmdraw::{Asked, Request, Shared, Unasked, request_given};
+use file_programs::{Fault, VERSION, end, print};
+use memory_map::Config;
 use std::alloc::Global;
 use std::io::ErrorKind;
 use std::process::ExitCode;

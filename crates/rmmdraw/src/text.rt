@@ -1,11 +1,10 @@
 //! What is printed.
 
 ghost use Rattle.std.specs.Prelude.{◌≡◌, IfOk, false, true};
-ghost use Rattle.scenario_text.specs.ScenarioText.{IsScenarioText};
-ghost use Rattle.scenario_writer.specs.CallLines.{calls_from};
+ghost use Rattle.scenario.specs.ScenarioText.{IsScenarioText};
+ghost use Rattle.scenario.specs.CallLines.{calls_from};
 
-use scenario::Scenario;
-use scenario_writer::{write_calls, write_scenario};
+use scenario::{Scenario, write_calls, write_scenario};
 use std::alloc::{AllocError, Global};
 
 /// A file that states the scenario, or lines of its calls.

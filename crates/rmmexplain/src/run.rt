@@ -3,8 +3,8 @@
 use crate::folds::{folds_of, sections_of};
 use crate::page_file::check_page_file;
 use crate::texts::{Paths, Texts, append_end, texts_at};
+use check_command::ends_with;
 use checker::verdict_text;
-use checking::ends_with;
 use explain::{ExplainedRun, explain_run, report};
 use explain_page::{Extent, append_page};
 use file_arguments::Output;

@@ -1,8 +1,6 @@
 //! The two texts of a run, from their files.
 
-use file_programs::{Fault, bytes_of};
-use history_files::{HistoryRead, history_at, judged_name};
-use release::{Judged, append_judged};
+use file_programs::{Fault, HistoryRead, Judged, append_judged, bytes_of, history_at, judged_name};
 use std::alloc::{AllocError, Global};
 use std::rt::Files;
 

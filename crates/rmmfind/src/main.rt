@@ -6,14 +6,15 @@
 mod explaining;
 
 use crate::explaining::append_reached;
+use check_command::ends_with;
 use checker::{Verdict, verdict_text};
-use checking::ends_with;
 use file_arguments::{Search, search_asked};
-use file_programs::{Fault, arguments_of, end, print, shown};
+use file_programs::{
+    Fault, HistoryRead, Judged, append_judged, arguments_of, end, history_at, judged_name, print,
+    shown, version_text,
+};
 use finding::{Found, append_found, find, status_of};
-use history_files::{HistoryRead, history_at, judged_name};
 use program_reports::{Answer, append_answer};
-use release::{Judged, append_judged, version_text};
 use std::alloc::{AllocError, Global};
 use std::io;
 use std::process::ExitCode;

@@ -7,13 +7,14 @@
 ghost use Rattle.std.specs.Prelude.{◌≡◌, false, IfOk};
 
 use devices::FileSource;
-use file_programs::{Fault, end, print, write_file};
-use merge_words::{Asked as Words, Extent as Given, Names, Paths, Request, Unasked, request_given};
+use file_arguments::rmmmerge::{
+    Asked as Words, Extent as Given, Names, Paths, Request, Unasked, request_given,
+};
+use file_programs::{Fault, VERSION, end, print, write_file};
 use merging::{
     Asked, EventsFault, Extent, Output, Renaming, Run, SourceFault, TextFault, Version, WriteFault,
     merge_source,
 };
-use release::VERSION;
 use std::alloc::{AllocError, Global};
 use std::io::{BufWriter, ErrorKind};
 use std::process::ExitCode;

@@ -2,3 +2,5 @@ pub mod Counted
 pub mod Joined
 mod Unlike
 mod Copies
+pub mod Ends
+pub mod Steps

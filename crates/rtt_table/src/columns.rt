@@ -8,10 +8,10 @@ ghost use Rattle.rtt_table.specs.Columns as spec;
 ghost use Rattle.rtt_table.specs.Columns.{kind_with_ripas};
 
 use crate::kind::{Kind, assigned, entry_from, kind_of, kind_of_two, unassigned};
+use memory_map::{entry_address, passes};
 use rmm_spec::{Entry, EntryTest, Ripas};
 use std::alloc::{AllocError, Global};
 use std::marker::Model;
-use table_entries::{entry_address, passes};
 
 /// How many entries a table has.
 pub const ENTRIES: usize = 512;

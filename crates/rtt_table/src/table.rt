@@ -7,11 +7,10 @@ ghost use Rattle.rmm_spec.specs.Table.{entry_index, entries_with_ripas, AreAlike
 ghost use Rattle.rtt_table.specs.Counts.{one_if, AreCounts};
 
 use crate::columns::{Columns, ENTRIES};
-use granule_state::Ipa;
+use memory_map::{Ipa, entry_number, is_live, is_table};
 use rmm_spec::{Entry, EntryTest, Place, Ripas};
 use std::alloc::{AllocError, Global};
 use std::marker::Model;
-use table_entries::{entry_number, is_live, is_table};
 
 /// Where in its table the level's entry for an address stands: levels past 3 count as level 3.
 #[tactic(auto, unfolding(rmm_spec::specs::Table::entry_index))]

@@ -4,9 +4,9 @@ ghost use Rattle.std.specs.Prelude.{◌≡◌, ◌↔◌, ◌<◌, ◌≤◌, Is
 ghost use Rattle.std.specs.List.{AllByRecursion};
 ghost use Rattle.rmm_spec.specs.CommandText.{IsCommand};
 ghost use Rattle.rmm_spec.specs.Scenario.{IsScenario, is_numbered};
-ghost use Rattle.scenario.specs.Seen.{seen_programs};
+ghost use Rattle.scenario.specs.SeenPrograms.{seen_programs};
 
-use granule_state::Config;
+use memory_map::Config;
 use rmi_codec::has_text;
 use rmm_spec::{Command, Due, Version};
 

@@ -2,9 +2,9 @@
 
 ghost use Rattle.std.specs.Prelude.{◌≡◌, IfOk};
 ghost use Rattle.rmm_spec.specs.Scenario.{IsScenario};
-ghost use Rattle.scenario.specs.Seen.{seen_programs};
+ghost use Rattle.scenario.specs.SeenPrograms.{seen_programs};
 
-use granule_state::Config;
+use memory_map::Config;
 use rmi_view::copied_command;
 use rmm_spec::{Command, Due};
 use std::alloc::{AllocError, Global};
@@ -22,7 +22,7 @@ pub struct Scenario {
 
 impl Model for Scenario {
     ghost use Rattle.rmm_spec.specs.Scenario.{Scenario, IsScenario};
-    ghost use Rattle.scenario.specs.Seen.{seen_programs};
+    ghost use Rattle.scenario.specs.SeenPrograms.{seen_programs};
 
     ghost Value = { Scenario };
 

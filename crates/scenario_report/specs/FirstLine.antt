@@ -1,7 +1,7 @@
 -- How a report begins: whether the scenario is good, or the number of its fault.
 use Rattle.std.specs.Prelude.{ℕ, List, [], codes, Option, Some, None}
-use Rattle.scenario_text.specs.declared.fault.ScenarioFault.{ScenarioFault}
-use Rattle.scenario_text.specs.declared.fault.ScenarioFault.TheVariants as fault
+use Rattle.scenario.specs.declared.fault.ScenarioFault.{ScenarioFault}
+use Rattle.scenario.specs.declared.fault.ScenarioFault.TheVariants as fault
 
 abbrev pub first_line : Option ScenarioFault → List ℕ
 first_line None = codes "scenario good\n"

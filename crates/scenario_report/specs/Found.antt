@@ -2,13 +2,13 @@
 use Rattle.std.specs.Prelude.{◌≡◌, ◌≢◌, ◌≤◌, ◌⊎◌, pos, length, map, sum}
 use Rattle.toml.specs.Data.{Members}
 use Rattle.rmm_spec.specs.ScenarioKeys.{States}
-use Rattle.scenario_text.specs.declared.keys.Stated.{Stated}
-use Rattle.scenario_text.specs.TomlDocument.{document_of, toml_kinds}
-use Rattle.scenario_text.specs.Seen.{seen_lists, stated_seen}
-use Rattle.scenario_told.specs.declared.flaw.Flaw.{Flaw}
-use Rattle.scenario_told.specs.declared.flaw.Flaw.TheVariants as flaw
-use Rattle.scenario_told.specs.declared.numbers.Numbers.{Numbers}
-use Rattle.scenario_told.specs.Flaws.{IsKeyFlaw, IsRangeFlaw, IsCommandFlaw, IsTurnFlaw}
+use Rattle.scenario.specs.declared.keys.Stated.{Stated}
+use Rattle.scenario.specs.TomlDocument.{document_of, toml_kinds}
+use Rattle.scenario.specs.SeenTexts.{seen_lists, stated_seen}
+use Rattle.scenario_report.specs.declared.flaw.Flaw.{Flaw}
+use Rattle.scenario_report.specs.declared.flaw.Flaw.TheVariants as flaw
+use Rattle.scenario_report.specs.declared.numbers.Numbers.{Numbers}
+use Rattle.scenario_report.specs.Flaws.{IsKeyFlaw, IsRangeFlaw, IsCommandFlaw, IsTurnFlaw}
 
 abbrev pub numbers_of : Stated → Numbers
 numbers_of stated = record { granules = stated.granules; cpus = stated.cpus; queue = stated.queue; limit = stated.limit; version = stated.version }

@@ -1,2 +1,4 @@
+pub mod Flaws
+pub mod Keys
 pub mod FirstLine
 pub mod Found

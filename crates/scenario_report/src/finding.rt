@@ -3,12 +3,12 @@
 ghost use Rattle.std.specs.Prelude.{◌≡◌, ◌↔◌, pos, length, IsTrue, IfOk, IfSome};
 ghost use Rattle.toml.specs.View.{table_view};
 ghost use Rattle.scenario_report.specs.Found.{IsCountFlaw, IsFlawOf, IsStatedFlaw};
-ghost use Rattle.scenario_told.specs.Flaws.{IsCommandFlaw, IsTurnFlaw};
+ghost use Rattle.scenario_report.specs.Flaws.{IsCommandFlaw, IsTurnFlaw};
 
 use crate::keys::wrong_key;
 use crate::turns::wrong_turn;
-use scenario_text::{ScenarioFault, Stated, are_few};
-use scenario_told::{Flaw, Numbers, wrong_command, wrong_number};
+use crate::{Flaw, Numbers, wrong_command, wrong_number};
+use scenario::{ScenarioFault, Stated, are_few};
 use std::alloc::{AllocError, Global};
 use toml::Table;
 

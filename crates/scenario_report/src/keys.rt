@@ -2,12 +2,12 @@
 
 ghost use Rattle.std.specs.Prelude.{◌≡◌, true, IfOk, IfSome};
 ghost use Rattle.toml.specs.View.{view, table_view};
-ghost use Rattle.scenario_text.specs.TomlDocument.{document_of, toml_kinds};
-ghost use Rattle.scenario_told.specs.Flaws.{IsKeyFlaw};
-ghost use Rattle.scenario_told.specs.Keys.{fits, is_unknown};
+ghost use Rattle.scenario.specs.TomlDocument.{document_of, toml_kinds};
+ghost use Rattle.scenario_report.specs.Flaws.{IsKeyFlaw};
+ghost use Rattle.scenario_report.specs.Keys.{fits, is_unknown};
 
-use scenario_text::{is_key, lists_of_texts, texts, value_at};
-use scenario_told::{Flaw, Key};
+use crate::{Flaw, Key};
+use scenario::{is_key, lists_of_texts, texts, value_at};
 use std::alloc::{AllocError, Global};
 use toml::{Table, Value};
 

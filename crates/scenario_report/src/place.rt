@@ -1,7 +1,7 @@
 //! Where in a scenario's text a flaw seems to stand. It is a hint: the first line that looks like it.
 
+use crate::{Flaw, Key};
 use bad_lines::Shown;
-use scenario_told::{Flaw, Key};
 use std::alloc::{AllocError, Global};
 use std::fmt;
 

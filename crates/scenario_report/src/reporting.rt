@@ -2,14 +2,14 @@
 
 ghost use Rattle.std.specs.Prelude.{◌≡◌, ◌≢◌, ◌++◌, ℕ, List, IfNone, IfOk, IfSome, OnOk, OnErr};
 ghost use Rattle.rmm_spec.specs.Scenario.{Scenario};
-ghost use Rattle.scenario_text.specs.declared.fault.ScenarioFault.TheVariants.{NoMemory};
-ghost use Rattle.scenario_text.specs.ScenarioText.{IsFirstFault, IsScenarioText};
+ghost use Rattle.scenario.specs.declared.fault.ScenarioFault.TheVariants.{NoMemory};
+ghost use Rattle.scenario.specs.ScenarioText.{IsFirstFault, IsScenarioText};
 ghost use Rattle.scenario_report.specs.FirstLine.{first_line};
 
+use crate::ScenarioText;
 use crate::finding::flaw_in;
 use crate::place::place_of;
-use scenario_text::{ScenarioFault, read_scenario};
-use scenario_told::ScenarioText;
+use scenario::{ScenarioFault, read_scenario};
 use std::alloc::{AllocError, Global};
 use toml::Table;
 

@@ -1,10 +1,10 @@
 //! Which turn of a scenario is at fault.
 
 ghost use Rattle.std.specs.Prelude.{◌≡◌, ◌≤◌, IfNone, IfSome};
-ghost use Rattle.scenario_told.specs.Flaws.{AreTurns, IsTurnFlaw};
+ghost use Rattle.scenario_report.specs.Flaws.{AreTurns, IsTurnFlaw};
 
-use scenario_text::turn_from;
-use scenario_told::Flaw;
+use crate::Flaw;
+use scenario::turn_from;
 
 /// The first of these texts that is no turn of so many CPUs.
 pub(crate) fn wrong_turn<'t>(turns: &[&'t str], cpus: u8) -> Option<Flaw<'t>>

@@ -9,7 +9,7 @@ use Rattle.rmm_spec.specs.Call.{call_of}
 use Rattle.rmm_spec.specs.Rows.{ok, done}
 use Rattle.rmm_spec.specs.Step.{Step, CarriesOut, outcome}
 use Rattle.rmm_spec.specs.Step.Ripas.{IsReached, reached_change}
-use Rattle.rmm_sound.proofs.Runs.{done_applies, reached_applies}
+use Rattle.rmm_laws.proofs.Runs.{done_applies, reached_applies}
 use Rattle.shape_laws.specs.Whole.{whole_changed}
 use Rattle.shape_laws.proofs.Changes.{changes-keep_shape}
 use Rattle.shape_laws.proofs.Ties.{well_shaped-is_sound}

@@ -11,7 +11,7 @@ use Rattle.rmm_spec.specs.Lookup.{rec_at}
 use Rattle.rmm_spec.specs.Change.{with_realm_change, with_rec_change, with_tag_change, with_entry_change}
 use Rattle.rmm_spec.specs.Applicable.{CanChangeEntries, CanChangeRealm, CanChangeRec}
 use Rattle.rmm_spec.specs.Cell.{Data}
-use Rattle.rmm_sound.proofs.Entries.{leaf_there}
+use Rattle.rmm_laws.proofs.Entries.{leaf_there}
 use Rattle.shape_laws.specs.Whole.{cell_with_tag, cell_with_realm, cell_with_rec, cells_with_entries, cells_with_tag_change, cells_with_realm_change, cells_with_rec_change, changed_at, table_changed, entries_changed}
 use Rattle.shape_laws.proofs.Cells.{Views, views_of, tag-cell, cell-data, cell-table}
 use Rattle.shape_laws.proofs.EntriesSet.{with_entries, IsRewritten, leaf-no_link, replaced_entries, ripas_entries}

@@ -8,7 +8,7 @@ use Rattle.rmm_spec.specs.Update.{is_same_entry, entry_with_ripas}
 use Rattle.rmm_spec.specs.Table.{entries_with_ripas}
 use Rattle.rmm_spec.specs.TableCells.{leaf_of}
 use Rattle.rmm_spec.specs.Sound.{IsLeafOf}
-use Rattle.rmm_sound.proofs.Cases.{choice}
+use Rattle.rmm_laws.proofs.Cases.{choice}
 use Rattle.shape_laws.proofs.Finds.{AreFound, IsPlaced, same_place}
 use Rattle.shape_laws.proofs.Leaves.{leaf-entries_here, leaf-table_here, leaf-entries_elsewhere}
 use Rattle.shape_laws.proofs.Slices.{slice_get-set_same, slice_get-set_other, IsStretch, ripas-get, ripas-is_link, entry_leaf-of, entry_leaf-ripas}

@@ -6,7 +6,7 @@ use Rattle.std.proofs.lemmas.Bool.Decides.{nat_tests}
 use Rattle.rmm_spec.specs.Update.{is_same_entry}
 use Rattle.rmm_spec.specs.Flat.{found_below, is_table_of}
 use Rattle.rmm_spec.specs.Shape.{HoldsTable}
-use Rattle.rmm_sound.proofs.Cases.{nothing_there, spot_itself}
+use Rattle.rmm_laws.proofs.Cases.{nothing_there, spot_itself}
 
 -- ---- searches
 

@@ -6,9 +6,9 @@ use Rattle.rmm_spec.specs.Lookup.{has_tag, rec_at, is_owned_by}
 use Rattle.rmm_spec.specs.Applicable.{CanApply}
 use Rattle.rmm_spec.specs.Cell.{Undelegated, RecAux, Data}
 use Rattle.rmm_spec.specs.Shape.{Side, count_below}
-use Rattle.rmm_sound.proofs.Changes.{changed_sound}
-use Rattle.rmm_sound.proofs.Kept.{IsLike, like_itself}
-use Rattle.rmm_sound.proofs.Searches.{rec_there}
+use Rattle.rmm_laws.proofs.Changes.{changed_sound}
+use Rattle.rmm_laws.proofs.Kept.{IsLike, like_itself}
+use Rattle.rmm_laws.proofs.Searches.{rec_there}
 use Rattle.shape_laws.specs.Whole.{whole_changed}
 use Rattle.shape_laws.proofs.Cells.{Views, views_of, flat_views, flat_state-views, views_put, IsAt, tag-cell, cell-delegated, cell-undelegated, cell-realm, cell-rec}
 use Rattle.shape_laws.proofs.Ties.{IsTied, AreListed, ArePlaced, AreInside, well_shaped-is_sound}

@@ -12,10 +12,10 @@ use Rattle.rmm_spec.specs.Walk.{table_size, table_number, full, entry_at, has_li
 use Rattle.rmm_spec.specs.Change.{new_realm}
 use Rattle.rmm_spec.specs.Applicable.{CanMakeRealm, CanDestroyRealm}
 use Rattle.spec_lemmas.proofs.TagLaws.{granule_from_tag}
-use Rattle.rmm_sound.proofs.Cases.{nothing_there, choice, spot_other, left_of}
-use Rattle.rmm_sound.proofs.Entries.{entry-link}
-use Rattle.rmm_sound.proofs.Searches.{any_below-false, none_has_vmid}
-use Rattle.rmm_sound.proofs.Spaces.{space_cases}
+use Rattle.rmm_laws.proofs.Cases.{nothing_there, choice, spot_other, left_of}
+use Rattle.rmm_laws.proofs.Entries.{entry-link}
+use Rattle.rmm_laws.proofs.Searches.{any_below-false, none_has_vmid}
+use Rattle.rmm_laws.proofs.Spaces.{space_cases}
 use Rattle.shape_laws.specs.Whole.{root_table, side_without_vmid}
 use Rattle.shape_laws.proofs.Cells.{views_put, views_of-put, cell-table}
 use Rattle.shape_laws.proofs.Finds.{IsPlaced, same_place, table_granule-holds, table_granule-taken}

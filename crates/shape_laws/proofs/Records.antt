@@ -10,8 +10,8 @@ use Rattle.rmm_spec.specs.Lookup.{rec_at, runs_on, is_cpu}
 use Rattle.rmm_spec.specs.Change.{realm_updated, rec_updated, with_realm_change, with_rec_change}
 use Rattle.rmm_spec.specs.Applicable.{CanChangeRealm, CanChangeRec, CanUpdateRec}
 use Rattle.rmm_spec.specs.Shape.{Outside, Inside, RunsOn}
-use Rattle.rmm_sound.proofs.Records.{updated_like}
-use Rattle.rmm_sound.proofs.Searches.{none_runs, rec_there}
+use Rattle.rmm_laws.proofs.Records.{updated_like}
+use Rattle.rmm_laws.proofs.Searches.{none_runs, rec_there}
 use Rattle.shape_laws.specs.Whole.{cell_with_realm, cell_with_rec, cells_with_realm_change, cells_with_rec_change, places_left, places_of_rec, places_with_rec_change}
 use Rattle.shape_laws.proofs.Cells.{Views, views_of, views_of-put, IsAt-cell}
 use Rattle.shape_laws.proofs.Ties.{AreInside, IsTied-shaped, well_shaped-is_sound}

@@ -10,8 +10,8 @@ use Rattle.rmm_spec.specs.Applicable.{CanMakeRec, CanDestroyRec}
 use Rattle.rmm_spec.specs.Cell.{RecAux}
 use Rattle.rmm_spec.specs.Shape.{RunsOn, count_below}
 use Rattle.spec_lemmas.proofs.TagLaws.{granule_from_tag}
-use Rattle.rmm_sound.proofs.Records.{updated_like}
-use Rattle.rmm_sound.proofs.Searches.{rec_there}
+use Rattle.rmm_laws.proofs.Records.{updated_like}
+use Rattle.rmm_laws.proofs.Searches.{rec_there}
 use Rattle.shape_laws.specs.Whole.{cell_with_realm, side_without_rec}
 use Rattle.shape_laws.proofs.Cells.{views_of, views_put, views_of-put, IsAt-cell, tag-cell, cell-aux}
 use Rattle.shape_laws.proofs.Counts.{count_below-same, count_below-one}

@@ -7,7 +7,7 @@ use Rattle.rmm_spec.specs.declared.tag.Tag.TheVariants as tag
 use Rattle.rmm_spec.specs.Sound.{IsLeafOf}
 use Rattle.rmm_spec.specs.Cell.{is_aux, is_data, auxes_of, datas_of}
 use Rattle.rmm_spec.specs.Shape.{Side, HoldsTable, IsPlaceOf, IsLinked, FitsPlace, AreTableCells, AreDataCells, AreRecCells, IsWellShaped}
-use Rattle.rmm_sound.proofs.Cases.{nothing_there}
+use Rattle.rmm_laws.proofs.Cases.{nothing_there}
 use Rattle.shape_laws.proofs.Cells.{cell-undelegated, cell-aux, cell-data, tag-cell, views_of}
 use Rattle.shape_laws.proofs.Finds.{table_granule-holds, holds-found}
 use Rattle.shape_laws.proofs.Ties.{leaf-found, entry_leaf-some, link_or_leaf, entry_there, number-again, at_place, ArePlaced, IsTied}

@@ -10,8 +10,8 @@ use Rattle.rmm_spec.specs.Update.{is_same_entry}
 use Rattle.rmm_spec.specs.Walk.{table_size, table_number, entry_at}
 use Rattle.rmm_spec.specs.Applicable.{CanMakeTable, CanDestroyTable}
 use Rattle.spec_lemmas.proofs.TagLaws.{granule_from_tag}
-use Rattle.rmm_sound.proofs.Cases.{choice, left_of}
-use Rattle.rmm_sound.proofs.Entries.{leaf_there}
+use Rattle.rmm_laws.proofs.Cases.{choice, left_of}
+use Rattle.rmm_laws.proofs.Entries.{leaf_there}
 use Rattle.shape_laws.specs.Whole.{cell_with_entries, cells_with_entries, cells_with_table, changed_at, width_in, copied_table}
 use Rattle.shape_laws.proofs.Cells.{views_of, views_put, views_of-put, IsAt-cell, cell-table}
 use Rattle.shape_laws.proofs.EntriesSet.{with_entries, leaf-no_link, no_link-child, set_links, leaf-set_here, leaf-set_elsewhere}

@@ -18,10 +18,10 @@ pub use Rattle.rmm_spec.specs.declared.{accepted.Accepted.TheVariants.Reaches, a
 pub use Rattle.rmi_view.specs.Seen.{command_seen, reply_seen}
 pub use Rattle.lemmas.proofs.Tests.{both_ways}
 pub use Rattle.spec_lemmas.proofs.TagLaws.{granule_from_tag, sameb-tag_number, tag-has_tag}
-pub use Rattle.rmm_sound.proofs.Cases.{none_of, spot_itself}
-pub use Rattle.rmm_sound.proofs.Changes.{changed_sound}
-pub use Rattle.rmm_sound.proofs.Runs.{done_applies, reached_applies}
-pub use Rattle.rmm_sound.proofs.Searches.{inside_runs, realm_granule, realm_there, rec_granule, rec_there}
+pub use Rattle.rmm_laws.proofs.Cases.{none_of, spot_itself}
+pub use Rattle.rmm_laws.proofs.Changes.{changed_sound}
+pub use Rattle.rmm_laws.proofs.Runs.{done_applies, reached_applies}
+pub use Rattle.rmm_laws.proofs.Searches.{inside_runs, realm_granule, realm_there, rec_granule, rec_there}
 pub use Rattle.machine_cells.proofs.Found.{sound_in}
 unfoldable pub use Rattle.machine_cells.specs.{Whole.state_in}
 pub use Rattle.machine_cells.specs.Whole.{IsShapedIn, count_of}

@@ -1,7 +1,7 @@
 //! What a machine looks up of its granules, beside what rows look up.
 
 use crate::machine::Machine;
-use granule_state::Pa;
+use memory_map::Pa;
 use rmm_spec::Stretch;
 
 #[tactic(auto, unfolding(crate::specs::View::state_of))]

@@ -5,12 +5,11 @@ ghost use Rattle.std.specs.Prelude.{◌≡◌};
 use crate::machine::Machine;
 use crate::reply::{is_done, is_ok, is_refusal};
 use command_rows::Sight;
-use granule_state::Pa;
+use memory_map::{Pa, entry_ripas};
 use realm_desc::{Realm, Rec};
 use rec_steps::{RecStep, answer_inside, extension_inside, walked_address};
 use rmi_view::{CommandRef, ReplyRef};
 use rmm_spec::{Call, RealmChange, RealmUpdate, RecChange, Refusal, Ripas};
-use table_entries::entry_ripas;
 
 impl Machine {
     ghost use Rattle.std.specs.Prelude.{◌≡◌, Some, IfSome, IsTrue, is_some};

@@ -2,7 +2,7 @@
 
 use crate::inside::owner;
 use crate::machine::Machine;
-use granule_state::{GRANULE_BYTES, Pa};
+use memory_map::{GRANULE_BYTES, Pa};
 use realm_desc::Rec;
 use rmm_spec::{Entry, Tag};
 use rtt_table::Table;

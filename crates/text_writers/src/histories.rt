@@ -6,8 +6,8 @@ ghost use Rattle.rmi_codec.specs.Spaced.{spaced};
 ghost use Rattle.rmm_spec.specs.HistoryText.{event_parts, history_text, config_parts, mark};
 ghost use Rattle.rmm_spec.specs.Text.{decimal, line_text, lines_text};
 
-use granule_state::Config;
 use history::History;
+use memory_map::Config;
 use rmi_codec::{all_or_nothing, push_command, push_head, push_numbers, push_reply};
 use rmm_spec::{Event, Version};
 use std::alloc::AllocError;

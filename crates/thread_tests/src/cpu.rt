@@ -4,7 +4,7 @@ ghost use Rattle.std.specs.Prelude.{◌≡◌, [], IfOk, IfSome};
 ghost use Rattle.monitor.specs.Cpus.{ArePairs};
 ghost use Rattle.monitor.specs.Executed.{ArePaired};
 
-use granule_state::Config;
+use memory_map::Config;
 use monitor::{CpuPass, CpuToken, Done, Gate, Monitor, Open, Queue, Refused, ScribePass, Site};
 use rmi_codec::read_command;
 use std::alloc::Global;

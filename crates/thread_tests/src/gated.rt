@@ -6,7 +6,7 @@ ghost use Rattle.monitor.specs.Executed.{ArePaired};
 
 use crate::cpu::{Answer, CAPACITY, Cpu, two_cpus};
 use arrayvec::ArrayVec;
-use granule_state::Config;
+use memory_map::Config;
 use monitor::{Gate, History, Monitor, Queue, ScribePass, Site};
 use rmi_codec::read_reply;
 use rmm_spec::{Command, Reply};

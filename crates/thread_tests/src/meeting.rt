@@ -7,8 +7,8 @@ ghost use Rattle.monitor.specs.Executed.{ArePaired};
 
 use crate::cpu::{Answer, CAPACITY, Cpu, two_cpus};
 use checker::{check, verdict_text};
-use granule_state::Config;
 use history::History;
+use memory_map::Config;
 use monitor::{
     Certificate, CpuPass, CpuToken, Monitor, Open, Queue, ScribePass, Site, fit_a_history, meet,
 };

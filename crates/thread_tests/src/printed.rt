@@ -1,6 +1,6 @@
 //! Scenarios run on threads, from their programs to what is printed. What is compared is the same under every schedule.
 
-use granule_state::Config;
+use memory_map::Config;
 use monitor_runs::threads_text;
 use rmi_codec::read_command;
 use rmm_spec::Command;

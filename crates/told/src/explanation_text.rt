@@ -1,5 +1,6 @@
 //! The lines of a report behind the verdict's.
 
+use crate::CallText;
 use crate::condition_text::WhyText;
 use crate::explanation::{BadLine, Cause, Deciding, Explanation, RefusedLine};
 use crate::named_call::{NamedCall, UnfinishedCall};
@@ -7,7 +8,6 @@ use crate::reply_text::{AcceptedText, ReplyText, is_by_realm};
 use crate::since_text::SinceText;
 use crate::word_text::WrongWordText;
 use bad_lines::Shown;
-use call_text::CallText;
 use rmm_spec::Accepted;
 use std::fmt;
 

@@ -1,8 +1,8 @@
-//! The types of an explanation of a verdict on a history and a certificate, and how they are written for people.
+//! The types of an explanation of a verdict on a history and a certificate, and how they and commands are written for people.
 //! It promises that an explanation's verdict is the one that `verdict_of` names, and that its texts end, in whatever it is written to.
 //! Nothing here reads a text or a run: whoever makes an explanation says what of it is true, as `explain` does.
-//! A type stands beside the text that it is written as.
-//! The crate `explain` depends on it.
+//! A type stands beside the text that it is written as. Words are in hex, as the texts of histories and scenarios have them.
+//! The crates `explain` and `scenario_report` depend on it.
 #![tactic(auto)]
 
 mod asked_text;
@@ -21,6 +21,7 @@ mod since;
 mod since_text;
 mod summary_text;
 mod word_text;
+mod writing;
 
 pub use asked_text::{AskedText, command_word};
 pub use before::{GranuleBefore, RealmBefore, RecBefore, StateBefore, WalkBefore};
@@ -33,3 +34,4 @@ pub use levels::entry_size;
 pub use named_call::{EarlierStep, NamedCall, UnfinishedCall};
 pub use since::{LateCommit, Since};
 pub use word_text::reply_word;
+pub use writing::CallText;

@@ -7,3 +7,10 @@ pub mod Orders
 pub mod Readings
 pub mod Grammars
 pub mod SomeVerdict
+pub mod Counted
+pub mod Growing
+pub mod Looks
+pub mod Steps
+pub mod Survival
+pub mod Beginnings
+pub mod Parts

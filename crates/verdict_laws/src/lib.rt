@@ -1,10 +1,19 @@
-//! The law that two texts have exactly one right verdict: each half is the contract of a function that does nothing.
-//! It promises that some verdict is right of any two texts, and that two verdicts that are right of the same texts are equal.
-//! So `Judges` leaves a checker nothing to choose: neither a fault's line nor a step nor its reason.
-//! It is proved from the definitions, with the lemmas over them that the checker's proofs share, and calls no function.
-//! No crate depends on it.
+//! What follows from the definitions of verdicts and orders: each law is the contract of a function that does nothing.
+//! It promises that some verdict is right of any two texts and no two are, so `Judges` leaves a checker nothing to choose; and, for a search
+//! through a history's events, that a kept order which lacks a call at its return leads nowhere if each sequence of open calls and then the
+//! call does, that with no order kept there is no linearization, and that a history with one has one of each first part of its events.
+//! No crate depends on it: the laws on kept orders are what a search forward, return by return, is to stand on.
 #![tactic(auto)]
 
-mod laws;
+mod exchanges;
+mod verdicts;
 
-pub use laws::{a_verdict_exists, one_verdict};
+pub use exchanges::{
+    a_returning_call_is_open, all_kept_behind_a_call, all_kept_behind_a_return,
+    all_kept_where_covered, first_parts_have_orders, kept_at_first, kept_at_last_is_linearization,
+    kept_behind_a_call, kept_behind_its_return, kept_with_open_calls, looks_stay_in_a_group,
+    movable_past_others, no_line_is_kept_at_first, none_kept_is_no_order,
+    nowhere_after_each_open_call, nowhere_after_looks, nowhere_at_a_return,
+    nowhere_in_either_order, nowhere_with_a_movable_call,
+};
+pub use verdicts::{a_verdict_exists, one_verdict};

@@ -5,9 +5,9 @@ use Rattle.std.proofs.lemmas.Option.{slice_get_read}
 use Rattle.rmm_spec.specs.Lookup.{is_granule}
 use Rattle.rmm_spec.specs.Table.{TableRecord}
 use Rattle.rmm_spec.specs.TableCells.{table_in}
-use Rattle.rtt_walk.specs.Plain.{cells_from, table_or_none}
+use Rattle.rtt_table.specs.Plain.{cells_from, table_or_none}
 use Rattle.walk_tests.specs.Walkable.{AreInGranules}
-use Rattle.rtt_walk.specs.PlainLaws.{table_in-nil, table_in-tail, table_in-no_granule, table_in-cells_from}
+use Rattle.rtt_table.specs.PlainLaws.{table_in-nil, table_in-tail, table_in-no_granule, table_in-cells_from}
 
 -- the number of a granule's address is below the count
 pub granule_within : (granules address : ℕ) → IsTrue (is_granule granules address) → address / 4096 < granules

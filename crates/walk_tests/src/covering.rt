@@ -3,9 +3,8 @@
 ghost use Rattle.std.specs.Prelude.{◌≡◌};
 ghost use Rattle.rmm_spec.specs.Table as spec;
 
-use granule_state::Ipa;
+use memory_map::{Ipa, table_number};
 use rmm_spec::Place;
-use table_entries::table_number;
 
 /// Whether the table at a place covers an address.
 #[tactic(auto, unfolding(rmm_spec::specs::Table::covers, rmm_spec::specs::Table::place_number))]

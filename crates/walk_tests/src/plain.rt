@@ -4,12 +4,11 @@ ghost use Rattle.std.specs.Prelude.{◌≡◌, ◌/◌, ◌≤◌, IsTrue, IfOk,
 ghost use Rattle.rmm_spec.specs.declared.version.Version.TheVariants.{Large};
 ghost use Rattle.rmm_spec.specs.HistoryText.{granule_limit};
 ghost use Rattle.rmm_spec.specs.Lookup.{is_granule};
-ghost use Rattle.rtt_walk.specs.Plain.{cells_from};
+ghost use Rattle.rtt_table.specs.Plain.{cells_from};
 ghost use Rattle.walk_tests.specs.Walkable.{AreInGranules};
 
-use granule_state::{Config, GRANULE_BYTES, Pa};
-use rtt_table::Table;
-use rtt_walk::Cells;
+use memory_map::{Config, GRANULE_BYTES, Pa};
+use rtt_table::{Cells, Table};
 use std::alloc::{AllocError, Global};
 use std::marker::Model;
 
@@ -72,7 +71,7 @@ impl PlainCells {
 }
 
 impl Cells for PlainCells {
-    ghost use Rattle.rtt_walk.specs.PlainLaws.{cells_from-are_placed};
+    ghost use Rattle.rtt_table.specs.PlainLaws.{cells_from-are_placed};
 
     ghost cells = { cells_from 0 };
 

@@ -3,9 +3,8 @@
 use crate::covering::covers;
 use crate::plain::PlainCells;
 use crate::walkable::is_walkable;
-use granule_state::{Config, Ipa, Pa};
-use rtt_table::{Entry, Place, Ripas, Table};
-use rtt_walk::{Cells, Reached, walk};
+use memory_map::{Config, Ipa, Pa};
+use rtt_table::{Cells, Entry, Place, Reached, Ripas, Table, walk};
 use std::alloc::Global;
 use std::test::Fail;
 

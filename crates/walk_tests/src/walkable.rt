@@ -8,10 +8,9 @@ ghost use Rattle.rmm_spec.specs.TableCells.{LinksTo, IsWalkable};
 ghost use Rattle.walk_tests.specs.Walkable.{IsOver, IsLinkedFrom, HasLink, LeadsDown, IsSoundAt, AreInGranules};
 
 use crate::covering::covers;
-use granule_state::{GRANULE_BYTES, Ipa, Pa};
+use memory_map::{GRANULE_BYTES, Ipa, Pa};
 use rmm_spec::{Entry, Place};
-use rtt_table::{Table, index_of};
-use rtt_walk::Cells;
+use rtt_table::{Cells, Table, index_of};
 
 /// Whether a walk may start: the root covers the address, at a level up to `max`, and the links from it lead to just the
 /// tables of its realm that cover the address from its level on. The tables lie in the first `granules` granules.

@@ -9,7 +9,7 @@ use Rattle.rmm_spec.specs.HistoryText.{History}
 use Rattle.rmm_spec.specs.Cell.{Cell, Undelegated}
 use Rattle.rmm_spec.specs.Shape as shape
 use Rattle.rmm_spec.specs.World.{Between, Commitment}
-use Rattle.certified_laws.specs.Programs.{commands_below}
+use Rattle.world_laws.specs.Programs.{commands_below}
 use Rattle.granule_cells.specs.declared.cpu_place.CpuPlace.TheVariants.{Outside}
 use Rattle.world.specs.Cpus.{views_at, of_each}
 use Rattle.world.specs.Kept.{IsFit, IsKept}

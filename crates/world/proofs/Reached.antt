@@ -6,8 +6,8 @@ use Rattle.rmm_spec.specs.CertificateText.{IsCertificate}
 use Rattle.rmm_spec.specs.World.{history_of, certificate_of}
 use Rattle.rmm_spec.specs.Waits.{Report, Turn, TurnAll, waits_after}
 use Rattle.world_laws.proofs.Turned.{moves_of_turns}
-use Rattle.certified_laws.proofs.Room.{events-HappenAll}
-use Rattle.certified_laws.proofs.Passed.{texts-run}
+use Rattle.world_laws.proofs.Room.{events-HappenAll}
+use Rattle.world_laws.proofs.Passed.{texts-run}
 
 TurnAll-push : (old : World) (turns : List Turn) (mid : World) (turn : Turn) (new : World) → TurnAll old turns mid
     → Turns mid turn.cpu turn.will turn.report new → TurnAll old (turns ++ turn ∷ []) new

@@ -7,7 +7,7 @@ use Rattle.rmm_spec.specs.Lookup.{is_granule, is_cpu}
 use Rattle.rmm_spec.specs.World.{World, Phase, Between, Deciding, Decided, GivenUp, Stopped, opening_world}
 use Rattle.rmm_spec.specs.declared.turn.Will.{Will}
 use Rattle.rmm_spec.specs.Waits.{Report, Turns, Turn, TurnAll, waits_after}
-use Rattle.certified_laws.specs.Programs.{HaveTexts, commands_below}
+use Rattle.world_laws.specs.Programs.{HaveTexts, commands_below}
 use Rattle.command_core.specs.Seen.{are_distinct}
 use Rattle.world.specs.Next.{AreNext}
 

@@ -5,7 +5,7 @@ use Rattle.rmm_spec.specs.declared.command.Command.{Command}
 use Rattle.rmm_spec.specs.HistoryText.{Config}
 use Rattle.rmm_spec.specs.Shape.{Outside}
 use Rattle.rmm_spec.specs.World as world
-use Rattle.certified_laws.specs.Programs.{HaveTexts, commands_below}
+use Rattle.world_laws.specs.Programs.{HaveTexts, commands_below}
 use Rattle.world.specs.Cpus.{Views}
 
 abbrev pub program_in : Option (Vec Command Global) → List Command

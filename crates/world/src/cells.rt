@@ -8,7 +8,7 @@ ghost use Rattle.command_core.specs.Seen.{cell_of};
 ghost use Rattle.world.specs.Granules.{cells_of};
 
 use command_core::Cell;
-use granule_state::{Config, GRANULE_BYTES, Pa};
+use memory_map::{Config, GRANULE_BYTES, Pa};
 use std::alloc::{AllocError, Global};
 use std::mem::replace;
 

@@ -9,7 +9,7 @@ ghost use Rattle.world.specs.Cpus.{views_of, phase_in, is_going, is_deciding};
 use crate::phase::Phase;
 use arrayvec::ArrayVec;
 use command_core::CpuPlace;
-use granule_state::Pa;
+use memory_map::Pa;
 use rmi_view::copied_command;
 use rmm_spec::Command;
 

@@ -11,7 +11,7 @@ ghost use Rattle.world.specs.Lent.{cells_at};
 
 use crate::cells::Cells;
 use command_core::{Cell, HeldPairs};
-use granule_state::Pa;
+use memory_map::Pa;
 use std::mem::replace;
 
 /// The cells of granules that differ, in their order.

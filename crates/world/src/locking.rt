@@ -7,7 +7,7 @@ use crate::phase::Phase;
 use crate::turned::{Kind, Turned};
 use crate::world::World;
 use command_core::{Next, next_lock};
-use granule_state::Pa;
+use memory_map::Pa;
 
 #[tactic(auto, unfolding(crate::specs::World::world_of, crate::specs::World::waits_of, crate::specs::Whole::world_from))]
 impl World {

@@ -8,7 +8,7 @@ ghost use Rattle.world.specs.Granules.{holder_of};
 ghost use Rattle.world.specs.Kept.{freed_all};
 
 use crate::cells::place;
-use granule_state::{Config, Pa};
+use memory_map::{Config, Pa};
 use std::alloc::{AllocError, Global};
 
 /// The CPU that holds the lock of each granule, in the order of their addresses.

@@ -14,8 +14,8 @@ use crate::phase::Phase;
 use crate::world::World;
 use arrayvec::ArrayVec;
 use command_core::{CpuPlace, Side};
-use granule_state::Config;
 use history::History;
+use memory_map::Config;
 use rmm_spec::Command;
 use std::alloc::{AllocError, Global};
 

@@ -1,6 +1,6 @@
 //! How far a CPU has come.
 
-use granule_state::Pa;
+use memory_map::Pa;
 use rmm_spec::{Command, Reply};
 
 /// How far a CPU has come with its calls, which it numbers from 0.

@@ -20,7 +20,7 @@ use crate::cells::Cells;
 use crate::cpus::Cpus;
 use crate::lent::{give_back, lend};
 use command_core::{CpuPlace, Held, Side, applied_decisions_are_local, apply, decide, room};
-use granule_state::Config;
+use memory_map::Config;
 use rmm_spec::{Command, Reply};
 use std::alloc::{AllocError, Global};
 

@@ -1,6 +1,6 @@
 //! What a turn reports.
 
-use granule_state::Pa;
+use memory_map::Pa;
 
 /// The seven kinds of step.
 #[derive(Clone, Copy)]

@@ -16,8 +16,8 @@ use crate::locks::Locks;
 use crate::phase::Phase;
 use crate::turned::{Kind, Turned};
 use command_core::Side;
-use granule_state::{Config, Pa};
 use history::History;
+use memory_map::{Config, Pa};
 
 /// A machine's granules under their locks, its CPUs with their programs, and what is recorded of their run.
 #[derive(Drop)]

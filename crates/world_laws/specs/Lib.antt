@@ -1,1 +1,12 @@
 pub mod Replaced
+pub mod Held
+pub mod SeenState
+pub mod Walking
+pub mod Same
+pub mod TableCells
+pub mod Settled
+pub mod Misfits
+pub mod Programs
+pub mod SmallWholes
+pub mod SmallWorlds
+pub mod Strays

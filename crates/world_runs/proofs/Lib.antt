@@ -1,4 +1,4 @@
 pub mod Turning
 pub mod Scenarios
-pub mod Printing
+pub mod Printed
 pub mod One

@@ -9,13 +9,13 @@ use Rattle.rmm_spec.specs.HistoryText.{Config}
 use Rattle.rmm_spec.specs.Scenario.{Scenario}
 use Rattle.rmm_spec.specs.Waits.{Turn}
 use Rattle.rmm_spec.specs.World.{World, opening_world, history_of, certificate_of}
-use Rattle.run_texts.specs.RunText.{run_text}
+use Rattle.world_runs.specs.RunText.{run_text}
 use Rattle.world.specs.Next.{StandsStill}
 use Rattle.world.specs.TurnedWorld.{turned_world}
 use Rattle.world.proofs.TurnedWorld.{still-gone}
 use Rattle.world_runs.specs.Played.{ExactAll, Plays, IsPlayed, IsPrinted, due_of, program_of, turned_all, played_world}
 use Rattle.world_runs.specs.Schedule.{ring}
-use Rattle.world_runs.proofs.Printing.{config-opening}
+use Rattle.world_runs.proofs.Printed.{config-opening}
 use Rattle.world_runs.proofs.Turning.{ring-more, config-Turns}
 
 -- ---- what is played

@@ -8,8 +8,8 @@ use Rattle.std.proofs.lemmas.List.Sums.{sum_by-cons}
 use Rattle.rmm_spec.specs.declared.command.Command.{Command}
 use Rattle.rmm_spec.specs.CommandText.{IsCommand}
 use Rattle.rmm_spec.specs.Scenario.{Scenario, IsScenario}
-use Rattle.scenario.specs.Seen.{seen_programs}
-use Rattle.certified_laws.specs.Programs.{commands_below}
+use Rattle.scenario.specs.SeenPrograms.{seen_programs}
+use Rattle.world_laws.specs.Programs.{commands_below}
 use Rattle.world.specs.Opening.{programs_of, CanOpen}
 use Rattle.world_runs.specs.Played.{program_of}
 

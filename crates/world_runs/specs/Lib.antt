@@ -1,2 +1,3 @@
+pub mod RunText
 pub mod Schedule
 pub mod Played

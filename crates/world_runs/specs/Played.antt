@@ -9,7 +9,7 @@ use Rattle.rmm_spec.specs.declared.verdict.Verdict.TheVariants.{Yes}
 use Rattle.rmm_spec.specs.Scenario.{Scenario}
 use Rattle.rmm_spec.specs.Waits.{Report, Turns, Turn}
 use Rattle.rmm_spec.specs.World.{World, IsDeciding, opening_world, history_of, certificate_of}
-use Rattle.run_texts.specs.RunText.{run_text}
+use Rattle.world_runs.specs.RunText.{run_text}
 use Rattle.world.specs.Next.{DoesPlanned, IsNoMove, StandsStill, go_report}
 use Rattle.world.specs.TurnedWorld.{turned_world}
 use Rattle.world_runs.specs.Schedule.{ring}

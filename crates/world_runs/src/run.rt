@@ -2,12 +2,12 @@
 
 ghost use Rattle.std.specs.Prelude.{◌≡◌, ◌++◌, ℕ, List, IfOk, IfErr, OnErr};
 ghost use Rattle.rmm_spec.specs.World.{opening_world};
-ghost use Rattle.run_texts.specs.declared.fault.RunFault.TheVariants.{NoMemory};
+ghost use Rattle.world_runs.specs.declared.fault.RunFault.TheVariants.{NoMemory};
 ghost use Rattle.world.specs.World.{world_of};
 ghost use Rattle.world_runs.specs.Played.{program_of, IsPlayed, IsPrinted, played_world};
 
 use crate::playing::{go_round, take_listed, up_to};
-use run_texts::{RunFault, Verdict, print_run};
+use crate::{RunFault, Verdict, print_run};
 use scenario::{Scenario, copied_programs};
 use std::alloc::{AllocError, Global};
 use world::{World, every_run_is_certified};

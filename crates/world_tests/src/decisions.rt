@@ -6,7 +6,7 @@ ghost use Rattle.command_core.specs.Seen.{place_of};
 ghost use Rattle.command_core.specs.Sides.{side_of};
 
 use command_core::{Cell, CpuPlace, Held, HeldPairs, Next, Side, apply, decide, next_lock, room};
-use granule_state::{Config, Pa};
+use memory_map::{Config, Pa};
 use rmi_codec::{read_command, read_reply};
 use rmm_spec::{Change, Command, Reply, Tag};
 use std::alloc::{AllocError, Global};

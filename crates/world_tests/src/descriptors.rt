@@ -1,6 +1,6 @@
 //! A realm from its making on. Expected digests were computed by `sha256sum` from the bytes that each comment writes out.
 
-use granule_state::Pa;
+use memory_map::Pa;
 use realm_desc::{HashAlgorithm, Realm, RealmState, Rec, Space};
 use rmm_spec::Measurement;
 use std::alloc::{AllocError, Global};

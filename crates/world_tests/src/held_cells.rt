@@ -1,7 +1,7 @@
 //! Held cells in a list of their own.
 
 use command_core::{Cell, Held, HeldPairs};
-use granule_state::Pa;
+use memory_map::Pa;
 use rmm_spec::Tag;
 use std::test::Fail;
 

@@ -3,7 +3,7 @@
 
 use crate::tables;
 use command_core::{Cell, CpuPlace, Descriptor, Held, HeldPairs, Next, next_lock};
-use granule_state::{Config, Pa};
+use memory_map::{Config, Pa};
 use realm_desc::{HashAlgorithm, Realm, Rec, Space};
 use rmi_codec::read_command;
 use rmm_spec::{Command, Entry, Place};

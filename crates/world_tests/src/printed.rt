@@ -2,7 +2,7 @@
 
 use crate::walking::{RIPAS, TABLES};
 use crate::worlds::program;
-use granule_state::Config;
+use memory_map::Config;
 use rmm_spec::Command;
 use scenario::{Due, Scenario, Will, is_scenario};
 use std::alloc::Global;

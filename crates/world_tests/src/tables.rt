@@ -3,7 +3,7 @@
 
 use crate::plans::{expect_ready, expect_traces, inside, realm};
 use command_core::{Cell, CpuPlace};
-use granule_state::Pa;
+use memory_map::Pa;
 use realm_desc::{Rec, RipasRequest};
 use rmm_spec::{Entry, Place, Ripas};
 use rtt_table::Table;

@@ -3,7 +3,7 @@
 
 use crate::plans::{inside, realm, rec};
 use command_core::{Cell, CpuPlace, Held, HeldPairs, Next, Side, decide, next_lock};
-use granule_state::{Config, Pa};
+use memory_map::{Config, Pa};
 use rmi_codec::read_command;
 use rmm_spec::{Change, Command, Entry, Place, Reply};
 use rtt_table::Table;

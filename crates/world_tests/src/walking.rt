@@ -2,7 +2,7 @@
 //! the one that sets the most.
 
 use crate::worlds::{expect_run, expect_texts, opened, play, program, two_cpus};
-use granule_state::Config;
+use memory_map::Config;
 use rmm_spec::Command;
 use std::alloc::Global;
 use std::fmt::Write;

@@ -3,10 +3,10 @@
 ghost use Rattle.std.specs.Prelude.{◌<◌};
 
 use crate::monitors::job::Job;
-use granule_state::GRANULE_BYTES;
+use drawn_scenarios::{DEEP_SPAN, DeepLife, command};
+use memory_map::GRANULE_BYTES;
 use rand::RngExt;
 use rand_xoshiro::Xoshiro256PlusPlus;
-use realm_lives::{DEEP_SPAN, DeepLife, command};
 use rmm_spec::{Command, FunctionId};
 use std::alloc::{AllocError, Global};
 

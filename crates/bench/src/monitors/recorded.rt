@@ -9,7 +9,7 @@ use crate::monitors::cpus::{parted, work_all};
 use crate::monitors::job::Job;
 use crate::monitors::started::started;
 use anyhow::{Result, bail};
-use granule_state::Config;
+use memory_map::Config;
 use monitor::{Certificate, History, Monitor, Queue, ScribePass, Site, fit_a_history};
 use std::alloc::{AllocError, Global};
 use std::sync::Wait;

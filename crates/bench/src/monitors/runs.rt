@@ -4,7 +4,7 @@ use crate::judged::{are_yes, replies_of};
 use crate::monitors::random::{CPUS, GRANULES, case, drawn_jobs};
 use crate::monitors::recorded::recorded;
 use anyhow::{Context, Result, bail};
-use granule_state::Config;
+use memory_map::Config;
 use monitor::{Certificate, History, Queue};
 use rand_core::SeedableRng;
 use rand_xoshiro::Xoshiro256PlusPlus;

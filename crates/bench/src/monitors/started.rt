@@ -6,7 +6,7 @@ ghost use Rattle.monitor.specs.Executed.{ArePaired};
 use crate::monitors::cpu::Cpu;
 use crate::monitors::cpus::paired;
 use anyhow::Result;
-use granule_state::Config;
+use memory_map::Config;
 use monitor::{Monitor, Queue, ScribePass, Site};
 use std::alloc::Global;
 use std::sync::ledger::Blank;

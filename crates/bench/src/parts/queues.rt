@@ -5,7 +5,7 @@ mod queued;
 
 use crate::timing::Timing;
 use anyhow::{Context, Result, bail};
-use granule_state::Config;
+use memory_map::Config;
 use std::alloc::Global;
 use std::sync::Wait;
 use std::thread::Threads;

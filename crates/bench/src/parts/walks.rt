@@ -4,12 +4,11 @@
 
 ghost use Rattle.std.specs.Prelude.{◌+◌, ◌*◌, ◌<◌, ◌≤◌};
 ghost use Rattle.rmm_spec.specs.TableCells.{IsWalkable};
-ghost use Rattle.rtt_walk.specs.Plain.{cells_from};
+ghost use Rattle.rtt_table.specs.Plain.{cells_from};
 
 use anyhow::{Context, Result, bail};
-use granule_state::{Config, GRANULE_BYTES, Ipa, Pa};
-use rtt_table::{Entry, Place, Ripas, Table};
-use rtt_walk::walk;
+use memory_map::{Config, GRANULE_BYTES, Ipa, Pa};
+use rtt_table::{Entry, Place, Ripas, Table, walk};
 use std::alloc::{AllocError, Global};
 use walk_tests::{PlainCells, is_walkable};
 

@@ -3,10 +3,9 @@
 ghost use Rattle.std.specs.Prelude.{◌<◌};
 
 use anyhow::{Context, Result, bail};
-use drawn_scenarios::{Dice, Granules, Sharing, drafted_command, edged_command};
+use drawn_scenarios::{DeepLife, Dice, Granules, Sharing, drafted_command, edged_command};
 use flat_machine::{Stepped, TwoMachines};
-use granule_state::Config;
-use realm_lives::DeepLife;
+use memory_map::Config;
 use std::alloc::Global;
 
 /// How many steps a run has.

@@ -4,7 +4,7 @@ use crate::judged::are_yes;
 use crate::worlds::turning::{finish, opened_for, turned};
 use anyhow::{Context, Result, bail};
 use drawn_scenarios::{Draft, scenario_of};
-use granule_state::Config;
+use memory_map::Config;
 use rmi_codec::read_command;
 use scenario::{Due, Scenario};
 use std::alloc::Global;

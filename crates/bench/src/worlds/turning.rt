@@ -1,7 +1,7 @@
 //! Worlds, opened and turned.
 
 use anyhow::{Result, bail};
-use granule_state::Config;
+use memory_map::Config;
 use opening_tests::can_open;
 use rmm_spec::Command;
 use scenario::{Scenario, copied_programs};

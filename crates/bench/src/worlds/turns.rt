@@ -4,8 +4,8 @@ ghost use Rattle.std.specs.Prelude.{◌<◌};
 
 use crate::worlds::turning::{opened, turned};
 use anyhow::{Context, Result};
-use granule_state::Config;
-use realm_lives::{LENGTH, Life, Pages};
+use drawn_scenarios::{LENGTH, Life, Pages};
+use memory_map::Config;
 use rmm_spec::Command;
 use std::alloc::{AllocError, Global};
 use world::{Turned, Will, World};

@@ -3,7 +3,7 @@
 ghost use Rattle.std.specs.Prelude.{◌≡◌};
 ghost use Rattle.explain_page.specs.Head.{head_text};
 
-use markup::Markup;
+use crate::Markup;
 
 /// A part of the head.
 #[derive(Clone, Copy)]

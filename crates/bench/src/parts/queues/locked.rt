@@ -4,8 +4,8 @@ ghost use Rattle.std.specs.Prelude.{◌<◌};
 
 use crate::parts::queues::{CALL, CALLS, CAPACITY, REPLY};
 use crate::timing::Timing;
-use granule_state::Config;
 use history::{Event, History};
+use memory_map::Config;
 use rmi_codec::{read_command, read_reply};
 use std::alloc::{AllocError, Global};
 use std::collections::VecDeque;

@@ -3,9 +3,9 @@
 use crate::parts::queues::{CALL, CALLS, CAPACITY, REPLY};
 use crate::timing::Timing;
 use event_queue::Recorder;
-use granule_state::Config;
 use history::History;
-use queue_runs::{Calls, record_beside};
+use memory_map::Config;
+use queue_threads::{Calls, record_beside};
 use std::alloc::Global;
 use std::io;
 use std::sync::Wait;

@@ -2,7 +2,7 @@ use Rattle.std.proofs.Common.{List, ℕ, suc, take, drop, subst, arith, Bor}
 use Rattle.std.specs.List.{flat_map}
 use Rattle.std.proofs.lemmas.Result.{err_from_is_err_and}
 use Rattle.std.proofs.lemmas.List.{take_all}
-use Rattle.line_pieces.proofs.Pieces.{flat_map_at, flat_map-next}
+use Rattle.rmi_codec.proofs.Pieces.{flat_map_at, flat_map-next}
 use Rattle.certificate.specs.Faults.{IsFaultOf}
 use Rattle.certificate.specs.Pieces.{HasRead}
 use Rattle.certificate.proofs.PieceLemmas.{IsFaultOf-whole, IsCertificateText-whole}

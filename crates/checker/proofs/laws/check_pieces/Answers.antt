@@ -6,7 +6,7 @@ use Rattle.rmm_spec.specs.HistoryText.{IsHistoryText}
 use Rattle.checker.specs.Session.{HasJudged}
 use Rattle.checker.proofs.Verdicts.{OnErr-always}
 use Rattle.checker.proofs.laws.check_pieces.Goals as goal
-use Rattle.line_pieces.proofs.Pieces.{flat_map-next}
+use Rattle.rmi_codec.proofs.Pieces.{flat_map-next}
 
 pub returns-in-Err-NoMemory-clause-refused : goal.returns-in-Err-NoMemory-clause-refused
 returns-in-Err-NoMemory-clause-refused c = inl (rw c.in-Err-NoMemory.field-0-is at c.in-Err-NoMemory.ensures.fault)

@@ -1,6 +1,6 @@
 -- The realm is put back, and then the REC that was read before.
 use Rattle.command_core.proofs.Common.{◌∙◌, [], ap, replaced_all, sym}
-use Rattle.walk_laws.specs.TableCells.{realm_cells, rec_cells}
+use Rattle.world_laws.specs.TableCells.{realm_cells, rec_cells}
 use Rattle.command_core.proofs.Puts.{replaced_all-append}
 use Rattle.command_core.proofs.put_cells.put_records.Goals as goal
 

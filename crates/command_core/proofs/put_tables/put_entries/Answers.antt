@@ -1,6 +1,6 @@
 use Rattle.command_core.proofs.Common.{◌∙◌, ◌∷◌, Rtt, Undelegated, ap, held_at, replaced_all, replaced_cells, sym}
 use Rattle.shape_laws.specs.Whole.{entries_changed}
-use Rattle.walk_laws.specs.TableCells.{tag_cells, realm_cells, rec_cells}
+use Rattle.world_laws.specs.TableCells.{tag_cells, realm_cells, rec_cells}
 use Rattle.command_core.specs.NewCells.{new_cell}
 use Rattle.command_core.proofs.Puts.{table-last}
 use Rattle.command_core.proofs.put_tables.put_entries.Goals as goal

@@ -1,6 +1,6 @@
 -- The three parts, one behind the other.
 use Rattle.std.proofs.Common.{◌≡◌, List, ℕ, ◌++◌, ap, subst, ◌∙◌}
-use Rattle.markup.specs.Pieces.{texts}
+use Rattle.explain_page.specs.Pieces.{texts}
 use Rattle.rmm_spec.specs.VerdictText.{verdict_line}
 use Rattle.explain_page.specs.Head.{head_text, headline_pieces, style_pieces, title_pieces}
 use Rattle.explain_page.proofs.Appended.{texts-three}

@@ -1,5 +1,5 @@
 use Rattle.std.proofs.Common.{List, ℕ, ap, subst, sym, ◌∙◌, ◌++◌}
-use Rattle.markup.specs.Pieces.{texts}
+use Rattle.explain_page.specs.Pieces.{texts}
 use Rattle.rmm_spec.specs.declared.verdict.Verdict.{Verdict}
 use Rattle.rmm_spec.specs.VerdictText.{verdict_line}
 use Rattle.explain_page.specs.Head.{head_pieces, head_text}

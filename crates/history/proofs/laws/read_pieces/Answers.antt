@@ -1,7 +1,7 @@
 use Rattle.std.proofs.Common.{List, ℕ, suc, drop, subst, Bor}
 use Rattle.std.specs.List.{flat_map}
 use Rattle.std.proofs.lemmas.Result.{err_from_is_err_and}
-use Rattle.line_pieces.proofs.Pieces.{flat_map_at}
+use Rattle.rmi_codec.proofs.Pieces.{flat_map_at}
 use Rattle.history.specs.Faults.{IsFaultOf}
 use Rattle.history.proofs.laws.read_pieces.Goals as goal
 

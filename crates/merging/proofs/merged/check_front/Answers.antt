@@ -1,6 +1,6 @@
 use Rattle.merging.proofs.Common.{◌+◌, ◌<◌, ◌∙◌, ◌≡◌, ◌≤◌, Some, ap, arith, happened_seen, known_front, lasts_in, length, no_lasts, slice_get, stand_at, stands_in, starts, subst, sym, ℕ}
 use Rattle.std.proofs.lemmas.Option.{none-some}
-use Rattle.granule_names.specs.Renamed.{lasts_with}
+use Rattle.merging.specs.Renamed.{lasts_with}
 use Rattle.merging.specs.Merge.{IsWalkedTo}
 use Rattle.merging.specs.Naming.{events_named, told_slot}
 use Rattle.merging.specs.Refusals.{Refuses, IsRefused}

@@ -1,8 +1,8 @@
 use Rattle.merging.proofs.Common.{◌∙◌, ◌≡◌, Some, ap, arith, happened_seen, known_front, lasts_in, length, slice_get, slice_get_within, sym, take}
 use Rattle.std.proofs.Math.Seq.{take-length}
 use Rattle.std.proofs.lemmas.Result.{err_from_is_err_and}
-use Rattle.granule_names.specs.Names.{names_from}
-use Rattle.granule_names.specs.Renamed.{lasts_with, moment_addresses}
+use Rattle.merging.specs.Names.{names_from}
+use Rattle.merging.specs.Renamed.{lasts_with, moment_addresses}
 use Rattle.merging.specs.Naming.{names_of}
 use Rattle.merging.proofs.NamingLaws.{lasts_after-next, names_of-next, IsUnnamed-next}
 use Rattle.merging.proofs.RunLaws.{known_front-none, known_front-some, length-known_front}

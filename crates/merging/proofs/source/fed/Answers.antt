@@ -1,5 +1,5 @@
 use Rattle.std.proofs.Common.{◌++◌, sym, subst, append_assoc}
-use Rattle.recorded_events.specs.Faults as reading
+use Rattle.merging.specs.Faults as reading
 use Rattle.merging.proofs.source.fed.Goals as goal
 
 pub returns-in-Some : goal.returns-in-Some

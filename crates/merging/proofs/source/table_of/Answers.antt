@@ -1,5 +1,5 @@
 use Rattle.std.proofs.Common.{[], subst, append-nil}
-use Rattle.recorded_events.specs.Faults as reading
+use Rattle.merging.specs.Faults as reading
 use Rattle.merging.proofs.source.table_of.Goals as goal
 
 pub returns-in-Some-clause-fault : goal.returns-in-Some-clause-fault

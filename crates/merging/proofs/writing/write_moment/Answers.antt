@@ -1,7 +1,7 @@
 use Rattle.merging.proofs.Common.{◌∙◌, ap, stand_seen}
 use Rattle.std.proofs.lemmas.Result.{MatchResult-weaker}
 use Rattle.rmi_view.specs.Seen.{command_seen, reply_seen}
-use Rattle.recorded_events.specs.Seen.{moment_seen}
+use Rattle.merging.specs.SeenEvents.{moment_seen}
 use Rattle.merging.proofs.CutLaws.{IsCut-call, IsCut-commit, IsCut-return}
 use Rattle.merging.proofs.writing.write_moment.Goals as goal
 

@@ -1,7 +1,7 @@
 use Rattle.std.proofs.Common.{◌≡◌, ℕ, ◌+◌, ◌<◌}
 use Rattle.std.specs.List.{AllByRecursion}
 use Rattle.rmm_spec.specs.CommandText.{IsCommand}
-use Rattle.certified_laws.specs.Programs.{commands_below}
+use Rattle.world_laws.specs.Programs.{commands_below}
 use Rattle.world.specs.Opening.{programs_of}
 use Rattle.opening_tests.proofs.programs.can_open.Given as goal
 

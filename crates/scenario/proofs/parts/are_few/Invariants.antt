@@ -1,5 +1,5 @@
 use Rattle.std.proofs.Common.{◌≡◌, ◌+◌, drop, length, map, sum}
-use Rattle.scenario.specs.Seen.{seen_programs}
+use Rattle.scenario.specs.SeenPrograms.{seen_programs}
 use Rattle.scenario.proofs.parts.are_few.Given as goal
 
 abbrev pub invariant-loop-program : goal.invariant-loop-program

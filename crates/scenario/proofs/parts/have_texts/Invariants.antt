@@ -1,7 +1,7 @@
 use Rattle.std.proofs.Common.{◌↔◌, drop}
 use Rattle.std.specs.List.{AllByRecursion}
 use Rattle.rmm_spec.specs.CommandText.{IsCommand}
-use Rattle.scenario.specs.Seen.{seen_programs}
+use Rattle.scenario.specs.SeenPrograms.{seen_programs}
 use Rattle.scenario.proofs.parts.have_texts.Given as goal
 
 abbrev pub invariant-loop-program : goal.invariant-loop-program

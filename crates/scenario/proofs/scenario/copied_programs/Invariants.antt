@@ -1,5 +1,5 @@
 use Rattle.std.proofs.Common.{◌≡◌, ◌++◌, drop}
-use Rattle.scenario.specs.Seen.{seen_programs}
+use Rattle.scenario.specs.SeenPrograms.{seen_programs}
 use Rattle.scenario.proofs.scenario.copied_programs.Given as goal
 
 abbrev pub invariant-loop-program : goal.invariant-loop-program

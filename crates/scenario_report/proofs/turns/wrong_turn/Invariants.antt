@@ -1,6 +1,6 @@
 -- The texts so far are turns.
 use Rattle.std.proofs.Common.{drop}
-use Rattle.scenario_told.specs.Flaws.{AreTurns}
+use Rattle.scenario_report.specs.Flaws.{AreTurns}
 use Rattle.scenario_report.proofs.turns.wrong_turn.Given as goal
 
 abbrev pub invariant-loop-index : goal.invariant-loop-index

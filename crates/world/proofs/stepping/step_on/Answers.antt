@@ -4,7 +4,7 @@ use Rattle.shape_laws.specs.Whole.{side_changed}
 use Rattle.command_core.specs.Changed.{hold_of, hold_changed}
 use Rattle.command_core.specs.Decided.{answer_on}
 use Rattle.command_core.specs.Seen.{known_cell}
-use Rattle.certified_laws.proofs.Accepted.{refused-is_local}
+use Rattle.world_laws.proofs.Accepted.{refused-is_local}
 use Rattle.world.proofs.Commits.{refused-unchanged}
 use Rattle.world.proofs.stepping.step_on.Goals as goal
 

@@ -1,6 +1,6 @@
 use Rattle.std.proofs.Common.{◌≡◌, IfOk, sym, subst, ◌∙◌}
 use Rattle.rmm_spec.specs.World.{opening_world}
-use Rattle.scenario.specs.Seen.{seen_programs}
+use Rattle.scenario.specs.SeenPrograms.{seen_programs}
 use Rattle.world.specs.Opening.{CanOpen}
 use Rattle.world.specs.World.{world_of}
 use Rattle.world_runs.specs.Played.{program_of}

@@ -7,7 +7,7 @@ use Rattle.rmm_spec.specs.World.{World}
 use Rattle.world.specs.World.{world_of}
 use Rattle.world_runs.specs.Played.{program_of, GoesRound}
 use Rattle.world_runs.proofs.One.{one-world}
-use Rattle.world_runs.proofs.Printing.{IsPlayed-from, config-opening}
+use Rattle.world_runs.proofs.Printed.{IsPlayed-from, config-opening}
 use Rattle.world_runs.proofs.run.played.Goals as goal
 
 pub take_listed-requires : goal.take_listed-requires

@@ -2,7 +2,7 @@ use Rattle.world.specs.World.{world_of}
 use Rattle.world_laws.proofs.Turned.{moves_of_turns}
 use Rattle.rmm_spec.specs.World.{opening_world}
 use Rattle.world_runs.specs.Played.{program_of}
-use Rattle.world_runs.proofs.Printing.{IsPrinted-from}
+use Rattle.world_runs.proofs.Printed.{IsPrinted-from}
 use Rattle.world_runs.proofs.Turning.{TurnAll-exact}
 use Rattle.world_runs.proofs.run.print_played.Goals as goal
 

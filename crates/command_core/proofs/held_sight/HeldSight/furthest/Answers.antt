@@ -1,7 +1,7 @@
 use Rattle.std.proofs.Common.{ℕ, ◌+◌, ◌-◌, ◌*◌, ◌≤◌, min, Bool, arith, mul-le-mul_right, div-mul-le_self}
 use Rattle.rmm_spec.specs.declared.accepted.Stretch.{Stretch}
 use Rattle.rmm_spec.specs.Walk.{entry_size, table_size, table_number}
-use Rattle.walk_laws.specs.SeenState.{seen_state}
+use Rattle.world_laws.specs.SeenState.{seen_state}
 use Rattle.command_core.specs.Furthest as spec
 use Rattle.command_core.proofs.Stretches.{leading-le}
 use Rattle.command_core.proofs.held_sight.HeldSight.furthest.Goals as goal

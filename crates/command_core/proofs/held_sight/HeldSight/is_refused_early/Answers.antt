@@ -1,5 +1,5 @@
 use Rattle.command_core.proofs.Common.{◌∙◌, ap, seen_state, sym}
-use Rattle.walk_laws.specs.Walking.{is_refused_early}
+use Rattle.world_laws.specs.Walking.{is_refused_early}
 use Rattle.command_core.proofs.Walked.{outside-walk, owned-walk}
 use Rattle.command_core.proofs.held_sight.HeldSight.is_refused_early.Goals as goal
 

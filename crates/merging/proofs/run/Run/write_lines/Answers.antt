@@ -2,7 +2,7 @@ use Rattle.merging.proofs.Common.{◌<◌, ◌∙◌, ◌≡◌, ◌≤◌, Appe
 use Rattle.std.proofs.Math.Seq.{take-length}
 use Rattle.std.proofs.lemmas.Option.{none-some}
 use Rattle.std.proofs.lemmas.Result.{err_from_is_err_and}
-use Rattle.granule_names.specs.Renamed.{lasts_with}
+use Rattle.merging.specs.Renamed.{lasts_with}
 use Rattle.merging.specs.Merge.{Merge, event_lines, commit_lines}
 use Rattle.merging.specs.Naming.{told_slot}
 use Rattle.merging.proofs.CutLaws.{IsCut-at}

@@ -1,6 +1,6 @@
 use Rattle.spec_machine.proofs.Common.{◌∙◌, Rd, RecRecord, ap, has_tag, is_some, rec_inside, sound_in, state_of, sym}
 use Rattle.std.proofs.lemmas.Bool.{false≢true}
-use Rattle.rmm_sound.proofs.Applies.{inside_running}
+use Rattle.rmm_laws.proofs.Applies.{inside_running}
 use Rattle.rec_steps.specs.Held.{IsHeld}
 use Rattle.rec_steps.proofs.Steps.{rec_at-held}
 use Rattle.spec_machine.proofs.machine.Machine.answer_here.Goals as goal

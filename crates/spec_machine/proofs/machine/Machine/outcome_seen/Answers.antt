@@ -1,5 +1,5 @@
 use Rattle.spec_machine.proofs.Common.{◌∙◌, ◌≡◌, ap, false, is_inside, outcome, rec_inside, sound_in, state_of, sym, true}
-use Rattle.rmm_sound.proofs.Applies.{inside_running}
+use Rattle.rmm_laws.proofs.Applies.{inside_running}
 use Rattle.spec_machine.proofs.Memory.{owner_tagged}
 use Rattle.command_rows.specs.Answers.{inside_answer}
 use Rattle.command_rows.proofs.Outcomes.{inside, owned, outcome-inside, outcome-outside}

@@ -1,6 +1,6 @@
 use Rattle.spec_machine.proofs.Common.{◌∙◌, Rec, ap, has_tag, is_some, sound_in, state_of, sym}
 use Rattle.std.proofs.lemmas.Bool.{false≢true}
-use Rattle.rmm_sound.proofs.Applies.{inside_running}
+use Rattle.rmm_laws.proofs.Applies.{inside_running}
 use Rattle.spec_machine.proofs.machine.Machine.rec_here.Goals as goal
 
 pub unreachable-requires : goal.unreachable-requires

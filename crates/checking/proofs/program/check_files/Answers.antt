@@ -1,5 +1,0 @@
-use Rattle.checking.proofs.Judged.{EndsCheck-judged}
-use Rattle.checking.proofs.program.check_files.Goals as goal
-
-pub returns : goal.returns
-returns g c = EndsCheck-judged c.args.paths _ _ _ c.check_sources.result c.check_sources.ensures

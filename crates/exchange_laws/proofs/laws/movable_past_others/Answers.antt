@@ -1,6 +1,0 @@
-use Rattle.exchange_laws.proofs.Looks.{IsMovable-from_passes}
-use Rattle.exchange_laws.proofs.laws.movable_past_others.Goals as goal
-
-pub returns : goal.returns
-returns c = λ history place lines front back moved last old new is_history kept.
-    IsMovable-from_passes history is_history place lines old kept front back moved last new

@@ -1,5 +1,0 @@
-use Rattle.exchange_laws.proofs.Growing.{IsKept-nil}
-use Rattle.exchange_laws.proofs.laws.no_line_is_kept_at_first.Goals as goal
-
-pub returns : goal.returns
-returns c = IsKept-nil

@@ -1,6 +1,0 @@
-use Rattle.exchange_laws.proofs.Steps.{nowhere_unless_put}
-use Rattle.exchange_laws.proofs.laws.nowhere_at_a_return.Goals as goal
-
-pub returns : goal.returns
-returns c = λ history place cpu number given lines state is_history kept.
-    nowhere_unless_put history is_history place lines state kept cpu number given

@@ -1,4 +1,0 @@
-pub mod NameLaws
-pub mod RoleLaws
-pub mod WordLaws
-mod PageLaws

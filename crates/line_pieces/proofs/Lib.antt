@@ -1,2 +1,0 @@
-pub mod LineLengths
-pub mod Pieces

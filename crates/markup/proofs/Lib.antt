@@ -1,4 +1,0 @@
-mod Lengths
-mod Marks
-mod Pieces
-mod Plain

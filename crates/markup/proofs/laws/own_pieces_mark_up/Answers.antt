@@ -1,5 +1,0 @@
-use Rattle.markup.proofs.Marks.{own_mark_up}
-use Rattle.markup.proofs.laws.own_pieces_mark_up.Goals as goal
-
-pub returns : goal.returns
-returns g c = own_mark_up g.M.Markup.text

@@ -1,4 +1,0 @@
-use Rattle.queue_runs.proofs.recording.record_beside.Given as goal
-
-abbrev pub ghosts-record_named : goal.ghosts-record_named
-ghosts-record_named g a = record { queue = a.recorder.now.queue }

@@ -1,5 +1,0 @@
-pub mod GrammarLaws
-mod SlotLaws
-mod SpellingLaws
-mod TableLaws
-mod PieceLaws

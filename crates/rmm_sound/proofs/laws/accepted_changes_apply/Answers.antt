@@ -1,8 +1,0 @@
-use Rattle.rmm_sound.proofs.Runs.{done_applies, reached_applies}
-use Rattle.rmm_sound.proofs.laws.accepted_changes_apply.Goals as goal
-
-pub returns-clause-done : goal.returns-clause-done
-returns-clause-done c = done_applies
-
-pub returns-clause-reached : goal.returns-clause-reached
-returns-clause-reached c = reached_applies

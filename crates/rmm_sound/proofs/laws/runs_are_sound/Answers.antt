@@ -1,5 +1,0 @@
-use Rattle.rmm_sound.proofs.laws.runs_are_sound.Goals as goal
-use Rattle.rmm_sound.proofs.Runs.{opened_run_sound}
-
-pub returns : goal.returns
-returns c = opened_run_sound

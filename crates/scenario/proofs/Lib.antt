@@ -1,0 +1,13 @@
+mod Items
+mod ReadTo
+mod KnownKeys
+mod TurnTexts
+mod Values
+mod Faults
+mod OneAnswer
+mod OneScenario
+mod OneFault
+mod Worked
+mod AsciiTexts
+mod Appends
+mod Members

@@ -1,4 +1,0 @@
-pub mod TomlDocument
-pub mod ScenarioText
-pub mod Seen
-pub mod Sizes

@@ -1,2 +1,0 @@
-pub mod Flaws
-pub mod Keys

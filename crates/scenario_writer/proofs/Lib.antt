@@ -1,3 +1,0 @@
-mod AsciiTexts
-mod Appends
-mod Members

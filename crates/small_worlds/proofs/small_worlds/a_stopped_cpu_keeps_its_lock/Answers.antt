@@ -1,5 +1,0 @@
-use Rattle.small_worlds.proofs.SmallRuns.{stopped_keeps}
-use Rattle.small_worlds.proofs.small_worlds.a_stopped_cpu_keeps_its_lock.Goals as goal
-
-pub returns : goal.returns
-returns c = stopped_keeps

@@ -1,5 +1,0 @@
-use Rattle.small_worlds.proofs.SmallRuns.{word_order_circle}
-use Rattle.small_worlds.proofs.small_worlds.word_order_circles.Goals as goal
-
-pub returns : goal.returns
-returns c = word_order_circle

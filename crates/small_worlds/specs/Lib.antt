@@ -1,3 +1,0 @@
-pub mod SmallWholes
-pub mod SmallWorlds
-pub mod Strays

@@ -1,5 +1,0 @@
-use Rattle.verdict_laws.proofs.SomeVerdict.{a_verdict_exists}
-use Rattle.verdict_laws.proofs.laws.a_verdict_exists.Goals as goal
-
-pub returns : goal.returns
-returns c = a_verdict_exists

@@ -1,5 +1,0 @@
-use Rattle.verdict_laws.proofs.OneVerdict.{one_verdict}
-use Rattle.verdict_laws.proofs.laws.one_verdict.Goals as goal
-
-pub returns : goal.returns
-returns c = one_verdict

@@ -1,6 +1,0 @@
-use Rattle.walk_laws.proofs.Misfits.{misfit-none}
-use Rattle.walk_laws.proofs.laws.misfit_walks_have_no_whole.Goals as goal
-
-pub returns : goal.returns
-returns c = λ config side held cells places rd ipa misfit shaped agrees.
-    misfit-none (record { cells = cells; places = places; shaped = shaped; agrees = agrees }) rd ipa misfit
