@@ -12,24 +12,22 @@ import sys
 CRATES = pathlib.Path(__file__).resolve().parent.parent / "crates"
 CITED = re.compile(r"\bRattle\.(\w+)\.proofs\b|\b(\w+)::proofs::")
 # crates that are made to be cited: lemmas, and laws on the definitions
-LAWS = {"lemmas", "spec_lemmas", "rmm_sound", "rmm_laws", "shape_laws", "walk_laws", "world_laws", "certified_laws", "order_laws", "exchange_laws"}
+LAWS = {"lemmas", "spec_lemmas", "rmm_laws", "shape_laws", "world_laws", "order_laws"}
 # of each other crate whose lemmas are cited, where, and why
 NAMED = {
     "certificate": ({"checker", "text_writers"}, "from one piece of a certificate to the next; a text that was written, read"),
-    "checker": ({"exchange_laws", "explain", "finding", "order_laws", "verdict_laws"}, "a check's run, line by line, with which these go on"),
+    "checker": ({"explain", "finding", "order_laws", "verdict_laws"}, "a check's run, line by line, with which these go on"),
     "command_core": ({"granule_lock", "world"}, "granules that are all different, and which are held"),
     "command_rows": ({"command_core", "flat_machine", "spec_machine"}, "what a row's answer is by the definitions"),
     "commit_tickets": ({"monitor"}, "the journal, gone through beside the tokens"),
     "conditions": ({"explain"}, "the first condition that fails"),
     "event_queue": ({"monitor"}, "the journal's commits beside the events"),
-    "granule_names": ({"merging"}, "names that are apart"),
     "granule_places": ({"machine_cells"}, "no place is two granules'"),
     "history": ({"event_queue", "merging", "text_writers"}, "a history's index and its text, one event longer; a text that was written, read"),
-    "line_pieces": ({"certificate", "checker", "history", "merging", "recorded_events"}, "the pieces of a line, for each text of lines"),
     "machine_cells": ({"explain", "spec_machine"}, "a walk's links, and what is kept of a granule"),
-    "monitor": ({"bench", "monitor_runs", "refused_runs", "thread_tests"}, "the tokens of all CPUs, with one CPU's changed"),
+    "monitor": ({"bench", "monitor_runs", "refused_memory", "thread_tests"}, "the tokens of all CPUs, with one CPU's changed"),
     "rec_steps": ({"command_rows", "spec_machine"}, "the step that an answer inside of a REC is"),
-    "rmi_codec": ({"certificate", "checker", "history", "line_pieces", "merging", "recorded_events"}, "the texts of numbers and replies"),
+    "rmi_codec": ({"certificate", "checker", "history", "merging", "text_writers"}, "the texts of numbers and replies, and the pieces of a line"),
     "world": ({"world_runs"}, "what a turn makes is one value"),
 }
 

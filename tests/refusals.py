@@ -6,7 +6,7 @@ usage: refusals.py [--crates FOLDER] [ROW..]
 The programs are those that `rt run` leaves in crates/NAME/out, or below FOLDER. Each row is a run of one of them, which is
 repeated with its first request refused, its second, and so on, until none is left to refuse. Such a run may print and tell what
 it does with ample memory, and `threads` any texts with the right verdict `yes`; or it prints nothing, tells its line for memory
-that is refused, and ends with status 3. `refused_runs` plays on behind a refusal: where one request alone is refused it has to
+that is refused, and ends with status 3. `refused_memory` plays on behind a refusal: where one request alone is refused it has to
 print all the same, or, where a commit met the refusal, what is written down here. At any other run the script ends with status 1.
 Needs gcc, for `refuse.c`.
 """
@@ -33,7 +33,7 @@ PAIRS = {
     "bad_line": pair("leading-zero", "one-granule"),
 }
 
-# What a row of `refused_runs` prints where one of its commits is refused: the answers, the history, the certificate, the verdict.
+# What a row of `refused_memory` prints where one of its commits is refused: the answers, the history, the certificate, the verdict.
 STOPPED = {
     "full_queue": [
         ("no memory/stopped/stopped", "rmh1 4 1/c 0 0 c4000151 1000", "", "yes 0"),
@@ -146,8 +146,8 @@ def rows_of(folder):
         told = ["rmmcheck: no memory", "rmmcheck: cannot start a thread"]
         rows[f"threads {name}"] = Row("rmmcheck", words, told, is_judged=True)
     for name in PLAYED:
-        told = ["refused_runs: no memory"]
-        rows[f"refused {name}"] = Row("refused_runs", [name], told, others=stopped(name), goes_on=True)
+        told = ["refused_memory: no memory"]
+        rows[f"refused {name}"] = Row("refused_memory", [name], told, others=stopped(name), goes_on=True)
     return rows
 
 

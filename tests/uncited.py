@@ -14,7 +14,7 @@ FOUND = {
     "crates/machine_cells/proofs/Alike.antt": {"SameTo-nil", "SameTo-more", "SameTo-set"},
     "crates/machine_cells/proofs/Kept.antt": {"read_or"},
     "crates/rtt_table/proofs/Joined.antt": {"columns-at"},
-    "crates/scenario_text/proofs/Worked.antt": {
+    "crates/scenario/proofs/Worked.antt": {
         "IsScenarioText-stopping", "IsFirstFault-no_cpus", "IsFirstFault-third_cpu", "not_memory-comment"},
 }
 

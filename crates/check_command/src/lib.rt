@@ -3,7 +3,7 @@
 //! `run` takes two paths as its words, without `clap`, over which each crate is slow to prove; `ends_with` and `end_check` have the statuses;
 //! `read_history` reads a history no further than its bad line.
 //! It promises that a verdict is that of the bytes that were read, and that each fault has its cause, and its line and its status by one table.
-//! The programs `check_only`, `rmmexplain` and `rmmfind` depend on it, and `scenarios`, which parses the words of `rmmcheck`.
+//! The programs `check_only`, `rmmexplain` and `rmmfind` depend on it, and `run_commands`.
 #![tactic(auto)]
 
 mod ending;

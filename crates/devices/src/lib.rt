@@ -2,7 +2,7 @@
 //! `FileSource`, `OutputSink` and, for one line and without memory, `LineSink` are those over std's readers and writers.
 //! `read_whole` reads any source to its end in pieces of at most 4,096 bytes, and `write_whole` writes a text out, or a beginning of it and fails.
 //! A device is blamed only for a failure of its own, which is counted, and refused memory is that of the device, of the piece or of the room.
-//! `checking` and `playing` depend on it, and so the program `rmmcheck`.
+//! `check_command` and `run_commands` depend on it, and so the program `rmmcheck`.
 #![tactic(auto)]
 
 mod file;

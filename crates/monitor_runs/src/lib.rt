@@ -2,7 +2,7 @@
 //! It promises that the texts are those of a closed run: each CPU's calls are the first commands of its program, up to its end, to a commit
 //! that was refused or to a full queue; and the certificate is the journal, a linearization of the history, so that the verdict is `yes`
 //! with the count of its lines. A run that breaks off appends nothing. That a run ends, only tests show; what waits may wait for ever.
-//! `playing` depends on it.
+//! `run_commands` depends on it.
 #![tactic(auto)]
 
 mod cpu;

@@ -9,14 +9,14 @@ use thiserror::Error;
 /// Why nothing is printed. Its `Display` is its line on standard error.
 #[derive(Clone, Copy, Debug, Error)]
 pub(crate) enum Fault {
-    #[error("refused_runs: no memory")]
+    #[error("refused_memory: no memory")]
     NoMemory,
-    #[error("refused_runs: no such row")]
+    #[error("refused_memory: no such row")]
     NoSuchRow,
-    #[error("refused_runs: cannot write")]
+    #[error("refused_memory: cannot write")]
     CannotWrite,
     /// A run that isn't as it is written down here.
-    #[error("refused_runs: {0}")]
+    #[error("refused_memory: {0}")]
     Wrong(&'static str),
 }
 
