@@ -116,27 +116,20 @@ fn refuses_first_return<R: Wait>(
     two_drained && one_drained && is_stopped && goes_on
 }
 
-/// Whether that is so on a new queue.
-fn is_refused<R: Wait>(rt: &R, alloc: Global, history: &mut History) -> Result<bool, Fail>
-    requires cpus { history.old.recorded.config.cpus ≡ 2 }
-    requires empty { history.old.recorded.events ≡ [] }
-{
-    let (recorder, mut first, mut second, mut scribe, order) = of_two_cpus(alloc)?;
-    Ok(refuses_first_return(
-        rt,
+#[test]
+fn refused_return_stops_its_pass(rt: HostRuntime) -> Result<(), Fail> {
+    let mut history = empty(rt.alloc(), 4, 2)?;
+    let (recorder, mut first, mut second, mut scribe, order) = of_two_cpus(rt.alloc())?;
+    let is_so = refuses_first_return(
+        &rt,
         &recorder,
         order,
         &mut first,
         &mut second,
         &mut scribe,
-        history,
-    ))
-}
-
-#[test]
-fn refused_return_stops_its_pass(rt: HostRuntime) -> Result<(), Fail> {
-    let mut history = empty(rt.alloc(), 4, 2)?;
-    assert!(rt; is_refused(&rt, rt.alloc(), &mut history)?);
+        &mut history,
+    );
+    assert!(rt; is_so);
     let text = "rmh1 4 2\nc 0 0 c4000151 1000\nc 1 0 c4000151 2000\nr 1 0 ok\n";
     assert!(rt; has_text(rt.alloc(), &history, text)?);
     Ok(())
@@ -173,33 +166,22 @@ fn return_both<R: Wait>(
     two_drained && second_returns && first_returns
 }
 
-/// Whether nothing is refused on a new queue, of which the rest is drained then.
-fn is_drained<R: Wait>(rt: &R, alloc: Global, history: &mut History) -> Result<bool, Fail>
-    requires cpus { history.old.recorded.config.cpus ≡ 2 }
-    requires empty { history.old.recorded.events ≡ [] }
-{
-    let (recorder, mut first, mut second, mut scribe, mut order) = of_two_cpus(alloc)?;
+#[test]
+fn rest_makes_each_list_whole(rt: HostRuntime) -> Result<(), Fail> {
+    let mut history = empty(rt.alloc(), 4, 2)?;
+    let (recorder, mut first, mut second, mut scribe, mut order) = of_two_cpus(rt.alloc())?;
     let is_so = return_both(
-        rt,
+        &rt,
         &recorder,
         &mut order,
         &mut first,
         &mut second,
         &mut scribe,
-        history,
+        &mut history,
     );
     let mut passes = [first, second];
-    if !is_so || !fit_a_history(&passes) {
-        return Ok(false);
-    }
-    recorder.drain_rest(rt, &mut scribe, &mut passes, history)?;
-    Ok(true)
-}
-
-#[test]
-fn rest_makes_each_list_whole(rt: HostRuntime) -> Result<(), Fail> {
-    let mut history = empty(rt.alloc(), 4, 2)?;
-    assert!(rt; is_drained(&rt, rt.alloc(), &mut history)?);
+    assert!(rt; is_so && fit_a_history(&passes));
+    recorder.drain_rest(&rt, &mut scribe, &mut passes, &mut history)?;
     let text = "rmh1 4 2\nc 0 0 c4000151 1000\nc 1 0 c4000151 2000\nr 1 0 ok\nr 0 0 ok\n";
     assert!(rt; has_text(rt.alloc(), &history, text)?);
     Ok(())
@@ -229,20 +211,12 @@ fn record_drained<R: Wait>(
     }
 }
 
-/// Whether the CPU can go on after that on a new queue.
-fn takes_more<R: Wait>(rt: &R, alloc: Global, history: &mut History) -> Result<bool, Fail>
-    requires cpus { history.old.recorded.config.cpus ≡ 2 }
-    requires empty { history.old.recorded.events ≡ [] }
-{
-    let (recorder, mut pass, _other, mut scribe, order) = of_two_cpus(alloc)?;
-    record_drained(rt, &recorder, order, &mut pass, &mut scribe, history);
-    Ok(!pass.is_open() && !pass.is_stopped())
-}
-
 #[test]
 fn drained_queue_takes_more(rt: HostRuntime) -> Result<(), Fail> {
     let mut history = empty(rt.alloc(), 4, 2)?;
-    assert!(rt; takes_more(&rt, rt.alloc(), &mut history)? && history.len() == 1000);
+    let (recorder, mut pass, _other, mut scribe, order) = of_two_cpus(rt.alloc())?;
+    record_drained(&rt, &recorder, order, &mut pass, &mut scribe, &mut history);
+    assert!(rt; history.len() == 1000 && !pass.is_open() && !pass.is_stopped());
     Ok(())
 }
 
