@@ -338,22 +338,18 @@ fn delegate_same<S: Site + Send + Sync, R: Threads + Wait + Sync>(
     Ok((first, second, stayed_out? && !ran_out))
 }
 
-/// Whether CPU 0 is answered `ok` then, and CPU 1 that the granule is delegated, which stayed out.
-fn keeps_out<R: Threads + Wait + Sync>(rt: &R, alloc: Global) -> Result<bool, Fail> {
+#[test]
+fn holder_keeps_others_out(rt: HostRuntime) -> Result<(), Fail> {
     let config = Config::new(4, 2).ok_or("a machine of this size")?;
-    let queue = Queue::new(alloc, &config, CAPACITY)?;
-    let (first, second, stayed_out) = delegate_same::<Brand, R>(
-        rt,
-        alloc,
+    let queue = Queue::new(rt.alloc(), &config, CAPACITY)?;
+    let (first, second, stayed_out) = delegate_same::<Brand, _>(
+        &rt,
+        rt.alloc(),
         Blank::new(2),
         config,
         queue,
     )?;
-    Ok(is_answered(&first, &ok()) && is_answered(&second, &Reply::Err(1, 0)) && stayed_out)
-}
-
-#[test]
-fn holder_keeps_others_out(rt: HostRuntime) -> Result<(), Fail> {
-    assert!(rt; keeps_out(&rt, rt.alloc())?);
+    assert!(rt; is_answered(&first, &ok()) && is_answered(&second, &Reply::Err(1, 0)));
+    assert!(rt; stayed_out);
     Ok(())
 }

@@ -1,4 +1,4 @@
-use Rattle.thread_tests.proofs.gated.keeps_out.Given as goal
+use Rattle.thread_tests.proofs.gated.holder_keeps_others_out.Given as goal
 
 abbrev pub ghosts-delegate_same-S-Site : goal.ghosts-delegate_same-S-Site
 ghosts-delegate_same-S-Site g a = record { config = a.config; queue = a.queue.queue }
