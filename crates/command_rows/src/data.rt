@@ -1,6 +1,11 @@
 //! The commands that make a granule a page of a realm's protected memory, and take it back.
 
-ghost use Rattle.std.specs.Prelude.{◌≡◌};
+ghost use Rattle.std.specs.Prelude.{◌≡◌, Some, None};
+ghost use Rattle.rmm_spec.specs.declared.change.Change.TheVariants.{EntriesChanged};
+ghost use Rattle.rmm_spec.specs.declared.change.RealmUpdate.TheVariants.{PageMeasured};
+ghost use Rattle.rmm_spec.specs.declared.entry.Entry.TheVariants.{Assigned};
+ghost use Rattle.rmm_spec.specs.declared.tag.Ripas.TheVariants.{Ram};
+ghost use Rattle.rmm_spec.specs.declared.tag.Tag.TheVariants as tag;
 ghost use Rattle.rmm_spec.specs.Step.Data as spec;
 
 use crate::reply::{done, done_with};
@@ -12,38 +17,44 @@ use rmm_spec::{
     TagChange,
 };
 
+/// The words of DATA_CREATE. The digest is that of the page's content.
+#[derive(Clone, Copy)]
+pub(crate) struct DataCreate {
+    pub(crate) rd: u64,
+    pub(crate) granule: u64,
+    pub(crate) ipa: u64,
+    pub(crate) source: u64,
+    pub(crate) flags: u64,
+    pub(crate) digest: [u64; 4],
+}
+
 #[tactic(auto, unfolding(rmm_spec::specs::Step::Data::data_create, rmm_spec::specs::Step::Terms::words_of, rmm_spec::specs::Step::Terms::named, rmm_spec::specs::Lookup::realm_at))]
 #[inline(never)]
-pub(crate) fn data_create<S: Sight>(
-    sight: &S,
-    rd: u64,
-    granule: u64,
-    ipa: u64,
-    source: u64,
-    flags: u64,
-    digest: [u64; 4],
-) -> Result<Accepted, Refusal>
-    ensures { result ≡ spec.data_create (S.state sight.now) rd granule ipa source flags digest }
+pub(crate) fn data_create<S: Sight>(sight: &S, call: DataCreate) -> Result<Accepted, Refusal>
+    ensures { result ≡ spec.data_create (S.state sight.now) call.rd call.granule call.ipa call.source call.flags call.digest }
 {
-    if flags > 1 {
+    if call.flags > 1 {
         return Err(Refusal::Input(Condition::OwnFlags));
     }
-    if !is_page(ipa) {
+    if !is_page(call.ipa) {
         return Err(Refusal::Input(Condition::IpaAlign));
     }
-    let Some(realm) = sight.realm(rd) else {
+    let Some(realm) = sight.realm(call.rd) else {
         return Err(Refusal::Input(Condition::GranState));
     };
-    if !(sight.has_tag(granule, Tag::Delegated) && sight.has_tag(source, Tag::Undelegated)) {
+    if !sight.has_tag(call.granule, Tag::Delegated) {
         return Err(Refusal::Input(Condition::GranState));
     }
-    if ipa >= realm.protected_end() {
+    if !sight.has_tag(call.source, Tag::Undelegated) {
+        return Err(Refusal::Input(Condition::GranState));
+    }
+    if call.ipa >= realm.protected_end() {
         return Err(Refusal::Input(Condition::IpaBound));
     }
     if !realm.is_new() {
         return Err(Refusal::Realm(Condition::RealmState, 0));
     }
-    let end = sight.walk(rd, ipa, 3);
+    let end = sight.walk(call.rd, call.ipa, 3);
     if end.level != 3 {
         return Err(Refusal::Rtt(Condition::RttWalk, end.level));
     }
@@ -53,18 +64,32 @@ pub(crate) fn data_create<S: Sight>(
     if !is_ram(entry_ripas(end.entry)) {
         return Err(Refusal::Rtt(Condition::RtteRipas, 3));
     }
+    Ok(done(page_measured(call)))
+}
+
+// A page is entered with its content, which the realm's measurement takes in.
+#[inline(always)]
+fn page_measured(call: DataCreate) -> Change
+    ensures { result ≡ EntriesChanged call.rd 3 (spec.page_entry call.ipa (Assigned Ram call.granule))
+        (Some (record { granule = call.granule; tag = tag.Data }))
+        (Some (record { rd = call.rd; update = PageMeasured call.ipa call.flags call.digest })) None }
+{
+    let (ipa, flags, digest) = (call.ipa, call.flags, call.digest);
     let update = RealmUpdate::PageMeasured { ipa, flags, digest };
-    Ok(done(Change::EntriesChanged {
-        rd,
+    Change::EntriesChanged {
+        rd: call.rd,
         level: 3,
-        entries: page_entry(ipa, Entry::Assigned(Ripas::Ram, granule)),
+        entries: page_entry(ipa, Entry::Assigned(Ripas::Ram, call.granule)),
         page: Some(TagChange {
-            granule,
+            granule: call.granule,
             tag: Tag::Data,
         }),
-        realm: Some(RealmChange { rd, update }),
+        realm: Some(RealmChange {
+            rd: call.rd,
+            update,
+        }),
         rec: None,
-    }))
+    }
 }
 
 #[tactic(auto, unfolding(rmm_spec::specs::Step::Data::data_create_unknown, rmm_spec::specs::Step::Terms::words_of, rmm_spec::specs::Step::Terms::named, rmm_spec::specs::Lookup::realm_at))]

@@ -3,10 +3,10 @@
 ghost use Rattle.std.specs.Prelude.{◌≡◌};
 ghost use Rattle.command_rows.specs.Answers.{IsOwned, outside_answer};
 
-use crate::data::{data_create, data_create_unknown, data_destroy};
+use crate::data::{DataCreate, data_create, data_create_unknown, data_destroy};
 use crate::granule::{granule_delegate, granule_undelegate};
-use crate::realm::{realm_activate, realm_create, realm_destroy};
-use crate::rec::{rec_create, rec_destroy, rec_enter};
+use crate::realm::{RealmCreate, realm_activate, realm_create, realm_destroy};
+use crate::rec::{RecCreate, rec_create, rec_destroy, rec_enter};
 use crate::ripas::{rtt_init_ripas, rtt_set_ripas};
 use crate::sight::Sight;
 use crate::table::{rtt_create, rtt_read_entry, rtt_remove};
@@ -30,7 +30,17 @@ pub fn answer_outside<S: Sight>(sight: &S, cpu: u8, call: &Call) -> Result<Accep
             level,
             vmid,
             algo,
-        } => realm_create(sight, rd, root, width, level, vmid, algo),
+        } => realm_create(
+            sight,
+            RealmCreate {
+                rd,
+                root,
+                width,
+                level,
+                vmid,
+                algo,
+            },
+        ),
         Call::RealmDestroy { rd } => realm_destroy(sight, rd),
         Call::RecCreate {
             rd,
@@ -39,7 +49,17 @@ pub fn answer_outside<S: Sight>(sight: &S, cpu: u8, call: &Call) -> Result<Accep
             flags,
             aux0,
             aux1,
-        } => rec_create(sight, rd, rec, mpidr, flags, aux0, aux1),
+        } => rec_create(
+            sight,
+            RecCreate {
+                rd,
+                rec,
+                mpidr,
+                flags,
+                aux0,
+                aux1,
+            },
+        ),
         Call::RecDestroy { rec } => rec_destroy(sight, rec),
         Call::RecEnter { rec } => rec_enter(sight, cpu, rec),
         Call::DataCreate {
@@ -49,7 +69,17 @@ pub fn answer_outside<S: Sight>(sight: &S, cpu: u8, call: &Call) -> Result<Accep
             source,
             flags,
             digest,
-        } => data_create(sight, rd, granule, ipa, source, flags, digest),
+        } => data_create(
+            sight,
+            DataCreate {
+                rd,
+                granule,
+                ipa,
+                source,
+                flags,
+                digest,
+            },
+        ),
         Call::DataCreateUnknown { rd, granule, ipa } => data_create_unknown(
             sight, rd, granule, ipa,
         ),

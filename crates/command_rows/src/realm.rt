@@ -9,47 +9,51 @@ use command_words::{algorithm_in, is_width};
 use realm_desc::Space;
 use rmm_spec::{Accepted, Change, Condition, EntryTest, RealmChange, RealmUpdate, Refusal, Tag};
 
+/// The words of REALM_CREATE.
+#[derive(Clone, Copy)]
+pub(crate) struct RealmCreate {
+    pub(crate) rd: u64,
+    pub(crate) root: u64,
+    pub(crate) width: u64,
+    pub(crate) level: u64,
+    pub(crate) vmid: u64,
+    pub(crate) algo: u64,
+}
+
 #[tactic(auto, unfolding(rmm_spec::specs::Step::Terms::words_of, rmm_spec::specs::Step::Terms::named))]
 #[inline(never)]
-pub(crate) fn realm_create<S: Sight>(
-    sight: &S,
-    rd: u64,
-    root: u64,
-    width: u64,
-    level: u64,
-    vmid: u64,
-    algo: u64,
-) -> Result<Accepted, Refusal>
-    ensures { result ≡ spec.realm_create_told (S.uses_vmid sight.now vmid) (S.state sight.now) rd root width level vmid algo }
+pub(crate) fn realm_create<S: Sight>(sight: &S, call: RealmCreate) -> Result<Accepted, Refusal>
+    ensures { result ≡ spec.realm_create_told (S.uses_vmid sight.now call.vmid) (S.state sight.now)
+        call.rd call.root call.width call.level call.vmid call.algo }
 {
-    if rd == root {
+    if call.rd == call.root {
         return Err(Refusal::Input(Condition::Alias));
     }
-    if !is_width(width) {
+    if !is_width(call.width) {
         return Err(Refusal::Input(Condition::ParamsSupp));
     }
-    let Some(space) = Space::of(width, level) else {
+    let Some(space) = Space::of(call.width, call.level) else {
         return Err(Refusal::Input(Condition::RttNumLevel));
     };
-    if vmid > 0xff {
+    if call.vmid > 0xff {
         return Err(Refusal::Input(Condition::VmidValid));
     }
-    if !sight.has_tag(rd, Tag::Delegated) {
+    if !sight.has_tag(call.rd, Tag::Delegated) {
         return Err(Refusal::Input(Condition::GranState));
     }
-    if !sight.has_tag(root, Tag::Delegated) {
+    if !sight.has_tag(call.root, Tag::Delegated) {
         return Err(Refusal::Input(Condition::GranState));
     }
-    let Some(algorithm) = algorithm_in(sight.version(), algo) else {
+    let Some(algorithm) = algorithm_in(sight.version(), call.algo) else {
         return Err(Refusal::Input(Condition::ParamsSupp));
     };
-    let vmid = vmid as u8;
+    let vmid = call.vmid as u8;
     if sight.is_vmid_used(vmid) {
         return Err(Refusal::Input(Condition::VmidValid));
     }
     Ok(done(Change::RealmMade {
-        rd,
-        root,
+        rd: call.rd,
+        root: call.root,
         width: space.width(),
         level: space.start_level(),
         vmid,

@@ -13,53 +13,56 @@ use realm_desc::RECS;
 use rec_steps::answer_to_enter;
 use rmm_spec::{Accepted, Change, Condition, Refusal, Tag};
 
+/// The words of REC_CREATE.
+#[derive(Clone, Copy)]
+pub(crate) struct RecCreate {
+    pub(crate) rd: u64,
+    pub(crate) rec: u64,
+    pub(crate) mpidr: u64,
+    pub(crate) flags: u64,
+    pub(crate) aux0: u64,
+    pub(crate) aux1: u64,
+}
+
 #[tactic(auto, unfolding(rmm_spec::specs::Step::Rec::rec_create, rmm_spec::specs::Step::Terms::words_of, rmm_spec::specs::Step::Terms::named, rmm_spec::specs::Lookup::realm_at))]
 #[inline(never)]
-pub(crate) fn rec_create<S: Sight>(
-    sight: &S,
-    rd: u64,
-    rec: u64,
-    mpidr: u64,
-    flags: u64,
-    aux0: u64,
-    aux1: u64,
-) -> Result<Accepted, Refusal>
-    ensures { result ≡ spec.rec_create (S.state sight.now) rd rec mpidr flags aux0 aux1 }
+pub(crate) fn rec_create<S: Sight>(sight: &S, call: RecCreate) -> Result<Accepted, Refusal>
+    ensures { result ≡ spec.rec_create (S.state sight.now) call.rd call.rec call.mpidr call.flags call.aux0 call.aux1 }
 {
-    if !are_apart(rec, aux0, aux1) {
+    if !are_apart(call.rec, call.aux0, call.aux1) {
         return Err(Refusal::Input(Condition::AuxAlias));
     }
-    if flags > 1 {
+    if call.flags > 1 {
         return Err(Refusal::Input(Condition::OwnFlags));
     }
-    let Some(realm) = sight.realm(rd) else {
+    let Some(realm) = sight.realm(call.rd) else {
         return Err(Refusal::Input(Condition::GranState));
     };
-    if !sight.has_tag(rec, Tag::Delegated) {
+    if !sight.has_tag(call.rec, Tag::Delegated) {
         return Err(Refusal::Input(Condition::GranState));
     }
-    if !sight.has_tag(aux0, Tag::Delegated) {
+    if !sight.has_tag(call.aux0, Tag::Delegated) {
         return Err(Refusal::Input(Condition::GranState));
     }
-    if !sight.has_tag(aux1, Tag::Delegated) {
+    if !sight.has_tag(call.aux1, Tag::Delegated) {
         return Err(Refusal::Input(Condition::GranState));
     }
     if !realm.is_new() {
         return Err(Refusal::Realm(Condition::RealmState, 0));
     }
-    if !realm.is_next_index(mpidr) {
+    if !realm.is_next_index(call.mpidr) {
         return Err(Refusal::Input(Condition::MpidrIndex));
     }
-    if mpidr >= RECS {
+    if call.mpidr >= RECS {
         return Err(Refusal::Input(Condition::OwnRecCount));
     }
     Ok(done(Change::RecMade {
-        rd,
-        rec,
-        mpidr: mpidr as u8,
-        flags,
-        aux0,
-        aux1,
+        rd: call.rd,
+        rec: call.rec,
+        mpidr: call.mpidr as u8,
+        flags: call.flags,
+        aux0: call.aux0,
+        aux1: call.aux1,
     }))
 }
 

@@ -1,7 +1,12 @@
 //! The commands that set the RIPAS of a stretch: before the realm runs, or as one of its RECs asked.
 
-ghost use Rattle.std.specs.Prelude.{◌≡◌};
+ghost use Rattle.std.specs.Prelude.{◌≡◌, ◌<◌, ◌≤◌, ◌+◌, ◌∷◌, [], nat_le};
+ghost use Rattle.rmm_spec.specs.declared.accepted.Accepted.TheVariants.{Reaches};
+ghost use Rattle.rmm_spec.specs.declared.condition.Condition.TheVariants as condition;
+ghost use Rattle.rmm_spec.specs.Rows.{decided, rtt_row};
 ghost use Rattle.rmm_spec.specs.Step.Ripas as spec;
+ghost use Rattle.rmm_spec.specs.Walk as walk;
+ghost use Rattle.rmm_spec.specs.Walk.{is_multiple};
 
 use crate::sight::Sight;
 use command_words::{is_aligned, is_page};
@@ -41,19 +46,13 @@ pub(crate) fn rtt_init_ripas<S: Sight>(
     if !is_unassigned(end.entry) {
         return Err(Refusal::Rtt(Condition::RtteState, level));
     }
-    if !is_aligned(base, level) {
-        return Err(Refusal::Rtt(Condition::BaseAlign, level));
-    }
-    if entry_size(level) > top - base {
-        return Err(Refusal::Rtt(Condition::TopRttAlign, level));
-    }
-    Ok(Accepted::Reaches(Stretch {
+    reached(Stretch {
         rd,
         base,
         top,
         level,
         purpose: StretchUse::Init,
-    }))
+    })
 }
 
 #[tactic(auto, unfolding(rmm_spec::specs::Step::Ripas::rtt_set_ripas, rmm_spec::specs::Step::Terms::words_of, rmm_spec::specs::Step::Terms::named, rmm_spec::specs::Lookup::rec_at, realm_desc::specs::View::rec_record))]
@@ -94,21 +93,35 @@ pub(crate) fn rtt_set_ripas<S: Sight>(
     if !is_page(top) {
         return Err(Refusal::Input(Condition::TopGranAlign));
     }
-    let level = sight.walk(rd, base, 3).level;
-    if !is_aligned(base, level) {
-        return Err(Refusal::Rtt(Condition::BaseAlign, level));
-    }
-    if entry_size(level) > top - base {
-        return Err(Refusal::Rtt(Condition::TopRttAlign, level));
-    }
-    Ok(Accepted::Reaches(Stretch {
+    let ripas = request.ripas;
+    reached(Stretch {
         rd,
         base,
         top,
-        level,
+        level: sight.walk(rd, base, 3).level,
         purpose: StretchUse::Requested {
             rec: address,
-            ripas: request.ripas,
+            ripas,
         },
-    }))
+    })
+}
+
+// A stretch from an entry's first address on, at least as long as the entry.
+#[inline(always)]
+fn reached(stretch: Stretch) -> Result<Accepted, Refusal>
+    requires level { stretch.level ≤ 3 }
+    requires some { stretch.base < stretch.top }
+    ensures { result ≡ decided
+        (rtt_row condition.BaseAlign stretch.level (is_multiple stretch.base (walk.entry_size stretch.level))
+        ∷ rtt_row condition.TopRttAlign stretch.level (nat_le (stretch.base + walk.entry_size stretch.level) stretch.top) ∷ [])
+        (Reaches stretch) }
+{
+    let level = stretch.level;
+    if !is_aligned(stretch.base, level) {
+        return Err(Refusal::Rtt(Condition::BaseAlign, level));
+    }
+    if entry_size(level) > stretch.top - stretch.base {
+        return Err(Refusal::Rtt(Condition::TopRttAlign, level));
+    }
+    Ok(Accepted::Reaches(stretch))
 }
