@@ -1,4 +1,4 @@
 mod HeldLemmas
 mod SpellingLemmas
-mod GrammarLemmas
+pub mod GrammarLemmas
 pub mod PieceLemmas
