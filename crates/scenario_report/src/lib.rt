@@ -22,4 +22,5 @@ pub use flaw::Flaw;
 pub use key::{Key, Number};
 pub use numbers::{Numbers, wrong_number};
 pub use reporting::report;
-pub use scenario::{ScenarioFault, ScenarioText};
+pub use scenario::ScenarioFault;
+pub use scenario_text::ScenarioText;
