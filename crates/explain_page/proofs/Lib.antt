@@ -1,5 +1,5 @@
 mod Lengths
-mod Marks
+mod MarkedUp
 mod Pieces
 mod Plain
 mod Appended

@@ -1,4 +1,4 @@
-use Rattle.explain_page.proofs.Marks.{own_mark_up}
+use Rattle.explain_page.proofs.MarkedUp.{own_mark_up}
 use Rattle.explain_page.proofs.laws.own_pieces_mark_up.Goals as goal
 
 pub returns : goal.returns
