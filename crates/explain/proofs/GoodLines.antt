@@ -4,7 +4,7 @@ use Rattle.std.proofs.Common.{◌-◌, map, lit≤}
 use Rattle.std.specs.List.{take-map}
 use Rattle.std.proofs.lemmas.List.{append-nil, append_cancel_left, length-append, length-map, length-take, map_push}
 use Rattle.std.proofs.lemmas.List.Splits.{join_with_byte-slice_split}
-use Rattle.bad_lines.specs.Wrong.{IsCertificateLine}
+use Rattle.told.specs.Wrong.{IsCertificateLine}
 use Rattle.spec_lemmas.proofs.CertificateLines.{line_parts-one_line}
 use Rattle.spec_lemmas.proofs.Lines.{first_lines-line, first_lines-take, lines_text-push, same_lines}
 use Rattle.spec_lemmas.proofs.Texts.{AllByRecursion-append}

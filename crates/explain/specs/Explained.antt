@@ -19,7 +19,7 @@ use Rattle.told.specs.declared.flaw.Flaw.{Flaw}
 use Rattle.told.specs.declared.flaw.Flaw.TheVariants as flaw
 use Rattle.told.specs.declared.flaw.Misplaced.{Misplaced}
 use Rattle.told.specs.declared.flaw.Misplaced.TheVariants as misplaced
-use Rattle.bad_lines.specs.Wrong.{IsCertificateLine, IsEventLine, IsHeader, IsHeaderOf, IsWrong}
+use Rattle.told.specs.Wrong.{IsCertificateLine, IsEventLine, IsHeader, IsHeaderOf, IsWrong}
 use Rattle.told.specs.declared.explanation.RefusedLine.{RefusedLine}
 use Rattle.told.specs.declared.explanation.Summary.{Summary}
 use Rattle.told.specs.declared.named_call.UnfinishedCall.{UnfinishedCall}

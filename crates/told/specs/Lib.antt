@@ -1,2 +1,4 @@
 pub mod Verdict
 pub mod Names
+pub mod Wanted
+pub mod Wrong

@@ -5,9 +5,9 @@ use crate::condition_text::WhyText;
 use crate::explanation::{BadLine, Cause, Deciding, Explanation, RefusedLine};
 use crate::named_call::{NamedCall, UnfinishedCall};
 use crate::reply_text::{AcceptedText, ReplyText, is_by_realm};
+use crate::shown::Shown;
 use crate::since_text::SinceText;
 use crate::word_text::WrongWordText;
-use bad_lines::Shown;
 use rmm_spec::Accepted;
 use std::fmt;
 

@@ -1,6 +1,6 @@
 //! What is wrong with a bad line.
 
-use bad_lines::WrongPart;
+use crate::wrong_part::WrongPart;
 use std::fmt;
 
 /// Why a line is bad.

@@ -1,8 +1,8 @@
-//! The types of an explanation of a verdict on a history and a certificate, and how they and commands are written for people.
-//! It promises that an explanation's verdict is the one that `verdict_of` names, and that its texts end, in whatever it is written to.
-//! Nothing here reads a text or a run: whoever makes an explanation says what of it is true, as `explain` does.
-//! A type stands beside the text that it is written as. Words are in hex, as the texts of histories and scenarios have them.
-//! The crates `explain` and `scenario_report` depend on it.
+//! The types of an explanation of a verdict on a history and a certificate, a malformed line's first wrong field among them, and how they
+//! and commands are written for people: a type stands beside the text that it is written as.
+//! It promises that an explanation's verdict is the one that `verdict_of` names, that its texts end, and, of a malformed line, that the
+//! fields before the place are those of some line of the grammar, what is reported as expected there is exactly what some such line has
+//! after them, and the line has none of it (`specs/Wrong.antt`). What else of an explanation is true, `explain` says, which depends on it.
 #![tactic(auto)]
 
 mod asked_text;
@@ -15,13 +15,18 @@ mod facts;
 mod facts_text;
 mod flaw;
 mod levels;
+mod line_parts;
 mod named_call;
 mod reply_text;
+mod shown;
 mod since;
 mod since_text;
 mod summary_text;
+mod wanted;
+mod wanted_text;
 mod word_text;
 mod writing;
+mod wrong_part;
 
 pub use asked_text::{AskedText, command_word};
 pub use before::{GranuleBefore, RealmBefore, RecBefore, StateBefore, WalkBefore};
@@ -31,7 +36,13 @@ pub use facts::{EntryRead, Fact};
 pub use facts_text::{PendingText, RipasText, StateText, TagText};
 pub use flaw::{Flaw, Misplaced};
 pub use levels::entry_size;
+pub use line_parts::{
+    wrong_in_certificate_line, wrong_in_command, wrong_in_event, wrong_in_header,
+};
 pub use named_call::{EarlierStep, NamedCall, UnfinishedCall};
+pub use shown::Shown;
 pub use since::{LateCommit, Since};
+pub use wanted::{Role, Wanted};
 pub use word_text::reply_word;
 pub use writing::CallText;
+pub use wrong_part::WrongPart;
