@@ -1,5 +1,6 @@
 -- What a line's look-ups say of it.
-use Rattle.std.proofs.Common.{◌≡◌, ℕ, ◌<◌, ◌≤◌, Bool, true, false, List, [], ◌∷◌, ◌++◌, length, get_or, set, max, Option, Some, None, is_some, refl, sym, subst, arith}
+use Rattle.std.proofs.Common.{◌≡◌, ℕ, ◌<◌, ◌≤◌, Bool, true, false, List, [], ◌∷◌, ◌++◌, length, get_or, set, max, Option, Some, None, MatchBool, is_some, refl, sym, subst, arith}
+use Rattle.std.proofs.lemmas.List.{get_or_read}
 use Rattle.std.proofs.lemmas.Option.{slice_get_within}
 use Rattle.std.specs.Option.{MatchOption}
 use Rattle.rmm_spec.specs.declared.command.Command.{Command}
@@ -11,7 +12,7 @@ use Rattle.rmm_spec.specs.declared.verdict.Reason.TheVariants as reason
 use Rattle.rmm_spec.specs.HistoryText.{History, IsHistory}
 use Rattle.rmm_spec.specs.State.{State}
 use Rattle.rmm_spec.specs.Step.{Step}
-use Rattle.rmm_spec.specs.Linearization.{IsCalled, IsReturned, IsFinished, cpu_named, number_named, IsOfItsKind, IsTooLate, IsReplyOf}
+use Rattle.rmm_spec.specs.Linearization.{IsCalled, IsReturned, IsFinished, NamesCall, IsNamed, cpu_named, number_named, IsOfItsKind, IsTooLate, IsReplyOf}
 use Rattle.rmm_spec.specs.FirstFault.{FailsBy}
 use Rattle.spec_lemmas.proofs.Places.{one_call_place, one_return_place, finished_is_known}
 use Rattle.checker.specs.Progress.{Progress}
@@ -83,6 +84,39 @@ FailsBy-line history before named latest old progress line called command given 
 unset_flag : (named : List Bool) (called : ℕ) (flag : Bool) → flag ≡ get_or named called flag → flag ≡ false → get_or named called false ≡ false
 unset_flag named called flag is_read unset = sym (subst (λ (b : Bool). b ≡ get_or named called b) unset is_read)
 
+-- a line names a call, and whether a line so far names it is the flag that was read
+pub NamesCall-read : (replay : Replay) (history : History) (line : Line) (called : ℕ) (flag : Bool)
+    → (command : Command) × IsCalled history.events called (cpu_named line) (number_named line) command
+    → flag ≡ get_or replay.named.items called flag → (before : List Line) → IsReplayOf replay history before
+    → NamesCall history.events line
+    × MatchBool flag (IsNamed before (cpu_named line) (number_named line)) (¬ IsNamed before (cpu_named line) (number_named line))
+NamesCall-read replay history line called true made is_read before progress =
+    let within = called_within history replay.named.items called _ _ made.0 progress.counted made.1 in
+    let set = sym (get_or_read replay.named.items called true within is_read false) in
+    ((called, made.0, made.1), progress.flagged called _ _ made.0 made.1 set)
+NamesCall-read replay history line called false made is_read before progress =
+    ((called, made.0, made.1), progress.unflagged called _ _ made.0 made.1 (sym is_read))
+
+-- what returned before the latest call is too late
+pub IsTooLate-from_latest : (history : History) (before : List Line) (named : List Bool) (latest : ℕ) (old : State) (line : Line)
+    → Progress history before named latest old → (returned : ℕ) (given : Reply)
+    → IsReturned history.events returned (cpu_named line) (number_named line) given → returned < latest → IsTooLate history.events before line
+IsTooLate-from_latest history before named latest old line progress returned given is_returned late =
+    let last = progress.reached (omega arith) in (
+      last.0,
+      last.1,
+      last.3,
+      record {
+        returned = returned;
+        given = given;
+        is_returned = is_returned;
+        called = latest;
+        command = last.2;
+        is_called = last.4;
+        before = late;
+      },
+    )
+
 -- a kept line of a finished call
 pub IsDue-kept : (replay : Replay) (history : History) (cpu number called : ℕ) (flag : Bool) (returned : ℕ) (told : Reply)
     → (command : Command) × IsCalled history.events called cpu number command → flag ≡ get_or replay.named.items called flag → flag ≡ false
@@ -145,3 +179,8 @@ IsRefusedMemory-due replay history line cpu called given due command made needs 
 pub MatchOption-at_not_some : {X : Type 0} (o : Option X) (P : Type 0) (Q : X → Type 0) → is_some o ≡ false → MatchOption o P Q → P
 MatchOption-at_not_some None P Q none holds = holds
 MatchOption-at_not_some (Some x) P Q none holds = absurd (let bad : true ≡ false = none in cc)
+
+-- what is said of the value of Some
+pub MatchOption-at_is_some : {X : Type 0} (o : Option X) (P : Type 0) (Q : X → Type 0) → is_some o ≡ true → MatchOption o P Q → (x : X) × Q x
+MatchOption-at_is_some None P Q some holds = absurd (let bad : false ≡ true = some in cc)
+MatchOption-at_is_some (Some x) P Q some holds = (x, holds)

@@ -1,10 +1,10 @@
 -- How a session comes from one line to the next, and to its verdict.
-use Rattle.std.proofs.Common.{◌≡◌, ℕ, ◌+◌, ◌<◌, ◌≤◌, List, [], ◌∷◌, ◌++◌, length, take, drop, Option, Some, None, Result, Ok, Err, true, is_some, refl, sym, ap, ◌∙◌, subst, arith, append_assoc, length-append, take-append-drop, false}
+use Rattle.std.proofs.Common.{◌≡◌, ◌==◌, ℕ, ◌+◌, ◌<◌, ◌≤◌, List, [], ◌∷◌, ◌++◌, length, take, drop, Option, Some, None, Result, Ok, Err, true, is_some, refl, sym, ap, ◌∙◌, subst, arith, append_assoc, length-append, take-append-drop, false}
 use Rattle.std.specs.Prelude.{IsOk, IfOk, IfErr}
 use Rattle.std.proofs.lemmas.List.{take_all, append-nil, take-append-le}
 use Rattle.std.proofs.lemmas.Option.{slice_get_within}
 use Rattle.certificate.proofs.PieceLemmas.{Answer, Answered, GoesOn, IsRefused}
-use Rattle.certificate.specs.Pieces.{Begun, IsReadTo, with_told}
+use Rattle.certificate.specs.Pieces.{Begun, IsReadTo, Takes, with_told}
 use Rattle.certificate.specs.declared.fault.CertFault.{CertFault}
 use Rattle.certificate.specs.declared.fault.CertFault.TheVariants.{BadLine}
 use Rattle.rmm_spec.specs.declared.line.Line.{Line}
@@ -150,6 +150,18 @@ pub cut_further : (piece front rest later : List ℕ) (count : ℕ)
 cut_further piece front rest later count is_piece is_later =
     is_piece ∙ ap (λ r. front ++ r) (sym (take-append-drop count rest)) ∙ sym (append_assoc front (take count rest) (drop count rest))
     ∙ ap (λ r. front ++ take count rest ++ r) (sym is_later)
+
+-- what is taken is in the piece, and is something where the piece has any byte
+pub taken_within : (piece : List ℕ) (count : ℕ) (told : Option Line) → Takes piece count told → count ≤ length piece
+taken_within piece count None takes = omega (arith, takes.0)
+taken_within piece count (Some line) (front, (later, (none, is_piece, counted))) =
+    omega (arith, counted, ap length is_piece, length-append front (10 ∷ later))
+
+pub taken_shortens : (piece later : List ℕ) (count : ℕ) (told : Option Line) → Takes piece count told → false ≡ (length piece == 0)
+    → length later + count ≡ length piece → length later < length piece
+taken_shortens [] later count told takes some left = absurd (let bad : false ≡ true = some in cc)
+taken_shortens (byte ∷ piece) later count None takes some left = omega (arith, takes.0, left)
+taken_shortens (byte ∷ piece) later count (Some line) (front, (after, (none, is_piece, counted))) some left = omega (arith, counted, left)
 
 -- a bad line ends the reading, and its number is the verdict
 pub bad_line_told : {T : Type 0} (certificate : Result Begun ℕ) (replay : Replay)

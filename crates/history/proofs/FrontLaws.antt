@@ -1,5 +1,5 @@
 -- Events recorded from the front of a text.
-use Rattle.std.proofs.Common.{◌≡◌, ℕ, List, [], ◌∷◌, ◌++◌, take, Option, Some, None, sym, ap, ◌∙◌, append_assoc}
+use Rattle.std.proofs.Common.{◌≡◌, ℕ, ◌<◌, ◌≤◌, List, [], ◌∷◌, ◌++◌, take, Option, Some, None, sym, ap, ◌∙◌, append_assoc, arith}
 use Rattle.std.specs.Prelude.{IfSome}
 use Rattle.rmm_spec.specs.HistoryText.{History, event_parts, history_text}
 use Rattle.rmm_spec.specs.Text.{line_text}
@@ -17,3 +17,12 @@ history_text-front (Some place) old new event text at end head body is_head is_l
     ap (λ l. l ++ 10 ∷ []) spelled ∙ append_assoc head (32 ∷ body) (10 ∷ []) ∙ ap (λ h. h ++ (32 ∷ body ++ 10 ∷ [])) (sym is_head)
     ∙ sym is_line ∙ ap (λ k. take k text) (sym is_place) in
     ap history_text recorded ∙ history_text-next old event ∙ ap (λ l. history_text old ++ l) line
+
+-- the place at which an event's line ends
+pub place_on : (found : Option ℕ) (at end : ℕ) → IfSome found (λ place. place ≡ end) → at < end → IfSome found (λ place. 0 < place)
+place_on None at end is_place on = tt
+place_on (Some place) at end is_place on = omega (arith, is_place, on)
+
+pub place_inside : (found : Option ℕ) (end size : ℕ) → IfSome found (λ place. place ≡ end) → end ≤ size → IfSome found (λ place. place ≤ size)
+place_inside None end size is_place inside = tt
+place_inside (Some place) end size is_place inside = omega (arith, is_place, inside)

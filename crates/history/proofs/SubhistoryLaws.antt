@@ -138,6 +138,12 @@ has_subhistory config events subhistories event indexed can_follow =
     let limits = history.config in
     omega (arith, cpu_below config.cpus event can_follow.is_event, limits.most_cpus)
 
+pub subhistory_within : (config : Config) (events : List Event) (subhistories : List Subhistory) (event : Event) (cpu : ℕ)
+    → IsIndexed config events subhistories → CanFollow (record { config = config; events = events }) event → cpu ≡ cpu_of event
+    → cpu < length subhistories
+subhistory_within config events subhistories event cpu indexed can_follow same =
+    omega (arith, same, indexed.counted, has_subhistory config events subhistories event indexed can_follow)
+
 -- the index with subhistories that have the same places
 pub IsIndexed-same : (config : Config) (events : List Event) (old new : List Subhistory) → length new ≡ 8
     → ((cpu : ℕ) (other : Subhistory) → cpu < 8 → (get_or new cpu other).places.items ≡ (get_or old cpu other).places.items)

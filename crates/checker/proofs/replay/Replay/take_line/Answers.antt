@@ -1,12 +1,77 @@
 -- A line whose call is found, is of its kind and in time is due.
 use Rattle.std.proofs.Common.{sym, ◌∙◌}
+use Rattle.std.proofs.lemmas.Option.{slice_get_within}
 use Rattle.std.proofs.lemmas.Result.{IfOk-weaker, on_err_weaker}
 use Rattle.rmm_spec.specs.declared.line.Line.TheVariants.{Keep, Unfinished}
+use Rattle.certificate.specs.LineRef.{line_seen}
 use Rattle.spec_lemmas.proofs.Calls.{told_at_return}
 use Rattle.checker.specs.Replay.{IsDue}
 use Rattle.rmi_view.specs.Seen.{reply_seen}
-use Rattle.checker.proofs.Judging.{IsDue-kept, IsDue-unfinished, MatchOption-at_not_some}
+use Rattle.checker.proofs.Judging.{called_within, IsDue-kept, IsDue-unfinished, IsTooLate-from_latest, MatchOption-at_not_some, MatchOption-at_is_some, NamesCall-read}
 use Rattle.checker.proofs.replay.Replay.take_line.Goals as goal
+
+pub returns-in_default-clause-judged : goal.returns-in_default-clause-judged
+returns-in_default-clause-judged c = λ before progress. rw c.in_default.is at c.places_named.ensures.none
+
+pub index-requires : goal.index-requires
+index-requires c =
+    let named = c.args.self.now.named in
+    let made = c.in-Some.ensures.some.called in
+    rw named.ok.0 (called_within c.args.history.now.recorded named.items c.in-Some.places.called _ _ made.0 c.requires.counted made.1)
+
+pub returns-then-index-clause-judged : goal.returns-then-index-clause-judged
+returns-then-index-clause-judged c = λ before progress.
+    rw c.if-index.true at
+    (NamesCall-read c.args.self.now c.args.history.now.recorded (line_seen c.args.line) c.in-Some.places.called c.index.result.now
+    c.in-Some.ensures.some.called c.index.ensures before progress)
+
+pub returns-in_default-returned-clause-judged : goal.returns-in_default-returned-clause-judged
+returns-in_default-returned-clause-judged c = λ before progress.
+    let new = rw c.if-index.false at
+    (NamesCall-read c.args.self.now c.args.history.now.recorded (line_seen c.args.line) c.in-Some.places.called c.index.result.now
+    c.in-Some.ensures.some.called c.index.ensures before progress) in
+    let places = rw c.in-Keep.is at c.in-Some.ensures.some in
+    (new.0, new.1, rw c.in-Keep.is (rw c.in_default-returned.is at places.returned))
+
+pub returns-then-returned-self-clause-judged : goal.returns-then-returned-self-clause-judged
+returns-then-returned-self-clause-judged c = λ before progress.
+    let new = rw c.if-index.false at
+    (NamesCall-read c.args.self.now c.args.history.now.recorded (line_seen c.args.line) c.in-Some.places.called c.index.result.now
+    c.in-Some.ensures.some.called c.index.ensures before progress) in
+    let told = rw c.in-Some-returned.is at c.in-Some.ensures.some.returned in
+    let places = rw c.in-Keep.is at c.in-Some.ensures.some in
+    let kept = rw c.in-Some-returned.is at places.returned in (
+      new.0,
+      new.1,
+      rw c.in-Keep.is (c.in-Some-returned.returned, kept.0, kept.1),
+      IsTooLate-from_latest c.args.history.now.recorded before
+          c.args.self.now.named.items c.args.self.now.latest _ (line_seen c.args.line) progress c.in-Some-returned.returned told.0 told.1
+          c.if-returned-self.true,
+    )
+
+pub returns-then-is_some-clause-judged : goal.returns-then-is_some-clause-judged
+returns-then-is_some-clause-judged c = λ before progress.
+    let new = rw c.if-index.false at
+    (NamesCall-read c.args.self.now c.args.history.now.recorded (line_seen c.args.line) c.in-Some.places.called c.index.result.now
+    c.in-Some.ensures.some.called c.index.ensures before progress) in
+    let places = rw c.in-Unfinished.is at c.in-Some.ensures.some in
+    let finished = MatchOption-at_is_some c.in-Some.places.returned _ _ (sym c.is_some.ensures ∙ c.if-is_some.true) places.returned in
+    (new.0, new.1, rw c.in-Unfinished.is (λ pending. pending (finished.0, finished.1.0, finished.1.1)))
+
+pub reply_at-requires : goal.reply_at-requires
+reply_at-requires c =
+    let told = rw c.in-Some-returned.is at c.in-Some.ensures.some.returned in
+    slice_get_within c.args.history.now.recorded.events c.in-Some-returned.returned _ told.1
+
+pub take_reply-requires-clause-is_called : goal.take_reply-requires-clause-is_called
+take_reply-requires-clause-is_called c =
+    let places = rw c.in-Keep.is at c.in-Some.ensures.some in
+    (c.in-Keep.number, places.called.0, places.called.1)
+
+pub take_reply-requires-in-Unfinished-clause-is_called : goal.take_reply-requires-in-Unfinished-clause-is_called
+take_reply-requires-in-Unfinished-clause-is_called c =
+    let places = rw c.in-Unfinished.is at c.in-Some.ensures.some in
+    (c.in-Unfinished.number, places.called.0, places.called.1)
 
 -- a kept line whose call is found and in time is due
 due_kept : (c : goal.After-take_reply) → IsDue c.args.self.now c.args.history.now.recorded

@@ -1,4 +1,5 @@
 use Rattle.std.proofs.Common.{ℕ, List, ◌++◌, Some, Result, take, drop, refl, subst, sym, ap, ◌∙◌, append_assoc}
+use Rattle.std.proofs.lemmas.Bool.{false≢true}
 use Rattle.std.proofs.lemmas.List.{append-nil}
 use Rattle.certificate.proofs.PieceLemmas.{over}
 use Rattle.certificate.specs.Pieces.{Begun}
@@ -6,8 +7,11 @@ use Rattle.rmm_spec.specs.declared.line.Line.TheVariants.{Keep}
 use Rattle.checker.specs.Session.{HasJudgedBy, offers_of}
 use Rattle.checker.proofs.Offers.{offers_further, offers_within}
 use Rattle.checker.proofs.Refusals.{IsOk-kept, IsRefusedIn-line, IsRefusedIn-told}
-use Rattle.checker.proofs.SessionLaws.{IsFedUpTo-none, HasJudged-next, HasJudged-kept, HasJudged-bad, cut_further}
+use Rattle.checker.proofs.SessionLaws.{IsFedUpTo-none, HasJudged-next, HasJudged-kept, HasJudged-bad, cut_further, taken_shortens, taken_within}
 use Rattle.checker.proofs.session.Session.feed.Goals as goal
+
+pub returns-then-self-clause-refused : goal.returns-then-self-clause-refused
+returns-then-self-clause-refused c = λ going. absurd (false≢true (sym going ∙ c.if-self.true))
 
 pub loop-rest-init : goal.loop-rest-init
 loop-rest-init c = IsFedUpTo-none c.args.self.now c.args.piece.now c.if-self.false
@@ -129,3 +133,19 @@ returns-clause-judged c = λ text given.
     let whole = so_far.is_piece ∙ ap (λ r. so_far.front ++ r) (over c.loop-rest.rest.now c.loop-rest-test.ensures) ∙ append-nil so_far.front in
     subst (λ (t : List ℕ). HasJudgedBy session.certificate session.replay session.failed session.history.recorded t) (ap (λ p. text ++ p) (sym whole))
     (so_far.judged text given)
+
+pub split_at-requires : goal.split_at-requires
+split_at-requires c = taken_within c.loop-rest.rest.now c.in-Some.kept (Some (Keep c.in-Some.cpu c.in-Some.number)) c.in-Some.ensures.taken
+
+pub split_at-requires-in-loop-rest : goal.split_at-requires-in-loop-rest
+split_at-requires-in-loop-rest c = taken_within c.loop-rest.rest.now c.in-Ok-next.count c.in-Ok-next.told c.in-Ok-next.ensures.taken
+
+pub loop-rest-smaller-in-Some : goal.loop-rest-smaller-in-Some
+loop-rest-smaller-in-Some c =
+    taken_shortens c.loop-rest.rest.now c.split_at.result.1.now c.in-Some.kept (Some (Keep c.in-Some.cpu c.in-Some.number)) c.in-Some.ensures.taken
+    c.loop-rest-test.ensures c.split_at.ensures.back_len
+
+pub loop-rest-smaller : goal.loop-rest-smaller
+loop-rest-smaller c =
+    taken_shortens c.loop-rest.rest.now c.split_at-in-loop-rest.result.1.now c.in-Ok-next.count c.in-Ok-next.told c.in-Ok-next.ensures.taken
+    c.loop-rest-test.ensures c.split_at-in-loop-rest.ensures.back_len
