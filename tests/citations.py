@@ -27,7 +27,8 @@ NAMED = {
     "machine_cells": ({"explain", "spec_machine"}, "a walk's links, and what is kept of a granule"),
     "monitor": ({"bench", "monitor_runs", "refused_memory", "thread_tests"}, "the tokens of all CPUs, with one CPU's changed"),
     "rec_steps": ({"command_rows", "spec_machine"}, "the step that an answer inside of a REC is"),
-    "rmi_codec": ({"certificate", "checker", "history", "merging", "text_writers"}, "the texts of numbers and replies, and the pieces of a line"),
+    "rmi_codec": ({"certificate", "checker", "history", "merging", "text_writers"}, "the texts of numbers and lines, and the pieces of a line"),
+    "text_writers": ({"merging"}, "texts written part by part"),
     "world": ({"world_runs"}, "what a turn makes is one value"),
 }
 

@@ -5,8 +5,8 @@ ghost use Rattle.rmm_spec.specs.Text.{decimal};
 ghost use Rattle.finding.specs.Told.{found_status, found_text};
 
 use crate::finding::Found;
-use rmi_codec::push_decimal;
 use std::alloc::AllocError;
+use text_writers::{push_decimal, write_certificate};
 
 /// Appends the order, or a line that there is none or that none was found, and of none the line of the return that no order survives. Where memory
 /// is refused, a beginning of it may have been appended.
@@ -14,7 +14,7 @@ pub fn append_found(found: &Found, text: &mut Vec<u8>) -> Result<(), AllocError>
     ensures { OnOk result (text.new.items ≡ text.old.items ++ found_text found.now) }
 {
     match found {
-        Found::Order(certificate) => text_writers::write_certificate(certificate, text),
+        Found::Order(certificate) => write_certificate(certificate, text),
         Found::None(None) => text.extend_from_slice(b"none\n"),
         Found::None(Some(place)) => append_lost(*place, text),
         Found::GaveUp(_) => text.extend_from_slice(b"gave up\n"),

@@ -8,7 +8,7 @@ use Rattle.rmm_spec.specs.declared.event.Event.TheVariants.{Called, Returned}
 use Rattle.rmm_spec.specs.declared.reply.Reply.{Reply}
 use Rattle.spec_lemmas.proofs.Texts.{command_parts-some, reply_parts-some}
 use Rattle.rmi_codec.specs.Head.{head_text}
-use Rattle.rmi_codec.proofs.WriteLaws.{line_text-head}
+use Rattle.rmi_codec.proofs.LineTexts.{line_text-head}
 
 pub event_text-called : (cpu number : ℕ) (command : Command)
     → line_text (event_parts (Called cpu number command)) ≡ head_text 99 cpu number ++ 32 ∷ command_text command

@@ -4,7 +4,7 @@ use Rattle.std.proofs.Common.{None}
 use Rattle.std.proofs.lemmas.List.{map-append}
 use Rattle.history.proofs.WriteLaws.{event_text-called, event_text-returned}
 use Rattle.rmi_codec.specs.Head.{head_text}
-use Rattle.rmi_codec.proofs.WriteLaws.{line_text-head}
+use Rattle.rmi_codec.proofs.LineTexts.{line_text-head}
 use Rattle.spec_lemmas.proofs.Lines.{lines_text-append}
 use Rattle.spec_lemmas.proofs.Texts.{reply_parts-some}
 use Rattle.rmm_spec.specs.CommandText.{reply_parts, reply_text}

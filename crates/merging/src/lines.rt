@@ -18,10 +18,10 @@ ghost use Rattle.merging.specs.Seen.{stand_seen};
 use crate::cpu::Cpu;
 use crate::{HappenedRef, MomentRef};
 use history::Config;
-use rmi_codec::{push_command, push_head, push_numbers, push_reply};
 use rmi_view::{CommandRef, ReplyRef};
 use rmm_spec::Version;
 use std::alloc::AllocError;
+use text_writers::{push_command, push_head, push_numbers, push_reply};
 
 /// Appends the first line of a history. Memory is refused only where the buffer has no room for it; so in all functions here.
 pub fn push_header(out: &mut Vec<u8>, config: Config) -> Result<(), AllocError>
@@ -44,7 +44,7 @@ fn mark_of(version: Version) -> &'static [u8]
     }
 }
 
-#[tactic(auto, using(std::proofs::lemmas::Grind::common_steps, rmi_codec::proofs::WriteLaws::writing))]
+#[tactic(auto, using(std::proofs::lemmas::Grind::common_steps, text_writers::proofs::WriteLaws::writing))]
 fn push_sizes(out: &mut Vec<u8>, config: Config) -> Result<(), AllocError>
     ensures ok { OnOk result (out.new.items ≡ out.old.items ++ (spaced (decimal config.granules ∷ decimal config.cpus ∷ []) ++ 10 ∷ [])) }
     ensures full { OnErr result (vec_capacity out.old

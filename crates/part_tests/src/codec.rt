@@ -1,11 +1,10 @@
 //! Texts that are written, and the parts that readers are made of.
 
 use arrayvec::ArrayVec;
-use rmi_codec::{
-    Command, FunctionId, Parts, Reply, decimal_from, push_decimal, write_command, write_reply,
-};
+use rmi_codec::{Command, FunctionId, Parts, Reply, decimal_from};
 use std::alloc::Global;
 use std::test::Fail;
+use text_writers::{push_decimal, write_command, write_reply};
 
 fn command(function: FunctionId, word: u64) -> Command {
     let mut words = ArrayVec::new();

@@ -1,8 +1,8 @@
 //! Replies, as the texts have them.
 
-use rmi_codec::push_reply;
 use rmm_spec::{Accepted, Refusal, Reply};
 use std::alloc::{AllocError, Global};
+use text_writers::push_reply;
 use told::entry_size;
 
 /// A reply, such as `ok` or `err 1 0`.

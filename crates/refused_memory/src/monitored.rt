@@ -11,11 +11,12 @@ use memory_map::Config;
 use monitor::{
     CpuPass, CpuToken, Done, Monitor, Open, Queue, Refused, ScribePass, Site, fit_a_history,
 };
-use rmi_codec::{push_decimal, read_command, write_reply};
+use rmi_codec::read_command;
 use std::alloc::{AllocError, Global};
 use std::marker::Brand;
 use std::sync::Wait;
 use std::sync::ledger::Blank;
+use text_writers::{push_decimal, write_certificate, write_history, write_reply};
 
 /// What is done in a run.
 #[derive(Clone, Copy)]
@@ -271,8 +272,8 @@ fn push_closed<S: Site, R: Wait>(
     let Drained { scribe, history } = drained;
     let (recorded, order) = monitor.close(rt, alloc, tokens, passes, scribe, history)?;
     let mut history = Vec::new(alloc);
-    text_writers::write_history(&recorded, &mut history)?;
+    write_history(&recorded, &mut history)?;
     let mut certificate = Vec::new(alloc);
-    text_writers::write_certificate(&order, &mut certificate)?;
+    write_certificate(&order, &mut certificate)?;
     push_judged(alloc, history.as_slice(), certificate.as_slice(), out)
 }

@@ -10,7 +10,7 @@ use Rattle.spec_lemmas.proofs.Texts.{numeral_some, numeral-zero}
 use Rattle.rmi_codec.specs.Head.{head_text}
 use Rattle.rmi_codec.specs.Spaced.{spaced}
 use Rattle.rmi_codec.proofs.NumberLaws.{SpellsSoFar-first}
-use Rattle.rmi_codec.proofs.WriteLaws.{line_text-spaced}
+use Rattle.rmi_codec.proofs.LineTexts.{line_text-spaced}
 
 -- before a later place stands what begins behind the first
 pub take-behind : (text : List ℕ) (at count : ℕ) (bytes : List ℕ) → take count (drop at text) ≡ bytes → take (at + count) text ≡ take at text ++ bytes

@@ -6,7 +6,7 @@ mod HexNumbers
 pub mod NumberLaws
 pub mod PartLaws
 pub mod PrefixLaws
-pub mod WriteLaws
+pub mod LineTexts
 mod FrontLaws
 mod FunctionLaws
 pub mod LineLengths

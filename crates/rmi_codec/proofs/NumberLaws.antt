@@ -7,8 +7,8 @@ use Rattle.std.proofs.lemmas.List.{map-append, take_more, take-map, take-append-
 use Rattle.std.proofs.lemmas.List.Elements.{All-from_recursion}
 use Rattle.std.proofs.lemmas.Nat.{div-mul-add, mod-mul-add}
 use Rattle.std.proofs.Math.Nat.{le-mul_of_pos_right, pow-le-pow_right}
-use Rattle.rmm_spec.specs.Text.{glyph, numeral, fixed_hex}
-use Rattle.spec_lemmas.proofs.Texts.{glyph-injective, map-glyph-injective, numeral_some, numeral-zero, fixed_hex-suc}
+use Rattle.rmm_spec.specs.Text.{glyph, numeral}
+use Rattle.spec_lemmas.proofs.Texts.{glyph-injective, map-glyph-injective, numeral_some, numeral-zero}
 
 -- the first bytes are the digits of a number, and the first of them isn't 0
 pub record SpellsSoFar (base : ℕ) (part : List ℕ) (count number : ℕ) : Type 0 where
@@ -130,18 +130,3 @@ le_from_SpellsSoFar base part count number (suc n) big so_far e =
 pub digits_more : (base n : ℕ) → 2 ≤ base → 0 < n → map glyph (digits_of base n) ≡ map glyph (digits_of base (n / base)) ++ glyph (n % base) ∷ []
 digits_more base n big some =
     ap (λ ds. map glyph ds) (digits_of_step base n big some) ∙ map-append glyph (digits_of base (n / base)) (n % base ∷ [])
-
--- ---- eight digits
-
-fixed_hex-zero : (n : ℕ) → fixed_hex 0 n ≡ []
-unfolding fixed_hex
-fixed_hex-zero n = refl
-
-pub fixed_hex_none : (count n : ℕ) → count ≡ 0 → fixed_hex count n ≡ []
-fixed_hex_none count n none = ap (λ k. fixed_hex k n) none ∙ fixed_hex-zero n
-
-pub fixed_hex_more : (count n : ℕ) → 0 < count → fixed_hex count n ≡ fixed_hex (count - 1) (n / 16) ++ glyph (n % 16) ∷ []
-fixed_hex_more zero n some = absurd (omega arith)
-fixed_hex_more (suc count) n some =
-    let less : count ≡ suc count - 1 = omega arith in
-    fixed_hex-suc count n ∙ ap (λ k. fixed_hex k (n / 16) ++ glyph (n % 16) ∷ []) less

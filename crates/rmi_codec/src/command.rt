@@ -1,6 +1,6 @@
 //! Commands.
 
-ghost use Rattle.std.specs.Prelude.{◌≡◌, ◌≢◌, ℕ, List, ◌∷◌, ◌++◌, length, take, Ok, IsOkAnd, IfOk, IfErr, OnOk, OnErr, ◌≤◌, ◌<◌, ◌+◌, vec_len, vec_capacity};
+ghost use Rattle.std.specs.Prelude.{◌≡◌, ◌≢◌, ℕ, List, ◌∷◌, length, Ok, IsOkAnd, IfOk, IfErr, ◌≤◌};
 ghost use Rattle.rmm_spec.specs.declared.command.Command.{Command};
 ghost use Rattle.rmm_spec.specs.declared.function_id.FunctionId.{FunctionId};
 ghost use Rattle.rmm_spec.specs.Function.{number_of};
@@ -8,17 +8,13 @@ ghost use Rattle.rmm_spec.specs.CommandText.{IsCommand, command_parts, command_t
 ghost use Rattle.rmm_spec.specs.Text.{fixed_hex, parts_of};
 ghost use Rattle.rmi_view.specs.Seen.{command_seen};
 ghost use Rattle.rmi_codec.specs.Faults.{IsCommandFault};
-ghost use Rattle.rmi_codec.specs.Beginning.{IsBeginning};
 
 use crate::fault::CodecFault;
-use crate::fixed_hex::push_fixed_hex;
 use crate::function::words_of;
 use crate::parts::Parts;
-use crate::whole::all_or_nothing;
-use crate::word::{push_words, read_words};
+use crate::word::read_words;
 use rmi_view::CommandRef;
 use rmm_spec::Command;
-use std::alloc::AllocError;
 
 /// Reads the command that the parts spell, all of them. Its words lie in the buffer, over those of the line before.
 #[inline(always)]
@@ -65,28 +61,4 @@ pub fn read_command(text: &str) -> Result<Command, CodecFault>
         Ok(command) => Ok(command.to_command()),
         Err(fault) => Err(fault),
     }
-}
-
-/// Appends a command's text. Where memory is refused, a beginning of it may have been appended.
-#[tactic(auto, using(std::proofs::lemmas::Grind::common_steps, crate::proofs::WriteLaws::writing), unfolding(rmm_spec::specs::CommandText::command_parts))]
-pub fn push_command(out: &mut Vec<u8>, command: &Command) -> Result<(), AllocError>
-    ensures ok { OnOk result (out.new.items ≡ out.old.items ++ command_text command.now) }
-    ensures kept { OnErr result (take (length out.old.items) out.new.items ≡ out.old.items) }
-    ensures beginning { OnErr result (IsBeginning out.new.items (out.old.items ++ command_text command.now)) }
-    ensures full { OnErr result (vec_capacity out.old < vec_len out.old + length (command_text command.now)) }
-    ensures capacity { vec_capacity out.old ≤ vec_capacity out.new }
-{
-    push_fixed_hex(out, 8, command.function.number())?;
-    push_words(out, command.words.as_slice())
-}
-
-/// Appends a command's text, or nothing where memory is refused, which it is only where the buffer has no room for the text.
-pub fn write_command(command: &Command, out: &mut Vec<u8>) -> Result<(), AllocError>
-    ensures ok { OnOk result (out.new.items ≡ out.old.items ++ command_text command.now) }
-    ensures err { OnErr result (out.new.items ≡ out.old.items) }
-    ensures full { OnErr result (vec_capacity out.old < vec_len out.old + length (command_text command.now)) }
-{
-    let start = out.len();
-    let written = push_command(out, command);
-    all_or_nothing(out, start, written)
 }

@@ -1,12 +1,8 @@
 //! Numbers in a base, with the highest digit first and without leading zeros.
 
-ghost use Rattle.std.specs.Prelude.{◌≡◌, ◌≢◌, ℕ, ◌<◌, ◌≤◌, ◌+◌, ◌*◌, ◌^◌, ◌∷◌, ◌++◌, List, length, get_or, map, take, Some, IsTrue, IsFalse, IfSome, IfNone, OnOk, OnErr, vec_len, vec_capacity};
-ghost use Rattle.std.specs.Int.Digits.{digits_of};
+ghost use Rattle.std.specs.Prelude.{◌≡◌, ◌≢◌, ℕ, ◌<◌, ◌≤◌, ◌+◌, ◌*◌, ◌^◌, ◌∷◌, List, length, get_or, Some, IsTrue, IsFalse, IfSome, IfNone};
 ghost use Rattle.rmm_spec.specs.Text.{glyph, numeral, parts_of};
 ghost use Rattle.rmi_codec.specs.Spaced.{parts_behind};
-ghost use Rattle.rmi_codec.specs.Beginning.{IsBeginning};
-
-use std::alloc::AllocError;
 
 // The hex digit that each byte shows, and 255 where it shows none.
 const HEX_DIGITS: [u8; 256] = [
@@ -144,54 +140,4 @@ pub(crate) fn numeral_from(part: &[u8], base: u64) -> Option<u64>
     } else {
         None
     }
-}
-
-// The byte that shows a digit.
-#[inline(always)]
-pub(crate) fn byte_from(digit: u64) -> u8
-    requires { digit < 16 }
-    ensures { result ≡ glyph digit }
-{
-    if digit < 10 {
-        digit as u8 + b'0'
-    } else {
-        digit as u8 - 10 + b'a'
-    }
-}
-
-// Appends the digits of a number, and nothing for 0.
-#[tactic(auto, using(std::proofs::lemmas::Grind::common_steps, crate::proofs::NumberLaws::digits_more))]
-fn push_digits(out: &mut Vec<u8>, number: u64, base: u64) -> Result<(), AllocError>
-    requires least { 2 ≤ base }
-    requires most { base ≤ 16 }
-    ensures ok { OnOk result (out.new.items ≡ out.old.items ++ map glyph (digits_of base number)) }
-    ensures kept { OnErr result (take (length out.old.items) out.new.items ≡ out.old.items) }
-    ensures beginning { OnErr result (IsBeginning out.new.items (out.old.items ++ map glyph (digits_of base number))) }
-    ensures full { OnErr result (vec_capacity out.old < vec_len out.old + length (map glyph (digits_of base number))) }
-    ensures capacity { vec_capacity out.old ≤ vec_capacity out.new }
-{
-    if number == 0 {
-        return Ok(());
-    }
-    push_digits(out, number / base, base)?;
-    out.push(byte_from(number % base))?;
-    Ok(())
-}
-
-// Appends a number.
-#[tactic(auto, unfolding(rmm_spec::specs::Text::numeral))]
-pub(crate) fn push_numeral(out: &mut Vec<u8>, number: u64, base: u64) -> Result<(), AllocError>
-    requires least { 2 ≤ base }
-    requires most { base ≤ 16 }
-    ensures ok { OnOk result (out.new.items ≡ out.old.items ++ numeral base number) }
-    ensures kept { OnErr result (take (length out.old.items) out.new.items ≡ out.old.items) }
-    ensures beginning { OnErr result (IsBeginning out.new.items (out.old.items ++ numeral base number)) }
-    ensures full { OnErr result (vec_capacity out.old < vec_len out.old + length (numeral base number)) }
-    ensures capacity { vec_capacity out.old ≤ vec_capacity out.new }
-{
-    if number == 0 {
-        out.push(b'0')?;
-        return Ok(());
-    }
-    push_digits(out, number, base)
 }

@@ -1,24 +1,20 @@
 //! Replies.
 
-ghost use Rattle.std.specs.Prelude.{◌≡◌, ◌≢◌, ◌<◌, ◌++◌, [], ◌∷◌, ℕ, List, map, length, take, Ok, Some, codes, IsTrue, IsFalse, IsOk, IsOkAnd, IfOk, IfErr, IfSome, OnOk, OnErr, ◌≤◌, ◌+◌, vec_len, vec_capacity};
+ghost use Rattle.std.specs.Prelude.{◌≡◌, ◌≢◌, ◌<◌, [], ◌∷◌, ℕ, List, length, Ok, codes, IsTrue, IsFalse, IsOk, IsOkAnd, IfOk, IfErr, OnOk, ◌≤◌};
 ghost use Rattle.rmm_spec.specs.declared.reply.Reply.{Reply};
 ghost use Rattle.rmm_spec.specs.CommandText.{IsReply, reply_parts, reply_text};
 ghost use Rattle.rmm_spec.specs.Text.{decimal, parts_of};
 ghost use Rattle.rmi_view.specs.Seen.{HasFewWords, reply_seen};
 ghost use Rattle.rmi_codec.specs.Faults.{IsReplyFault, IsSmallFault, IsEndFault};
-ghost use Rattle.rmi_codec.specs.Beginning.{IsBeginning};
 ghost use Rattle.rmi_codec.specs.Spaced.{parts_behind};
 
 use crate::decimal::next_decimal;
 use crate::fault::{CodecFault, part_fault};
-use crate::head::push_numbers;
 use crate::numeral::is_end;
 use crate::parts::Parts;
-use crate::whole::all_or_nothing;
-use crate::word::{push_words, read_words};
+use crate::word::read_words;
 use rmi_view::ReplyRef;
 use rmm_spec::Reply;
-use std::alloc::AllocError;
 
 // Reads a status or an index from the next part.
 fn take_small(parts: &mut Parts<'_>) -> Result<u8, CodecFault>
@@ -153,47 +149,4 @@ pub fn read_reply(text: &str) -> Result<Reply, CodecFault>
         Ok(reply) => Ok(reply.to_reply()),
         Err(fault) => Err(fault),
     }
-}
-
-// Appends a refusal.
-#[tactic(auto, unfolding(rmm_spec::specs::CommandText::reply_parts))]
-fn push_err(out: &mut Vec<u8>, status: u8, index: u8) -> Result<(), AllocError>
-    ensures ok { OnOk result (out.new.items ≡ out.old.items ++ reply_text (Reply.Err status index)) }
-    ensures kept { OnErr result (take (length out.old.items) out.new.items ≡ out.old.items) }
-    ensures beginning { OnErr result (IsBeginning out.new.items (out.old.items ++ reply_text (Reply.Err status index))) }
-    ensures full { OnErr result (vec_capacity out.old < vec_len out.old + length (reply_text (Reply.Err status index))) }
-    ensures capacity { vec_capacity out.old ≤ vec_capacity out.new }
-{
-    out.extend_from_slice(b"err")?;
-    push_numbers(out, u64::from(status), u64::from(index))
-}
-
-/// Appends a reply's text. Where memory is refused, a beginning of it may have been appended.
-#[tactic(auto, using(std::proofs::lemmas::Grind::common_steps, crate::proofs::WriteLaws::writing), unfolding(rmm_spec::specs::CommandText::reply_parts))]
-pub fn push_reply(out: &mut Vec<u8>, reply: &Reply) -> Result<(), AllocError>
-    ensures ok { OnOk result (out.new.items ≡ out.old.items ++ reply_text reply.now) }
-    ensures kept { OnErr result (take (length out.old.items) out.new.items ≡ out.old.items) }
-    ensures beginning { OnErr result (IsBeginning out.new.items (out.old.items ++ reply_text reply.now)) }
-    ensures full { OnErr result (vec_capacity out.old < vec_len out.old + length (reply_text reply.now)) }
-    ensures capacity { vec_capacity out.old ≤ vec_capacity out.new }
-{
-    match reply {
-        Reply::Ok(words) => {
-            out.extend_from_slice(b"ok")?;
-            push_words(out, words.as_slice())
-        }
-        Reply::Err(status, index) => push_err(out, *status, *index),
-        Reply::Misplaced => out.extend_from_slice(b"misplaced"),
-    }
-}
-
-/// Appends a reply's text, or nothing where memory is refused, which it is only where the buffer has no room for the text.
-pub fn write_reply(reply: &Reply, out: &mut Vec<u8>) -> Result<(), AllocError>
-    ensures ok { OnOk result (out.new.items ≡ out.old.items ++ reply_text reply.now) }
-    ensures err { OnErr result (out.new.items ≡ out.old.items) }
-    ensures full { OnErr result (vec_capacity out.old < vec_len out.old + length (reply_text reply.now)) }
-{
-    let start = out.len();
-    let written = push_reply(out, reply);
-    all_or_nothing(out, start, written)
 }

@@ -7,9 +7,9 @@ ghost use Rattle.run_steps.specs.Places.{conditions};
 
 use crate::condition_counts::ConditionCounts;
 use crate::places::CONDITIONS;
-use rmi_codec::push_decimal;
 use rmm_spec::FunctionId;
 use std::alloc::AllocError;
+use text_writers::push_decimal;
 use told::condition_name;
 
 /// Appends a line for each count that isn't 0: a function's name, `accepted` or the name of a condition, and the count.

@@ -4,9 +4,9 @@ ghost use Rattle.std.specs.Prelude.{◌≡◌, ◌++◌, ℕ, OnOk};
 ghost use Rattle.scenario.specs.SeenPrograms.{seen_programs};
 ghost use Rattle.scenario.specs.CallLines.{call_line, calls_from, program_lines};
 
-use rmi_codec::{push_command, push_decimal};
 use rmm_spec::Command;
 use std::alloc::AllocError;
+use text_writers::{push_command, push_decimal};
 
 /// Appends a line for each command, with its CPU before it, those of CPU 0 first. Where memory is refused, some of the lines may have
 /// been appended.

@@ -9,9 +9,9 @@ ghost use Rattle.scenario.specs.Written.{program_data, programs_data, turns_data
 ghost use Rattle.toml.specs.Data.{string};
 ghost use Rattle.toml.specs.View.{view};
 
-use rmi_codec::{push_command, push_decimal};
 use rmm_spec::{Command, Due, Will};
 use std::alloc::{AllocError, Global};
+use text_writers::{push_command, push_decimal};
 use toml::Value;
 
 /// An array of programs, each an array of its commands' texts.

@@ -1,1 +1,3 @@
 mod LineTexts
+mod NumberTexts
+pub mod WriteLaws

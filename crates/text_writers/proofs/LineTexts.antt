@@ -10,7 +10,7 @@ use Rattle.rmm_spec.specs.declared.line.Line.TheVariants.{Unfinished}
 use Rattle.rmm_spec.specs.declared.reply.Reply.{Reply}
 use Rattle.spec_lemmas.proofs.Texts.{reply_parts-some}
 use Rattle.rmi_codec.specs.Head.{head_text}
-use Rattle.rmi_codec.proofs.WriteLaws.{line_text-head}
+use Rattle.rmi_codec.proofs.LineTexts.{line_text-head}
 
 pub line_text-keep : (line : LineRef) (cpu number : ℕ)
     → line ≡ seen.Keep cpu number → line_text (line_parts (line_seen line)) ≡ head_text 107 cpu number

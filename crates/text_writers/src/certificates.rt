@@ -2,12 +2,14 @@
 
 ghost use Rattle.std.specs.Prelude.{◌≡◌, ◌+◌, ◌<◌, ◌≤◌, ◌++◌, [], ◌∷◌, length, take, vec_len, vec_capacity, OnOk, OnErr};
 ghost use Rattle.certificate.specs.LineRef.{line_seen};
-ghost use Rattle.rmi_codec.specs.Beginning.{IsBeginning};
+ghost use Rattle.text_writers.specs.Beginning.{IsBeginning};
 ghost use Rattle.rmm_spec.specs.CertificateText.{certificate_text, line_parts};
 ghost use Rattle.rmm_spec.specs.Text.{line_text};
 
+use crate::heads::push_head;
+use crate::replies::push_reply;
+use crate::whole::all_or_nothing;
 use certificate::{Certificate, LineRef};
-use rmi_codec::{all_or_nothing, push_head, push_reply};
 use rmm_spec::{Line, Reply};
 use std::alloc::AllocError;
 

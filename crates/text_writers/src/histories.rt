@@ -1,14 +1,17 @@
 //! Histories, written as texts.
 
 ghost use Rattle.std.specs.Prelude.{◌≡◌, ◌+◌, ◌<◌, ◌≤◌, ◌++◌, [], ◌∷◌, map, length, take, vec_len, vec_capacity, OnOk, OnErr};
-ghost use Rattle.rmi_codec.specs.Beginning.{IsBeginning};
+ghost use Rattle.text_writers.specs.Beginning.{IsBeginning};
 ghost use Rattle.rmi_codec.specs.Spaced.{spaced};
 ghost use Rattle.rmm_spec.specs.HistoryText.{event_parts, history_text, config_parts, mark};
 ghost use Rattle.rmm_spec.specs.Text.{decimal, line_text, lines_text};
 
+use crate::commands::push_command;
+use crate::heads::{push_head, push_numbers};
+use crate::replies::push_reply;
+use crate::whole::all_or_nothing;
 use history::History;
 use memory_map::Config;
-use rmi_codec::{all_or_nothing, push_command, push_head, push_numbers, push_reply};
 use rmm_spec::{Event, Version};
 use std::alloc::AllocError;
 
@@ -71,7 +74,7 @@ fn mark_of(version: Version) -> &'static [u8]
     }
 }
 
-#[tactic(auto, using(std::proofs::lemmas::Grind::common_steps, rmi_codec::proofs::WriteLaws::writing))]
+#[tactic(auto, using(std::proofs::lemmas::Grind::common_steps, crate::proofs::WriteLaws::writing))]
 fn push_sizes(out: &mut Vec<u8>, config: Config) -> Result<(), AllocError>
     ensures ok { OnOk result (out.new.items ≡ out.old.items ++ (spaced (decimal config.granules ∷ decimal config.cpus ∷ []) ++ 10 ∷ [])) }
     ensures kept { OnErr result (take (length out.old.items) out.new.items ≡ out.old.items) }

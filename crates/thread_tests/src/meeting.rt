@@ -12,7 +12,6 @@ use memory_map::Config;
 use monitor::{
     Certificate, CpuPass, CpuToken, Monitor, Open, Queue, ScribePass, Site, fit_a_history, meet,
 };
-use rmi_codec::{push_decimal, write_reply};
 use std::alloc::{AllocError, Global};
 use std::marker::Brand;
 use std::sync::Wait;
@@ -20,6 +19,7 @@ use std::sync::ledger::Blank;
 use std::test::Fail;
 use std::thread;
 use std::thread::Threads;
+use text_writers::{push_decimal, write_certificate, write_history, write_reply};
 
 /// A CPU is asked on a thread of its own, which has ended when this returns.
 fn ask_apart<S: Site + Send + Sync, R: Threads + Wait + Sync>(
@@ -182,9 +182,9 @@ fn push_judged(
     out: &mut Vec<u8>,
 ) -> Result<(), AllocError> {
     let mut text = Vec::new(alloc);
-    text_writers::write_history(recorded, &mut text)?;
+    write_history(recorded, &mut text)?;
     let mut lines = Vec::new(alloc);
-    text_writers::write_certificate(order, &mut lines)?;
+    write_certificate(order, &mut lines)?;
     out.extend_from_slice(lines.as_slice())?;
     let verdict = check(alloc, text.as_slice(), lines.as_slice())?;
     verdict_text(&verdict, out)

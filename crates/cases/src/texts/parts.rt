@@ -2,9 +2,10 @@
 
 use crate::texts::functions::name_of;
 use anyhow::Result;
-use rmi_codec::{Command, Reply, read_command, read_reply, write_command, write_reply};
+use rmi_codec::{Command, Reply, read_command, read_reply};
 use std::alloc::{AllocError, Global};
 use std::fmt::Write;
+use text_writers::{write_command, write_reply};
 use told::{WrongPart, wrong_in_certificate_line, wrong_in_event, wrong_in_header};
 
 /// A function's name and its words, or why there is none.

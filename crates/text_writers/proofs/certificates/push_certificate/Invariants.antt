@@ -1,4 +1,4 @@
-use Rattle.std.proofs.Common.{◌≡◌, ◌≤◌, ◌+◌, ◌++◌, drop, length, take, vec_capacity}
+use Rattle.std.proofs.Common.{◌≡◌, ◌≤◌, ◌++◌, drop, length, take, vec_capacity}
 use Rattle.rmm_spec.specs.CertificateText.{certificate_text}
 use Rattle.text_writers.proofs.certificates.push_certificate.Given as goal
 
@@ -6,8 +6,6 @@ use Rattle.text_writers.proofs.certificates.push_certificate.Given as goal
 abbrev pub invariant-loop-i : goal.invariant-loop-i
 invariant-loop-i l = record {
   written : l.out.items ++ certificate_text (drop l.i l.certificate.lines) ≡ l.fn.out.items ++ certificate_text l.certificate.lines;
-  left : length l.out.items + length (certificate_text (drop l.i l.certificate.lines))
-      ≡ length l.fn.out.items + length (certificate_text l.certificate.lines);
   kept : take (length l.fn.out.items) l.out.items ≡ l.fn.out.items;
   capacity : vec_capacity l.fn.out ≤ vec_capacity l.out;
 }

@@ -1,6 +1,6 @@
 use Rattle.std.proofs.Common.{arith, ◌++◌, ◌∷◌, [], map}
 use Rattle.std.proofs.lemmas.Grind.{common_steps}
-use Rattle.rmi_codec.proofs.WriteLaws.{begun_append}
+use Rattle.text_writers.proofs.WriteLaws.{begun_append}
 use Rattle.rmm_spec.specs.HistoryText.{config_parts, event_parts}
 use Rattle.rmm_spec.specs.Text.{line_text, lines_text}
 use Rattle.text_writers.proofs.histories.push_history.Goals as goal

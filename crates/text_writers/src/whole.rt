@@ -5,7 +5,7 @@ ghost use Rattle.std.specs.Prelude.{◌≡◌, take, vec_capacity, OnOk, OnErr};
 use std::alloc::AllocError;
 
 /// Ends an append to a buffer that was this long before it: where memory was refused, what was appended is taken back.
-pub fn all_or_nothing(
+pub(crate) fn all_or_nothing(
     out: &mut Vec<u8>,
     start: usize,
     appended: Result<(), AllocError>,

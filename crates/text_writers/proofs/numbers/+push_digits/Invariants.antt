@@ -1,4 +1,4 @@
-use Rattle.rmi_codec.proofs.numeral.+push_digits.Given as goal
+use Rattle.text_writers.proofs.numbers.+push_digits.Given as goal
 
 abbrev pub decreases-push_digits : goal.decreases-push_digits
 decreases-push_digits l = l.number
