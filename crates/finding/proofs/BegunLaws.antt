@@ -1,6 +1,6 @@
 -- Orders that are begun, as they grow by a line and stand for others.
-use Rattle.finding.proofs.Common.{◌++◌, ◌+◌, ◌∙◌, ◌∷◌, ◌≡◌, Choice, Frame, History, IsBegun, IsHistory, IsLeast, IsNextCall, LeadsNowhere, Line, List, Option, Some, State, Tried, Unfinished, [], ap, arith, cpu_named, inl, inr, number_named, opening, rank_of, state_of, subst, sym, ℕ}
-use Rattle.std.proofs.Common.{set, append_assoc}
+use Rattle.finding.proofs.Common.{◌++◌, ◌+◌, ◌∙◌, ◌∷◌, ◌≡◌, Choice, Frame, History, IsBegun, IsHistory, IsLeast, IsNextCall, LeadsNowhere, Line, List, Option, Some, State, TriedIn, Unfinished, [], ap, arith, cpu_named, inl, inr, number_named, opening, rank_of, state_of, subst, sym, ℕ}
+use Rattle.std.proofs.Common.{Bool, true, set, append_assoc}
 use Rattle.rmm_spec.specs.FirstFault.{IsRefused}
 use Rattle.rmm_spec.specs.Rows.{ok}
 use Rattle.rmm_spec.specs.Linearization.{IsLinearization, IsOfItsKind}
@@ -105,9 +105,9 @@ module _ (history : History) (is_history : IsHistory history) (lines : List Line
     (counts : List ℕ) (are : AreCounts counts lines) (from : ℕ) (above : Option ℕ) (choice : Choice)
     (next : IsNextCall history counts from choice) (is_least : IsLeast history.events counts from history.config.cpus (rank_of choice)) where
   -- the call may be tried, with the ends that are left
-  pub MayTry-begun : Tried history lines from above → (held : Option ℕ)
+  pub MayTry-begun : (group : ℕ → Bool) → group choice.cpu ≡ true → TriedIn history group lines from above → (held : Option ℕ)
       → ((bound : ℕ) → held ≡ Some bound → (above ≡ Some bound) × (rank_of choice ≡ from)) → MayTry history lines state choice held
-  MayTry-begun tried held left = record {
+  MayTry-begun group inside tried held left = record {
     is_history = is_history;
     reached = reached;
     places = next.places;
@@ -117,18 +117,18 @@ module _ (history : History) (is_history : IsHistory history) (lines : List Line
         nowhere_unless history is_history lines state reached (Unfinished choice.cpu choice.number (ok (end ∷ []))) (λ is_next.
         let given = left bound is in
         let rank = rank_pending history.events choice.cpu choice.number choice.places next.places is_next.kind in
-        tried.ended choice.cpu choice.number end bound is_next.kind (sym rank ∙ given.1) given.0 within);
+        tried.ended choice.cpu choice.number end bound inside is_next.kind (sym rank ∙ given.1) given.0 within);
   }
 
   -- the line that was tried leads nowhere
-  pub Tried-attempt : Tried history lines from above → (frame : Frame) → IsAttempt history lines choice frame
-      → LeadsNowhere history (lines ++ frame.line ∷ []) → Tried history lines frame.from frame.above
-  Tried-attempt tried frame attempt nowhere = elim (attempt.left nowhere) [
+  pub Tried-attempt : (group : ℕ → Bool) → TriedIn history group lines from above → (frame : Frame) → IsAttempt history lines choice frame
+      → LeadsNowhere history (lines ++ frame.line ∷ []) → TriedIn history group lines frame.from frame.above
+  Tried-attempt group tried frame attempt nowhere = elim (attempt.left nowhere) [
     | inl passed ↦
-        subst (λ (f : ℕ). Tried history lines f frame.above) (sym passed.from)
-        (subst (λ (a : Option ℕ). Tried history lines (rank_of choice + 1) a) (sym passed.above)
-        (Tried-passed history is_history lines state reached counts are from above tried choice next is_least passed.nowhere))
+        subst (λ (f : ℕ). TriedIn history group lines f frame.above) (sym passed.from)
+        (subst (λ (a : Option ℕ). TriedIn history group lines (rank_of choice + 1) a) (sym passed.above)
+        (Tried-passed history is_history lines state reached counts are group from above tried choice next is_least (λ inside. passed.nowhere)))
     | inr ended ↦
-        subst (λ (f : ℕ). Tried history lines f frame.above) (sym ended.from)
-        (Tried-ended history is_history lines state reached counts are from above tried choice next is_least frame.above ended.nowhere)
+        subst (λ (f : ℕ). TriedIn history group lines f frame.above) (sym ended.from)
+        (Tried-ended history is_history lines state reached counts are group from above tried choice next is_least frame.above ended.nowhere)
   ]

@@ -14,5 +14,5 @@ pub use Rattle.order_laws.specs.Order.{LeadsNowhere}
 pub use Rattle.finding.specs.Begun.{AllLost, IsBegun, IsRound, RoundLost}
 pub use Rattle.finding.specs.Choice.{IsLeast, IsNextCall, rank_of}
 pub use Rattle.finding.specs.Search.{IsSearch, lines_of}
-pub use Rattle.finding.specs.Tried.{Tried}
+pub use Rattle.finding.specs.Tried.{Tried, TriedIn, every}
 pub use Rattle.finding.specs.declared.{choice.Choice.Choice, frame.Frame.Frame, search.Search.Search}

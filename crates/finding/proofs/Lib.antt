@@ -14,3 +14,4 @@ pub mod BegunLaws
 pub mod NextLines
 pub mod Rounds
 pub mod Finds
+pub mod GroupLaws

@@ -1,9 +1,14 @@
 -- What is left behind the next line of an order that is begun.
-use Rattle.finding.proofs.Common.{◌+◌, ◌<◌, ◌^◌, ◌≡◌, ◌≤◌, Choice, Frame, History, IsFinished, IsHistory, IsLeast, IsNextCall, Line, List, None, Option, Reply, Some, Tried, Unfinished, ap, cpu_named, number_named, rank_of, refl, state_of, subst, sym, ℕ}
+use Rattle.finding.proofs.Common.{◌++◌, ◌+◌, ◌<◌, ◌^◌, ◌∙◌, ◌∷◌, ◌≡◌, ◌≤◌, [], Choice, Frame, History, IsFinished, IsHistory, IsLeast, IsNextCall, LeadsNowhere, Line, List, None, Option, Reply, Some, TriedIn, Unfinished, ap, arith, cpu_named, number_named, rank_of, refl, state_of, subst, sym, ℕ}
+use Rattle.std.proofs.Common.{Bool, false, true}
 use Rattle.rmm_spec.specs.declared.line.Line.TheVariants.{Keep}
-use Rattle.rmm_spec.specs.Linearization.{IsOfItsKind}
+use Rattle.rmm_spec.specs.Linearization.{IsOfItsKind, IsReturned}
+use Rattle.order_laws.specs.Order.{count_of}
+use Rattle.order_laws.proofs.CallOrder.{call_before_return}
+use Rattle.order_laws.proofs.Settled.{nowhere_settled}
+use Rattle.verdict_laws.proofs.Groups.{nowhere_unless_inside}
 use Rattle.finding.specs.Attempt.{IsTriedNext, MayTry}
-use Rattle.finding.specs.Begun.{GoesBehind, IsNextLine, IsSoon, MayStand}
+use Rattle.finding.specs.Begun.{GoesBehind, Holds, IsGroup, IsLost, IsNextLine, IsSoon, MayStand}
 use Rattle.finding.specs.declared.begun.Begun.{Begun}
 use Rattle.finding.specs.declared.next_line.NextLine.TheVariants as next_line
 use Rattle.finding.specs.declared.search.Left.{Left}
@@ -11,14 +16,16 @@ use Rattle.finding.proofs.Attempts.{nowhere_kept, pending_at}
 use Rattle.finding.proofs.BegunLaws.{MayTry-begun, Tried-attempt}
 use Rattle.finding.proofs.Choices.{returned_first}
 use Rattle.finding.proofs.OfferLaws.{returned_at}
-use Rattle.finding.proofs.Searches.{IsNextCall-0}
-use Rattle.finding.proofs.TriedLaws.{HasOpen-first, ReturnBehind-called, Tried-passed, all_nowhere, too_late}
+use Rattle.finding.specs.Search.{IsRefusedHere}
+use Rattle.finding.proofs.Searches.{Grows-refused, IsNextCall-0}
+use Rattle.finding.proofs.TriedLaws.{IsKept-open, ReturnBehind-called, Tried-passed, counted, each_nowhere, of_machine, too_late}
 
 -- by its parts
-pub Tried-left : (history : History) (lines : List Line) (from : ℕ) (above : Option ℕ) (left : Left) → left.from ≡ from → left.above ≡ above
-    → Tried history lines from above → Tried history lines left.from left.above
-Tried-left history lines from above left of_from of_above tried =
-    subst (λ (f : ℕ). Tried history lines f left.above) (sym of_from) (subst (λ (a : Option ℕ). Tried history lines from a) (sym of_above) tried)
+pub Tried-left : (history : History) (group : ℕ → Bool) (lines : List Line) (from : ℕ) (above : Option ℕ) (left : Left) → left.from ≡ from
+    → left.above ≡ above → TriedIn history group lines from above → TriedIn history group lines left.from left.above
+Tried-left history group lines from above left of_from of_above tried =
+    subst (λ (f : ℕ). TriedIn history group lines f left.above) (sym of_from)
+    (subst (λ (a : Option ℕ). TriedIn history group lines from a) (sym of_above) tried)
 
 -- a call that was made by the first return can
 pub IsSoon-called : (history : History) → IsHistory history → (begun : Begun) (first : Choice)
@@ -28,42 +35,108 @@ IsSoon-called history is_history begun first is_least from choice next early = �
     ReturnBehind-called history is_history lines (state_of begun.machine) holds.reached begun.front.counts holds.counts (rank_of first) is_least
     choice.places.called choice.cpu choice.number next.places.called.0 next.places.called.1 early
 
-module _ (history : History) (is_history : IsHistory history) (begun : Begun) (left : Left) where
+-- a call that is refused as it was changes nothing, so that an order leads nowhere where it does with the call behind it
+pub IsLost-refused : (history : History) → IsHistory history → (begun : Begun) (choice : Choice) → IsNextCall history begun.front.counts 0 choice
+    → IsSoon history begun choice → IsRefusedHere history (state_of begun.machine) choice
+    → ((lines : List Line) → Holds history begun lines → LeadsNowhere history (lines ++ Keep choice.cpu choice.number ∷ []))
+    → IsLost history begun
+unfolding Grows-refused
+IsLost-refused history is_history begun choice next soon refused nowhere = record {
+  nowhere = λ lines holds.
+      nowhere_settled history is_history lines (state_of begun.machine) holds.reached choice.cpu choice.number
+      (Grows-refused history is_history lines (state_of begun.machine) begun.front.counts choice holds.counts next (soon lines holds) refused)
+      refused.refusal (nowhere lines holds);
+}
+
+module _ (history : History) (is_history : IsHistory history) (begun : Begun) (group : ℕ → Bool) (left : Left) where
   module _ (first : Choice) (is_first : IsNextCall history begun.front.counts 0 first)
       (is_least : IsLeast history.events begun.front.counts 0 history.config.cpus (rank_of first)) (below : rank_of first < 1000000) where
-    first_finished : IsFinished history.events first.cpu first.number
-    first_finished =
-        let told = returned_first history.events first is_first.places below in
-        (rank_of first, told.0, told.1)
+    -- the call that returns first, at its rank
+    first_returned : (given : Reply) × IsReturned history.events (rank_of first) first.cpu first.number given
+    first_returned = returned_first history.events first is_first.places below
 
-    -- no call is left to try
-    pub IsNextLine-none : (least : ℕ) → IsLeast history.events begun.front.counts left.from history.config.cpus least → 2 ^ 32 ≤ least
-        → IsNextLine history begun left next_line.None
-    IsNextLine-none least none_sooner past = λ lines holds tried.
-        all_nowhere history is_history lines
-        (state_of begun.machine) holds.reached begun.front.counts holds.counts left.from left.above tried least none_sooner
-        (HasOpen-first history is_history lines
-        (state_of begun.machine) holds.reached begun.front.counts holds.counts 0 first is_first first_finished) past
+    -- no call of the group is left to try
+    pub IsNextLine-none : IsGroup history begun first group → (least : ℕ)
+        → IsLeast history.events begun.front.counts left.from history.config.cpus least → 2 ^ 32 ≤ least
+        → IsNextLine history begun group left next_line.None
+    IsNextLine-none is_group least none_sooner past = λ lines holds tried.
+        let at : first.number ≡ count_of first.cpu lines =
+        is_first.numbered ∙ counted history is_history lines (state_of begun.machine) holds.reached begun.front.counts holds.counts first.cpu
+        is_first.of_machine in
+        let kept = IsKept-open history is_history lines (state_of begun.machine) holds.reached begun.front.counts holds.counts (rank_of first) is_least
+        first.cpu first.number first_returned.0 first_returned.1 (omega (arith, at)) in
+        nowhere_unless_inside history is_history (rank_of first) lines (state_of begun.machine) kept first.cpu first.number
+        (λ line. group (cpu_named line)) is_group.has_first
+        (λ line other outside inside. is_group.passes (rank_of first) lines line other kept holds outside inside)
+        (λ line new inside is_open given.
+        each_nowhere history is_history lines (state_of begun.machine) holds.reached begun.front.counts holds.counts group left.from left.above
+        tried least none_sooner past line inside is_open.next)
+        first_returned.0 first_returned.1 (omega (arith, at))
+
+    -- the first call was made before it returned
+    pub IsSoon-first : IsSoon history begun first
+    IsSoon-first = IsSoon-called history is_history begun first is_least 0 first is_first called_first
+      where
+        called_first : first.places.called ≤ rank_of first
+        called_first =
+            let made = is_first.places.called in
+            let before = call_before_return history is_history first.cpu first.number first.places.called (rank_of first) made.0 first_returned.0
+            made.1 first_returned.1 in
+            omega (arith, before)
+
+    -- an order leads nowhere with no other call in the group, where the call leads nowhere behind it
+    pub IsLost-alone : IsGroup history begun first group → ((cpu : ℕ) → cpu < 8 → group cpu ≡ true → cpu ≡ first.cpu)
+        → ((lines : List Line) → Holds history begun lines → LeadsNowhere history (lines ++ Keep first.cpu first.number ∷ []))
+        → IsLost history begun
+    IsLost-alone is_group alone nowhere = record {
+      nowhere = λ lines holds.
+          let at : first.number ≡ count_of first.cpu lines =
+          is_first.numbered ∙ counted history is_history lines (state_of begun.machine) holds.reached begun.front.counts holds.counts first.cpu
+          is_first.of_machine in
+          let kept = IsKept-open history is_history lines (state_of begun.machine) holds.reached begun.front.counts holds.counts (rank_of first)
+          is_least first.cpu first.number first_returned.0 first_returned.1 (omega (arith, at)) in
+          nowhere_unless_inside history is_history (rank_of first) lines (state_of begun.machine) kept first.cpu first.number
+          (λ line. group (cpu_named line)) is_group.has_first
+          (λ line other outside inside. is_group.passes (rank_of first) lines line other kept holds outside inside)
+          (λ line new inside is_open given.
+          let within = of_machine history is_history lines (state_of begun.machine) holds.reached begun.front.counts holds.counts
+          (cpu_named line) (number_named line) is_open.next.known in
+          let few = is_history.config.most_cpus in
+          let same = alone (cpu_named line) (omega (arith, within, few)) inside in
+          nowhere_kept history lines first.cpu first.number (rank_of first, first_returned.0, first_returned.1) (nowhere lines holds) line same
+          (is_open.next.numbered ∙ ap (λ (c : ℕ). count_of c lines) same ∙ sym at) is_open.next.kind)
+          first_returned.0 first_returned.1 (omega (arith, at));
+    }
 
     -- a call that was made behind the first return can't come next
     pub GoesBehind-late : (choice : Choice) → IsNextCall history begun.front.counts left.from choice
         → IsLeast history.events begun.front.counts left.from history.config.cpus (rank_of choice) → rank_of first < choice.places.called
-        → (new : Left) → new.from ≡ rank_of choice + 1 → new.above ≡ None → GoesBehind history begun left new
+        → (new : Left) → new.from ≡ rank_of choice + 1 → new.above ≡ None → GoesBehind history begun group left new
     GoesBehind-late choice next none_sooner late new from above = λ lines holds tried.
-        let told = returned_first history.events first is_first.places below in
-        Tried-left history lines (rank_of choice + 1) None new from above
+        Tried-left history group lines (rank_of choice + 1) None new from above
         (Tried-passed history is_history lines
-        (state_of begun.machine) holds.reached begun.front.counts holds.counts left.from left.above tried choice next none_sooner
-        (too_late history is_history lines
+        (state_of begun.machine) holds.reached begun.front.counts holds.counts group left.from left.above tried choice next none_sooner
+        (λ inside. too_late history is_history lines
         (state_of begun.machine) holds.reached begun.front.counts holds.counts 0 left.from first choice is_first next
-        (rank_of first) told.0 told.1 late))
+        (rank_of first) first_returned.0 first_returned.1 late))
+
+  module _ (choice : Choice) (next : IsNextCall history begun.front.counts left.from choice)
+      (none_sooner : IsLeast history.events begun.front.counts left.from history.config.cpus (rank_of choice)) where
+    -- a call outside of the group needn't
+    pub GoesBehind-outside : group choice.cpu ≡ false → (new : Left) → new.from ≡ rank_of choice + 1 → new.above ≡ None
+        → GoesBehind history begun group left new
+    GoesBehind-outside outside new from above = λ lines holds tried.
+        Tried-left history group lines (rank_of choice + 1) None new from above
+        (Tried-passed history is_history lines
+        (state_of begun.machine) holds.reached begun.front.counts holds.counts group left.from left.above tried choice next none_sooner
+        (λ inside. absurd (let both : false ≡ true = sym outside ∙ inside in let bad : ⊥ = cc in bad)))
 
   module _ (choice : Choice) (next : IsNextCall history begun.front.counts left.from choice)
       (none_sooner : IsLeast history.events begun.front.counts left.from history.config.cpus (rank_of choice))
       (soon : IsSoon history begun choice) where
     -- the line of a call that has returned
     pub MayStand-kept : (place : ℕ) → choice.places.returned ≡ Some place → (new : Left) → new.from ≡ rank_of choice + 1 → new.above ≡ None
-        → MayStand history begun left choice (Keep choice.cpu choice.number) new
+        → MayStand history begun group left choice (Keep choice.cpu choice.number) new
     MayStand-kept place some new from above =
         let told = returned_at history.events choice.cpu choice.number place choice.places next.places some in
         let finished : IsFinished history.events choice.cpu choice.number = (place, told.0, told.1) in
@@ -74,31 +147,32 @@ module _ (history : History) (is_history : IsHistory history) (begun : Begun) (l
           kind = finished;
           soon = soon;
           resumes = λ lines holds nowhere tried.
-              Tried-left history lines (rank_of choice + 1) None new from above
+              Tried-left history group lines (rank_of choice + 1) None new from above
               (Tried-passed history is_history lines
-              (state_of begun.machine) holds.reached begun.front.counts holds.counts left.from left.above tried choice next
-              none_sooner (nowhere_kept history lines choice.cpu choice.number finished nowhere));
+              (state_of begun.machine) holds.reached begun.front.counts holds.counts group left.from left.above tried choice next
+              none_sooner (λ inside. nowhere_kept history lines choice.cpu choice.number finished nowhere));
         }
 
-    module _ (held : Option ℕ) (is_held : (bound : ℕ) → held ≡ Some bound → (left.above ≡ Some bound) × (rank_of choice ≡ left.from)) where
+    module _ (held : Option ℕ) (is_held : (bound : ℕ) → held ≡ Some bound → (left.above ≡ Some bound) × (rank_of choice ≡ left.from))
+        (inside : group choice.cpu ≡ true) where
       -- one that hasn't has no line that is left
       pub GoesBehind-pending : ((lines : List Line)
           → MayTry history lines (state_of begun.machine) choice held → IsTriedNext history lines choice None)
-          → (new : Left) → new.from ≡ rank_of choice + 1 → new.above ≡ None → GoesBehind history begun left new
+          → (new : Left) → new.from ≡ rank_of choice + 1 → new.above ≡ None → GoesBehind history begun group left new
       GoesBehind-pending none new from above = λ lines holds tried.
-          Tried-left history lines (rank_of choice + 1) None new from above
+          Tried-left history group lines (rank_of choice + 1) None new from above
           (Tried-passed history is_history lines
-          (state_of begun.machine) holds.reached begun.front.counts holds.counts left.from left.above tried choice next
-          none_sooner (none lines
+          (state_of begun.machine) holds.reached begun.front.counts holds.counts group left.from left.above tried choice next
+          none_sooner (λ of_group. none lines
           (MayTry-begun history is_history lines (state_of begun.machine) holds.reached begun.front.counts holds.counts left.from left.above
-          choice next none_sooner tried held is_held)))
+          choice next none_sooner group inside tried held is_held)))
 
       -- or this one
       pub MayStand-pending : choice.places.returned ≡ None → (frame : Frame)
           → ((lines : List Line) → MayTry history lines (state_of begun.machine) choice held → IsTriedNext history lines choice (Some frame))
           → ((claimed : Reply) × (frame.line ≡ Unfinished choice.cpu choice.number claimed)) → (new : Left)
           → new.from ≡ frame.from → new.above ≡ frame.above
-          → MayStand history begun left choice frame.line new
+          → MayStand history begun group left choice frame.line new
       MayStand-pending pending frame tries line new from above = record {
         next = IsNextCall-0 history begun.front.counts left.from choice next;
         of_cpu = ap cpu_named line.1;
@@ -106,10 +180,10 @@ module _ (history : History) (is_history : IsHistory history) (begun : Begun) (l
         kind = subst (IsOfItsKind history.events) (sym line.1) (pending_at history choice next.places pending);
         soon = soon;
         resumes = λ lines holds nowhere tried.
-            Tried-left history lines frame.from frame.above new from above
+            Tried-left history group lines frame.from frame.above new from above
             (Tried-attempt history is_history lines
             (state_of begun.machine) holds.reached begun.front.counts holds.counts left.from left.above choice next none_sooner
-            tried frame (tries lines
+            group tried frame (tries lines
             (MayTry-begun history is_history lines (state_of begun.machine) holds.reached begun.front.counts holds.counts left.from left.above
-            choice next none_sooner tried held is_held)) nowhere);
+            choice next none_sooner group inside tried held is_held)) nowhere);
       }

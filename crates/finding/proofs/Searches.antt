@@ -1,5 +1,5 @@
 -- A search as it tries a line, grows by one and takes one back.
-use Rattle.finding.proofs.Common.{◌++◌, ◌+◌, ◌<◌, ◌^◌, ◌∙◌, ◌∷◌, ◌≡◌, ◌≤◌, Choice, Frame, History, IsFinished, IsHistory, IsLeast, IsNextCall, IsSearch, IsTrue, LeadsNowhere, Line, List, None, Option, Passes, Search, Some, State, Tried, Unfinished, [], ap, arith, cases_lt, cpu_named, inl, inr, length, lines_of, number_named, opening, rank_of, refl, slice_get, slice_get_within, state_of, subst, sym, take, ℕ}
+use Rattle.finding.proofs.Common.{◌++◌, ◌+◌, ◌<◌, ◌^◌, ◌∙◌, ◌∷◌, ◌≡◌, ◌≤◌, Choice, Frame, History, IsFinished, IsHistory, IsLeast, IsNextCall, IsSearch, IsTrue, LeadsNowhere, Line, List, None, Option, Passes, Search, Some, State, Tried, Unfinished, [], ap, arith, cases_lt, cpu_named, inl, inr, length, lines_of, number_named, opening, rank_of, refl, slice_get, slice_get_within, state_of, subst, sym, take, ℕ, every}
 use Rattle.std.proofs.Common.{◌≢◌, zero, suc, ◌-◌, true, false, get_or, set, get_or-set_same, get_or-set_other}
 use Rattle.std.specs.List.{AllByRecursion}
 use Rattle.std.specs.Global.{Box}
@@ -287,7 +287,7 @@ module _ (history : History) (is_history : IsHistory history) (old new : Search)
         counts = subst (λ (cs : List ℕ). AreCounts cs (lines_of new.frames.items)) (sym counts)
             (subst (λ (ls : List Line). AreCounts (set old.front.counts cpu (number + 1)) ls) (sym longer) are);
         tried = subst (λ (f : ℕ). Tried history (lines_of new.frames.items) f new.above) (sym from)
-            (subst (λ (a : Option ℕ). Tried history (lines_of new.frames.items) 0 a) (sym above) (Tried-none history (lines_of new.frames.items)));
+            (subst (λ (a : Option ℕ). Tried history (lines_of new.frames.items) 0 a) (sym above) (Tried-none history every (lines_of new.frames.items)));
         kept = subst (λ (k : Kept). AreNowhere history k.configurations.items) (sym kept) is_search.kept;
         checkpoint = subst (λ (fs : List Frame). IfSome new.checkpoint (IsCheckpoint history fs)) (sym frames)
             (checkpoint-push history old.frames.items frame new.checkpoint point);
@@ -319,7 +319,7 @@ module _ (history : History) (is_history : IsHistory history) (old new : Search)
           front = front;
           counts = subst (λ (cs : List ℕ). AreCounts cs lines) (sym counts) are;
           tried = subst (λ (f : ℕ). Tried history lines f new.above) (sym from)
-              (subst (λ (a : Option ℕ). Tried history lines 0 a) (sym above) (Tried-none history lines));
+              (subst (λ (a : Option ℕ). Tried history lines 0 a) (sym above) (Tried-none history every lines));
           kept = subst (λ (k : Kept). AreNowhere history k.configurations.items) (sym kept) is_search.kept;
           checkpoint = checkpoint-pop history new.frames.items frame old.checkpoint new.checkpoint
               (subst (λ (fs : List Frame). IfSome old.checkpoint (IsCheckpoint history fs)) frames is_search.checkpoint) within same;
@@ -355,7 +355,7 @@ IsSearch-nil history new frames counts front from above opens nothing far =
           (subst (λ (fs : List Frame). AreCounts (0 ∷ 0 ∷ 0 ∷ 0 ∷ 0 ∷ 0 ∷ 0 ∷ 0 ∷ []) (lines_of fs)) (sym frames) AreCounts-nil);
       front = front;
       tried = subst (λ (f : ℕ). Tried history (lines_of new.frames.items) f new.above) (sym from)
-          (subst (λ (a : Option ℕ). Tried history (lines_of new.frames.items) 0 a) (sym above) (Tried-none history (lines_of new.frames.items)));
+          (subst (λ (a : Option ℕ). Tried history (lines_of new.frames.items) 0 a) (sym above) (Tried-none history every (lines_of new.frames.items)));
       kept = subst (λ (ks : List Configuration). AreNowhere history ks) (sym nothing) (λ i configuration is. absurd (none-some configuration is));
       checkpoint = subst (λ (o : Option Checkpoint). IfSome o (IsCheckpoint history new.frames.items)) (sym far) tt;
     }
@@ -420,8 +420,8 @@ module _ (history : History) (is_history : IsHistory history) (search : Search) 
   nowhere_left first next below least is_least past =
       let told = returned_first history.events first next.places below in
       all_nowhere history is_history (lines_of search.frames.items)
-      is_search.state is_search.reached search.front.counts is_search.counts search.from search.above
-      is_search.tried least is_least
+      is_search.state is_search.reached search.front.counts is_search.counts every search.from search.above
+      is_search.tried least is_least (λ cpu. refl)
       (HasOpen-first history is_history
       (lines_of search.frames.items) is_search.state is_search.reached search.front.counts is_search.counts 0 first next
       (rank_of first, told.0, told.1)) past
@@ -443,9 +443,9 @@ module _ (history : History) (is_history : IsHistory history) (search : Search) 
   Tried-late first choice is_first below next is_least late =
       let told = returned_first history.events first is_first.places below in
       Tried-passed history is_history (lines_of search.frames.items)
-      is_search.state is_search.reached search.front.counts is_search.counts search.from search.above
+      is_search.state is_search.reached search.front.counts is_search.counts every search.from search.above
       is_search.tried choice next is_least
-      (too_late history is_history (lines_of search.frames.items)
+      (λ inside. too_late history is_history (lines_of search.frames.items)
       is_search.state is_search.reached search.front.counts is_search.counts 0 search.from first choice
       is_first next (rank_of first) told.0 told.1 late)
 
@@ -469,7 +469,7 @@ module _ (history : History) (is_history : IsHistory history) (search : Search) 
         (Unfinished choice.cpu choice.number (ok (end ∷ []))) (λ is_next.
         let held = left bound is in
         let rank = rank_pending history.events choice.cpu choice.number choice.places next.places is_next.kind in
-        is_search.tried.ended choice.cpu choice.number end bound is_next.kind (sym rank ∙ held.1) held.0 within);
+        is_search.tried.ended choice.cpu choice.number end bound refl is_next.kind (sym rank ∙ held.1) held.0 within);
   }
 
   -- each line of the call leads nowhere
@@ -477,8 +477,8 @@ module _ (history : History) (is_history : IsHistory history) (search : Search) 
       → Tried history (lines_of search.frames.items) (rank_of choice + 1) None
   Tried-call nowhere =
       Tried-passed history is_history (lines_of search.frames.items)
-      is_search.state is_search.reached search.front.counts is_search.counts search.from search.above
-      is_search.tried choice next is_least nowhere
+      is_search.state is_search.reached search.front.counts is_search.counts every search.from search.above
+      is_search.tried choice next is_least (λ inside. nowhere)
 
   -- the line of a finished call leads nowhere
   pub Tried-kept : IsFinished history.events choice.cpu choice.number
@@ -497,7 +497,7 @@ module _ (history : History) (is_history : IsHistory history) (search : Search) 
     | inr ended ↦
         subst (λ (f : ℕ). Tried history (lines_of search.frames.items) f frame.above) (sym ended.from)
         (Tried-ended history is_history (lines_of search.frames.items)
-        is_search.state is_search.reached search.front.counts is_search.counts search.from search.above
+        is_search.state is_search.reached search.front.counts is_search.counts every search.from search.above
         is_search.tried choice next is_least frame.above ended.nowhere)
   ]
 

@@ -1,6 +1,6 @@
 -- What was tried behind an order, call by call in the order in which they are tried.
-use Rattle.finding.proofs.Common.{◌++◌, ◌+◌, ◌<◌, ◌^◌, ◌∙◌, ◌∷◌, ◌≡◌, ◌≤◌, Choice, History, IsFinished, IsHistory, IsLeast, IsNextCall, LeadsNowhere, Line, List, None, Option, Reply, Some, State, Tried, Unfinished, [], ap, arith, cases_lt, cpu_named, inl, inr, rank_of, slice_get, slice_get_within, subst, sym, ℕ}
-use Rattle.std.proofs.Common.{get_or, append_assoc}
+use Rattle.finding.proofs.Common.{◌++◌, ◌+◌, ◌<◌, ◌^◌, ◌∙◌, ◌∷◌, ◌≡◌, ◌≤◌, Choice, History, IsFinished, IsHistory, IsLeast, IsNextCall, LeadsNowhere, Line, List, None, Option, Reply, Some, State, Tried, TriedIn, Unfinished, [], ap, arith, cases_lt, cpu_named, number_named, inl, inr, rank_of, slice_get, slice_get_within, subst, sym, ℕ}
+use Rattle.std.proofs.Common.{Bool, true, get_or, append_assoc}
 use Rattle.std.specs.Option.{MatchOption}
 use Rattle.std.proofs.lemmas.Option.{none-some}
 use Rattle.rmm_spec.specs.declared.command.Command.{Command}
@@ -16,21 +16,22 @@ use Rattle.finding.specs.Attempt.{EndsLeadNowhere}
 use Rattle.finding.specs.Choice.{pending_rank, rank_at}
 use Rattle.finding.specs.Counts.{AreCounts}
 use Rattle.finding.specs.Tried.{CallLeadsNowhere}
+use Rattle.verdict_laws.specs.Forward.{IsKept}
 
 -- nothing was tried yet
-pub Tried-none : (history : History) (lines : List Line) → Tried history lines 0 None
-Tried-none history lines = record {
-  returned = λ cpu number place given is_returned below. absurd (omega (arith, below));
-  pending = λ cpu number claimed pending below. absurd (omega (arith, below));
-  ended = λ cpu number end bound pending at is. absurd (none-some bound is);
+pub Tried-none : (history : History) (group : ℕ → Bool) (lines : List Line) → TriedIn history group lines 0 None
+Tried-none history group lines = record {
+  returned = λ cpu number place given inside is_returned below. absurd (omega (arith, below));
+  pending = λ cpu number claimed inside pending below. absurd (omega (arith, below));
+  ended = λ cpu number end bound inside pending at is. absurd (none-some bound is);
 }
 
 -- where the lines lead nowhere, each line behind them does
 pub Tried-all : (history : History) (lines : List Line) (from : ℕ) (above : Option ℕ) → LeadsNowhere history lines → Tried history lines from above
 Tried-all history lines from above nowhere = record {
-  returned = λ cpu number place given is_returned below. behind (Keep cpu number);
-  pending = λ cpu number claimed pending below. behind (Unfinished cpu number claimed);
-  ended = λ cpu number end bound pending at is within. behind (Unfinished cpu number (ok (end ∷ [])));
+  returned = λ cpu number place given inside is_returned below. behind (Keep cpu number);
+  pending = λ cpu number claimed inside pending below. behind (Unfinished cpu number claimed);
+  ended = λ cpu number end bound inside pending at is within. behind (Unfinished cpu number (ok (end ∷ [])));
 }
   where
     behind : (line : Line) → LeadsNowhere history (lines ++ line ∷ [])
@@ -40,14 +41,14 @@ Tried-all history lines from above nowhere = record {
 module _ (history : History) (is_history : IsHistory history) (lines : List Line) (state : State)
     (reached : Reaches history lines state) (counts : List ℕ) (are_counts : AreCounts counts lines) where
   -- a call is of one of the machine's CPUs
-  of_machine : (cpu number : ℕ) → IsKnown history.events cpu number → cpu < history.config.cpus
+  pub of_machine : (cpu number : ℕ) → IsKnown history.events cpu number → cpu < history.config.cpus
   of_machine cpu number known = (call_is_event history known.0 cpu number known.1 is_history known.2).0
 
   few_cpus : (cpu : ℕ) → cpu < history.config.cpus → cpu < 8
   few_cpus cpu within = let most = is_history.config.most_cpus in omega (arith, within, most)
 
   -- the count that is kept of a CPU
-  counted : (cpu : ℕ) → cpu < history.config.cpus → get_or counts cpu 0 ≡ count_of cpu lines
+  pub counted : (cpu : ℕ) → cpu < history.config.cpus → get_or counts cpu 0 ≡ count_of cpu lines
   counted cpu within = are_counts.each cpu (few_cpus cpu within)
 
   finished_of_machine : (cpu number : ℕ) → IsFinished history.events cpu number → cpu < history.config.cpus
@@ -60,13 +61,13 @@ module _ (history : History) (is_history : IsHistory history) (lines : List Line
       let few = is_history.lines in
       omega (arith, within, few)
 
-  module _ (from : ℕ) (above : Option ℕ) (tried : Tried history lines from above) (least : ℕ)
+  module _ (group : ℕ → Bool) (from : ℕ) (above : Option ℕ) (tried : TriedIn history group lines from above) (least : ℕ)
       (is_least : IsLeast history.events counts from history.config.cpus least) where
     -- a finished call that is tried before the least one
-    pub before_returned : (cpu number place : ℕ) (given : Reply) → IsReturned history.events place cpu number given → place < least
-        → LeadsNowhere history (lines ++ Keep cpu number ∷ [])
-    before_returned cpu number place given is_returned below = elim (cases_lt place from) [
-      | inl early ↦ tried.returned cpu number place given is_returned early
+    pub before_returned : (cpu number place : ℕ) (given : Reply) → group cpu ≡ true → IsReturned history.events place cpu number given
+        → place < least → LeadsNowhere history (lines ++ Keep cpu number ∷ [])
+    before_returned cpu number place given inside is_returned below = elim (cases_lt place from) [
+      | inl early ↦ tried.returned cpu number place given inside is_returned early
       | inr late ↦ nowhere_unless history is_history lines state reached (Keep cpu number) (λ next.
           let within = of_machine cpu number next.known in
           let numbered : number ≡ get_or counts cpu 0 = next.numbered ∙ sym (counted cpu within) in
@@ -77,10 +78,10 @@ module _ (history : History) (is_history : IsHistory history) (lines : List Line
     ]
 
     -- one that hasn't returned
-    pub before_pending : (cpu number : ℕ) (claimed : Reply) → ¬ IsFinished history.events cpu number → pending_rank cpu < least
-        → LeadsNowhere history (lines ++ Unfinished cpu number claimed ∷ [])
-    before_pending cpu number claimed pending below = elim (cases_lt (pending_rank cpu) from) [
-      | inl early ↦ tried.pending cpu number claimed pending early
+    pub before_pending : (cpu number : ℕ) (claimed : Reply) → group cpu ≡ true → ¬ IsFinished history.events cpu number
+        → pending_rank cpu < least → LeadsNowhere history (lines ++ Unfinished cpu number claimed ∷ [])
+    before_pending cpu number claimed inside pending below = elim (cases_lt (pending_rank cpu) from) [
+      | inl early ↦ tried.pending cpu number claimed inside pending early
       | inr late ↦ nowhere_unless history is_history lines state reached (Unfinished cpu number claimed) (λ next.
           let within = of_machine cpu number next.known in
           let numbered : number ≡ get_or counts cpu 0 = next.numbered ∙ sym (counted cpu within) in
@@ -91,25 +92,29 @@ module _ (history : History) (is_history : IsHistory history) (lines : List Line
           absurd (omega (arith, no_sooner, below)))
     ]
 
-    -- no call is left to try
-    pub all_nowhere : HasOpen history.events lines → 2 ^ 32 ≤ least → LeadsNowhere history lines
-    all_nowhere is_open past = nowhere_after history is_history lines state reached is_open each
-      where
-        each : (line : Line) → IsNext history.events lines line → LeadsNowhere history (lines ++ line ∷ [])
-        each (Keep cpu number) next =
-            let finished = next.kind in
-            let within = return_within finished.0 cpu number finished.1 finished.2 in
-            before_returned cpu number finished.0 finished.1 finished.2 (omega (arith, past, within))
-        each (Unfinished cpu number claimed) next =
-            let within = few_cpus cpu (of_machine cpu number next.known) in
-            before_pending cpu number claimed next.kind (omega (arith, past, within))
+    -- no next call of the group is left to try
+    pub each_nowhere : 2 ^ 32 ≤ least → (line : Line) → group (cpu_named line) ≡ true → IsNext history.events lines line
+        → LeadsNowhere history (lines ++ line ∷ [])
+    each_nowhere past (Keep cpu number) inside next =
+        let finished = next.kind in
+        let within = return_within finished.0 cpu number finished.1 finished.2 in
+        before_returned cpu number finished.0 finished.1 inside finished.2 (omega (arith, past, within))
+    each_nowhere past (Unfinished cpu number claimed) inside next =
+        let within = few_cpus cpu (of_machine cpu number next.known) in
+        before_pending cpu number claimed inside next.kind (omega (arith, past, within))
 
-  module _ (from : ℕ) (above : Option ℕ) (tried : Tried history lines from above) (choice : Choice)
+    -- no call is left to try
+    pub all_nowhere : ((cpu : ℕ) → group cpu ≡ true) → HasOpen history.events lines → 2 ^ 32 ≤ least → LeadsNowhere history lines
+    all_nowhere all is_open past =
+        nowhere_after history is_history lines state reached is_open (λ line next. each_nowhere past line (all (cpu_named line)) next)
+
+  module _ (group : ℕ → Bool) (from : ℕ) (above : Option ℕ) (tried : TriedIn history group lines from above) (choice : Choice)
       (next : IsNextCall history counts from choice) (is_least : IsLeast history.events counts from history.config.cpus (rank_of choice)) where
     -- the call that is tried at a finished call's rank is that call
-    returned_here : CallLeadsNowhere history lines choice.cpu choice.number → (cpu number place : ℕ) (given : Reply)
-        → IsReturned history.events place cpu number given → rank_of choice ≡ place → LeadsNowhere history (lines ++ Keep cpu number ∷ [])
-    returned_here nowhere cpu number place given is_returned = at choice.places.returned next.places.returned
+    returned_here : (group choice.cpu ≡ true → CallLeadsNowhere history lines choice.cpu choice.number) → (cpu number place : ℕ) (given : Reply)
+        → group cpu ≡ true → IsReturned history.events place cpu number given → rank_of choice ≡ place
+        → LeadsNowhere history (lines ++ Keep cpu number ∷ [])
+    returned_here nowhere cpu number place given inside is_returned = at choice.places.returned next.places.returned
       where
         at : (o : Option ℕ) → MatchOption o (¬ IsFinished history.events choice.cpu choice.number)
             (λ p. (told : Reply) × IsReturned history.events p choice.cpu choice.number told)
@@ -122,7 +127,7 @@ module _ (history : History) (is_history : IsHistory history) (lines : List Line
             sym is_returned ∙ ap (λ (q : ℕ). slice_get history.events q) (sym same) ∙ told.1 in
             let of_cpu : cpu ≡ choice.cpu = cc in
             let numbered : number ≡ choice.number = cc in
-            nowhere (Keep cpu number) of_cpu numbered (place, given, is_returned)
+            nowhere (subst (λ (c : ℕ). group c ≡ true) of_cpu inside) (Keep cpu number) of_cpu numbered (place, given, is_returned)
 
     -- and so where it hasn't returned
     pending_cpu : (cpu : ℕ) → rank_of choice ≡ pending_rank cpu → cpu ≡ choice.cpu
@@ -147,30 +152,32 @@ module _ (history : History) (is_history : IsHistory history) (lines : List Line
         is_next.numbered ∙ sym (counted cpu within) ∙ ap (λ (c : ℕ). get_or counts c 0) of_cpu ∙ sym next.numbered in
         nowhere numbered)
 
-    -- each line of the call leads nowhere
-    pub Tried-passed : CallLeadsNowhere history lines choice.cpu choice.number → Tried history lines (rank_of choice + 1) None
+    -- each line of the call leads nowhere, where it is of the group
+    pub Tried-passed : (group choice.cpu ≡ true → CallLeadsNowhere history lines choice.cpu choice.number)
+        → TriedIn history group lines (rank_of choice + 1) None
     Tried-passed nowhere = record {
-      returned = λ cpu number place given is_returned below. elim (cases_lt place (rank_of choice)) [
-        | inl before ↦ before_returned from above tried (rank_of choice) is_least cpu number place given is_returned before
-        | inr at ↦ returned_here nowhere cpu number place given is_returned (omega (arith, at, below))
+      returned = λ cpu number place given inside is_returned below. elim (cases_lt place (rank_of choice)) [
+        | inl before ↦ before_returned group from above tried (rank_of choice) is_least cpu number place given inside is_returned before
+        | inr at ↦ returned_here nowhere cpu number place given inside is_returned (omega (arith, at, below))
       ];
-      pending = λ cpu number claimed pending below. elim (cases_lt (pending_rank cpu) (rank_of choice)) [
-        | inl before ↦ before_pending from above tried (rank_of choice) is_least cpu number claimed pending before
+      pending = λ cpu number claimed inside pending below. elim (cases_lt (pending_rank cpu) (rank_of choice)) [
+        | inl before ↦ before_pending group from above tried (rank_of choice) is_least cpu number claimed inside pending before
         | inr at ↦
             let of_cpu = pending_cpu cpu (omega (arith, at, below)) in
-            pending_here cpu number claimed of_cpu (λ numbered. nowhere (Unfinished cpu number claimed) of_cpu numbered pending)
+            pending_here cpu number claimed of_cpu (λ numbered.
+            nowhere (subst (λ (c : ℕ). group c ≡ true) of_cpu inside) (Unfinished cpu number claimed) of_cpu numbered pending)
       ];
-      ended = λ cpu number end bound pending at is. absurd (none-some bound is);
+      ended = λ cpu number end bound inside pending at is. absurd (none-some bound is);
     }
 
     -- each that isn't below the bound leads nowhere
-    pub Tried-ended : (bound : Option ℕ) → EndsLeadNowhere history lines choice bound → Tried history lines (rank_of choice) bound
+    pub Tried-ended : (bound : Option ℕ) → EndsLeadNowhere history lines choice bound → TriedIn history group lines (rank_of choice) bound
     Tried-ended bound nowhere = record {
-      returned = λ cpu number place given is_returned before.
-          before_returned from above tried (rank_of choice) is_least cpu number place given is_returned before;
-      pending = λ cpu number claimed pending before.
-          before_pending from above tried (rank_of choice) is_least cpu number claimed pending before;
-      ended = λ cpu number end least_end pending at is within.
+      returned = λ cpu number place given inside is_returned before.
+          before_returned group from above tried (rank_of choice) is_least cpu number place given inside is_returned before;
+      pending = λ cpu number claimed inside pending before.
+          before_pending group from above tried (rank_of choice) is_least cpu number claimed inside pending before;
+      ended = λ cpu number end least_end inside pending at is within.
           let of_cpu = pending_cpu cpu (sym at) in
           pending_here cpu number (ok (end ∷ [])) of_cpu (λ numbered.
           subst (λ (c : ℕ). LeadsNowhere history (lines ++ Unfinished c number (ok (end ∷ [])) ∷ [])) (sym of_cpu)
@@ -189,6 +196,48 @@ module _ (history : History) (is_history : IsHistory history) (lines : List Line
       subst (λ (n : ℕ). IsReturned history.events first.0 cpu n first.1) (sym (counted cpu within)) first.2 in
       let no_sooner = is_least.returned cpu first.0 first.1 within is_next (omega arith) in
       omega (arith, below, no_sooner)
+
+  -- at the return of an open call, of those the first, the lines are kept
+  pub IsKept-open : (least : ℕ) → IsLeast history.events counts 0 history.config.cpus least → (cpu number : ℕ) (given : Reply)
+      → IsReturned history.events least cpu number given → count_of cpu lines ≤ number → IsKept history least lines state
+  IsKept-open least is_least cpu number given is_returned is_open = record {
+    reached = reached;
+    returned = open_late least is_least;
+    made = λ other other_number called command is_called below. elim (cases_lt called least) [
+      | inl before ↦ before
+      | inr after ↦
+          let there = reached.first other other_number below in
+          let of_line : IsCalled history.events called (cpu_named there.1) (number_named there.1) command =
+          subst (λ (c : ℕ). IsCalled history.events called c (number_named there.1) command) (sym there.3)
+          (subst (λ (n : ℕ). IsCalled history.events called other n command) (sym there.4) is_called) in
+          absurd (reached.in_time (Keep cpu number) (λ named. let early = reached.named cpu number named in omega (arith, early, is_open)) (
+            there.0,
+            there.1,
+            there.2,
+            record {
+              returned = least;
+              given = given;
+              is_returned = is_returned;
+              called = called;
+              command = command;
+              is_called = of_line;
+              before = apart_places called other other_number command is_called after;
+            },
+          ))
+    ];
+  }
+    where
+      -- a return isn't a call
+      apart_places : (called other other_number : ℕ) (command : Command) → IsCalled history.events called other other_number command
+          → least ≤ called → least < called
+      apart_places called other other_number command is_called after = elim (cases_lt least called) [
+        | inl before ↦ before
+        | inr below ↦
+            let at : called ≡ least = omega (arith, after, below) in
+            let both : Some (Called other other_number command) ≡ Some (Returned cpu number given) =
+            sym is_called ∙ ap (λ (p : ℕ). slice_get history.events p) at ∙ is_returned in
+            absurd (let bad : ⊥ = cc in bad)
+      ]
 
   -- a call that was made before that can come next
   pub ReturnBehind-called : (least : ℕ) → IsLeast history.events counts 0 history.config.cpus least → (called cpu number : ℕ) (command : Command)

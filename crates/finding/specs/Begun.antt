@@ -1,5 +1,5 @@
 -- Orders that are begun, by what is held of them: how many calls of each CPU stand there, and the state behind them.
-use Rattle.std.specs.Prelude.{◌≡◌, List, [], ◌∷◌, ◌++◌, Option, Some, None}
+use Rattle.std.specs.Prelude.{◌≡◌, ℕ, Bool, true, false, List, [], ◌∷◌, ◌++◌, Option, Some, None}
 use Rattle.std.specs.List.{All}
 use Rattle.rmm_spec.specs.declared.line.Line.{Line}
 use Rattle.rmm_spec.specs.HistoryText.{History}
@@ -9,7 +9,8 @@ use Rattle.order_laws.specs.Order.{LeadsNowhere, Reaches, ReturnBehind}
 use Rattle.finding.specs.Choice.{IsNextCall}
 use Rattle.finding.specs.Counts.{AreCounts}
 use Rattle.finding.specs.Front.{IsFront}
-use Rattle.finding.specs.Tried.{Tried}
+use Rattle.finding.specs.Tried.{TriedIn}
+use Rattle.verdict_laws.specs.Forward.{IsKept, Passes}
 use Rattle.finding.specs.declared.begun.Begun.{Begun}
 use Rattle.finding.specs.declared.choice.Choice.{Choice}
 use Rattle.finding.specs.declared.next_line.NextLine.{NextLine}
@@ -50,31 +51,39 @@ pub record Stays (history : History) (line : Line) (old new : Begun) : Type 0 wh
 
 -- ---- what is tried behind an order
 
--- where each line leads nowhere that isn't left, each leads nowhere that isn't left here
-abbrev pub GoesBehind : History → Begun → Left → Left → Type 0
-GoesBehind history begun old new =
-    (lines : List Line) → Holds history begun lines → Tried history lines old.from old.above → Tried history lines new.from new.above
+-- Of the calls that may come next at the first return only those of the group's CPUs need be tried: the call that returns is one, and each
+-- other open call may as well come behind any of the group.
+pub record IsGroup (history : History) (begun : Begun) (first : Choice) (group : ℕ → Bool) : Type 0 where
+  pub has_first : group first.cpu ≡ true
+  pub passes : (place : ℕ) (lines : List Line) (line other : Line) → IsKept history place lines (state_of begun.machine)
+      → Holds history begun lines → group (cpu_named line) ≡ false → group (cpu_named other) ≡ true
+      → Passes history place lines (state_of begun.machine) line other
+
+-- where each line of the group leads nowhere that isn't left, each leads nowhere that isn't left here
+abbrev pub GoesBehind : History → Begun → (ℕ → Bool) → Left → Left → Type 0
+GoesBehind history begun group old new =
+    (lines : List Line) → Holds history begun lines → TriedIn history group lines old.from old.above → TriedIn history group lines new.from new.above
 
 -- the line may stand behind the order, and where it leads nowhere this is left
-pub record MayStand (history : History) (begun : Begun) (old : Left) (choice : Choice) (line : Line) (new : Left) : Type 0 where
+pub record MayStand (history : History) (begun : Begun) (group : ℕ → Bool) (old : Left) (choice : Choice) (line : Line) (new : Left) : Type 0 where
   pub next : IsNextCall history begun.front.counts 0 choice
   pub of_cpu : cpu_named line ≡ choice.cpu
   pub numbered : number_named line ≡ choice.number
   pub kind : IsOfItsKind history.events line
   pub soon : IsSoon history begun choice
   pub resumes : (lines : List Line) → Holds history begun lines → LeadsNowhere history (lines ++ line ∷ [])
-      → Tried history lines old.from old.above → Tried history lines new.from new.above
+      → TriedIn history group lines old.from old.above → TriedIn history group lines new.from new.above
 
 -- what is left behind lines, or nothing is
-abbrev pub LeavesBehind : History → Begun → Left → Option Left → Type 0
-LeavesBehind history begun old None =
-    (lines : List Line) → Holds history begun lines → Tried history lines old.from old.above → LeadsNowhere history lines
-LeavesBehind history begun old (Some new) = GoesBehind history begun old new
+abbrev pub LeavesBehind : History → Begun → (ℕ → Bool) → Left → Option Left → Type 0
+LeavesBehind history begun group old None =
+    (lines : List Line) → Holds history begun lines → TriedIn history group lines old.from old.above → LeadsNowhere history lines
+LeavesBehind history begun group old (Some new) = GoesBehind history begun group old new
 
-abbrev pub IsNextLine : History → Begun → Left → NextLine → Type 0
-IsNextLine history begun left next_line.None = LeavesBehind history begun left None
-IsNextLine history begun left (next_line.Passed new) = GoesBehind history begun left new
-IsNextLine history begun left (next_line.Line choice line new) = MayStand history begun left choice line new
+abbrev pub IsNextLine : History → Begun → (ℕ → Bool) → Left → NextLine → Type 0
+IsNextLine history begun group left next_line.None = LeavesBehind history begun group left None
+IsNextLine history begun group left (next_line.Passed new) = GoesBehind history begun group left new
+IsNextLine history begun group left (next_line.Line choice line new) = MayStand history begun group left choice line new
 
 -- ---- orders that are kept
 

@@ -11,3 +11,4 @@ pub mod Begun
 pub mod Survey
 pub mod Found
 pub mod Told
+pub mod Group

@@ -1,5 +1,5 @@
 -- What was tried behind an order that is begun.
-use Rattle.std.specs.Prelude.{◌≡◌, ℕ, ◌<◌, ◌≤◌, List, [], ◌∷◌, ◌++◌, Option, Some}
+use Rattle.std.specs.Prelude.{◌≡◌, ℕ, ◌<◌, ◌≤◌, Bool, true, List, [], ◌∷◌, ◌++◌, Option, Some}
 use Rattle.rmm_spec.specs.declared.line.Line.{Line}
 use Rattle.rmm_spec.specs.declared.line.Line.TheVariants.{Keep, Unfinished}
 use Rattle.rmm_spec.specs.declared.reply.Reply.{Reply}
@@ -9,15 +9,22 @@ use Rattle.rmm_spec.specs.Linearization.{IsReturned, IsFinished, IsOfItsKind, cp
 use Rattle.order_laws.specs.Order.{LeadsNowhere}
 use Rattle.finding.specs.Choice.{pending_rank}
 
--- Each call that is tried before the rank leads nowhere, and one that is tried at it and hasn't returned leads nowhere with the
--- ends of its stretch that aren't below the bound.
-pub record Tried (history : History) (lines : List Line) (from : ℕ) (above : Option ℕ) : Type 0 where
-  pub returned : (cpu number place : ℕ) (given : Reply) → IsReturned history.events place cpu number given → place < from
+-- Of the group's CPUs, each call that is tried before the rank leads nowhere, and one that is tried at it and hasn't returned leads
+-- nowhere with the ends of its stretch that aren't below the bound.
+pub record TriedIn (history : History) (group : ℕ → Bool) (lines : List Line) (from : ℕ) (above : Option ℕ) : Type 0 where
+  pub returned : (cpu number place : ℕ) (given : Reply) → group cpu ≡ true → IsReturned history.events place cpu number given → place < from
       → LeadsNowhere history (lines ++ Keep cpu number ∷ [])
-  pub pending : (cpu number : ℕ) (claimed : Reply) → ¬ IsFinished history.events cpu number → pending_rank cpu < from
+  pub pending : (cpu number : ℕ) (claimed : Reply) → group cpu ≡ true → ¬ IsFinished history.events cpu number → pending_rank cpu < from
       → LeadsNowhere history (lines ++ Unfinished cpu number claimed ∷ [])
-  pub ended : (cpu number end bound : ℕ) → ¬ IsFinished history.events cpu number → pending_rank cpu ≡ from → above ≡ Some bound → bound ≤ end
-      → LeadsNowhere history (lines ++ Unfinished cpu number (ok (end ∷ [])) ∷ [])
+  pub ended : (cpu number end bound : ℕ) → group cpu ≡ true → ¬ IsFinished history.events cpu number → pending_rank cpu ≡ from
+      → above ≡ Some bound → bound ≤ end → LeadsNowhere history (lines ++ Unfinished cpu number (ok (end ∷ [])) ∷ [])
+
+-- of all CPUs
+abbrev pub every : ℕ → Bool
+every cpu = true
+
+abbrev pub Tried : History → List Line → ℕ → Option ℕ → Type 0
+Tried history lines from above = TriedIn history every lines from above
 
 -- each line of that call, of its kind, leads nowhere
 abbrev pub CallLeadsNowhere : History → List Line → ℕ → ℕ → Type 0

@@ -21,10 +21,10 @@ use std::cmp::min;
 const FIRST_KEPT: usize = 8;
 
 /// How many cells may be copied to name a return once it is known that there is no order.
-const TO_NAME: u64 = 2_000_000;
+const TO_NAME: u64 = 1_000_000_000;
 
 /// How many cells may be copied to look at orders return by return, where each offer is made to a copy of a machine.
-const TO_DECIDE: u64 = 50_000_000;
+const TO_DECIDE: u64 = 1_000_000_000;
 
 /// What was found of a history.
 #[derive(Drop)]
@@ -56,7 +56,7 @@ fn find_guessed(alloc: Global, history: &History, limit: u64) -> Result<Found, A
 {
     let soon = limit / 2;
     let mut search = guessed(alloc, history, soon)?;
-    let progress = search_until(&mut search, alloc, history, soon)?;
+    let progress = search_at_first(&mut search, alloc, history, soon)?;
     match progress {
         Progress::Going => find_forward(alloc, history, search, limit),
         Progress::Whole => order_found(alloc, history, &search),

@@ -6,6 +6,7 @@
 #![tactic(auto)]
 
 mod alike;
+mod apart;
 mod attempt;
 mod begun;
 mod checkpoint;
@@ -17,6 +18,7 @@ mod first_part;
 mod forward;
 mod frame;
 mod front;
+mod group;
 mod guided;
 mod kept;
 mod longest;

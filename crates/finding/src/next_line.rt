@@ -1,12 +1,14 @@
 //! The lines that may stand behind an order, one after another.
 
-ghost use Rattle.std.specs.Prelude.{◌≡◌, ◌+◌, ◌^◌, ◌<◌, ℕ, None, Some};
-ghost use Rattle.finding.specs.Begun.{IsBegun, IsNextLine, IsSoon};
+ghost use Rattle.std.specs.Prelude.{◌≡◌, ◌+◌, ◌^◌, ◌<◌, ℕ, true, None, Some};
+ghost use Rattle.finding.specs.Begun.{IsBegun, IsGroup, IsNextLine, IsSoon};
 ghost use Rattle.finding.specs.Choice.{IsLeast, IsNextCall, rank_of};
+ghost use Rattle.finding.specs.Group.{is_inside};
 
 use crate::attempt::attempt;
 use crate::begun::Begun;
-use crate::choice::{Choice, rank};
+use crate::choice::{Choice, cpus_of, rank};
+use crate::group::Group;
 use crate::search::Left;
 use history::History;
 use rmm_spec::Line;
@@ -26,18 +28,23 @@ pub(crate) enum NextLine {
     },
 }
 
-/// The next line, of what is left. `first` is the open call that returned first.
-pub(crate) fn next_line(history: &History, begun: &Begun, first: Choice, left: Left) -> NextLine
+/// The next line, of what is left of the group's calls.
+pub(crate) fn next_line(history: &History, begun: &Begun, group: Group, left: Left) -> NextLine
     requires begun { IsBegun history.now.recorded begun.now }
-    requires first { IsNextCall history.now.recorded begun.now.front.counts 0 first }
-    requires least { IsLeast history.now.recorded.events begun.now.front.counts 0 history.now.recorded.config.cpus (rank_of first) }
-    requires returned { rank_of first < 1000000 }
-    ensures { IsNextLine history.now.recorded begun.now left result }
+    requires first { IsNextCall history.now.recorded begun.now.front.counts 0 group.first }
+    requires least { IsLeast history.now.recorded.events begun.now.front.counts 0 history.now.recorded.config.cpus (rank_of group.first) }
+    requires returned { rank_of group.first < 1000000 }
+    requires group { IsGroup history.now.recorded begun.now group.first (is_inside group) }
+    ensures { IsNextLine history.now.recorded begun.now (is_inside group) left result }
 {
     let Some(choice) = begun.front.first_at(history, left.from) else {
         return NextLine::None;
     };
-    if rank(&first) < choice.places.called {
+    if rank(&group.first) < choice.places.called {
+        return NextLine::Passed(behind(choice));
+    }
+    let _fact = cpus_of(history);
+    if !group.has(choice.cpu) {
         return NextLine::Passed(behind(choice));
     }
     match choice.places.returned {
@@ -49,18 +56,25 @@ pub(crate) fn next_line(history: &History, begun: &Begun, first: Choice, left: L
             },
             left: behind(choice),
         },
-        None => pending_line(history, begun, choice, left),
+        None => pending_line(history, begun, group, choice, left),
     }
 }
 
 /// The next line of a call that hasn't returned.
-fn pending_line(history: &History, begun: &Begun, choice: Choice, left: Left) -> NextLine
+fn pending_line(
+    history: &History,
+    begun: &Begun,
+    group: Group,
+    choice: Choice,
+    left: Left,
+) -> NextLine
     requires begun { IsBegun history.now.recorded begun.now }
     requires next { IsNextCall history.now.recorded begun.now.front.counts left.from choice }
     requires least { IsLeast history.now.recorded.events begun.now.front.counts left.from history.now.recorded.config.cpus (rank_of choice) }
     requires pending { choice.places.returned ≡ None }
     requires soon { IsSoon history.now.recorded begun.now choice }
-    ensures { IsNextLine history.now.recorded begun.now left result }
+    requires inside { is_inside group choice.cpu ≡ true }
+    ensures { IsNextLine history.now.recorded begun.now (is_inside group) left result }
 {
     let above = above_for(choice, left);
     match attempt(history, &begun.machine, choice, above) {

@@ -6,8 +6,10 @@ ghost use Rattle.finding.specs.Begun.{AllBegun, AllLost, IsBegun, IsRound, Round
 use crate::alike::{has_alike, has_beginning};
 use crate::begun::Begun;
 use crate::choice::{Choice, PENDING, rank};
+use crate::group::{Group, group_at};
 use crate::next_line::{NextLine, next_line};
 use crate::offers::Offers;
+use crate::refused::refused_choice;
 use crate::search::Left;
 use history::History;
 use rmm_spec::Line;
@@ -17,10 +19,10 @@ use std::alloc::{AllocError, Global};
 const LINES: u32 = 4096;
 
 /// How many orders that lack a call are kept.
-const LACKING: usize = 512;
+const LACKING: usize = 2048;
 
 /// How many orders that lack none are kept.
-const NEXT: usize = 64;
+const NEXT: usize = 256;
 
 /// How many calls may come before the one that returned, and that one.
 const DEPTH: u32 = 9;
@@ -34,10 +36,13 @@ pub(crate) struct Round {
 }
 
 impl Round {
-    ghost use Rattle.std.specs.Prelude.{◌<◌, List, [], ◌∷◌, ◌++◌, IfOk, IfSome, IsTrue, OnOk};
+    ghost use Rattle.std.specs.Prelude.{◌≡◌, ◌<◌, ℕ, Bool, true, List, [], ◌∷◌, ◌++◌, IfOk, IfSome, IsTrue, OnOk};
     ghost use Rattle.rmm_spec.specs.declared.line.Line.{Line};
     ghost use Rattle.order_laws.specs.Order.{LeadsNowhere};
-    ghost use Rattle.finding.specs.Begun.{Covers, Holds, IsBegun, IsLost, IsRound, LeavesBehind, MayStand, RoundLost};
+    ghost use Rattle.finding.specs.Begun.{Covers, Holds, IsBegun, IsGroup, IsLost, IsRound, IsSoon, LeavesBehind, MayStand, RoundLost};
+    ghost use Rattle.finding.specs.Search.{IsRefusedHere};
+    ghost use Rattle.spec_machine.specs.View.{state_of};
+    ghost use Rattle.finding.specs.Group.{is_inside};
     ghost use Rattle.finding.specs.Choice.{IsLeast, IsNextCall, rank_of};
     ghost use Rattle.finding.specs.declared.search.Left.{Left};
 
@@ -112,7 +117,7 @@ impl Round {
     ) -> Result<(), AllocError>
         requires round { IsRound history.now.recorded self.old }
         requires begun { IsBegun history.now.recorded begun.now }
-        requires stands { (old new : Left) × MayStand history.now.recorded begun.now old choice line.now new }
+        requires stands { (group : ℕ → Bool) × (old new : Left) × MayStand history.now.recorded begun.now group old choice line.now new }
         ensures round { OnOk result (IsRound history.now.recorded self.new) }
         ensures covers { OnOk result (Covers history.now.recorded self.old self.new) }
         ensures taken { OnOk result (RoundLost history.now.recorded self.new → (lines : List Line) → Holds history.now.recorded begun.now lines
@@ -127,6 +132,70 @@ impl Round {
         Ok(())
     }
 
+    /// Takes the order that is longer by a call which is refused here, as it was. That changes nothing, so that nothing else need be tried.
+    fn take_refused(
+        &mut self,
+        alloc: Global,
+        offers: &mut Offers,
+        history: &History,
+        begun: Begun,
+        choice: Choice,
+    ) -> Result<(), AllocError>
+        requires round { IsRound history.now.recorded self.old }
+        requires begun { IsBegun history.now.recorded begun }
+        requires next { IsNextCall history.now.recorded begun.front.counts 0 choice }
+        requires soon { IsSoon history.now.recorded begun choice }
+        requires refused { IsRefusedHere history.now.recorded (state_of begun.machine) choice }
+        ensures round { OnOk result (IsRound history.now.recorded self.new) }
+        ensures covers { OnOk result (Covers history.now.recorded self.old self.new) }
+        ensures taken { OnOk result (RoundLost history.now.recorded self.new → IsLost history.now.recorded begun) }
+    {
+        let line = Line::Keep {
+            cpu: choice.cpu,
+            number: choice.number,
+        };
+        let mut longer = begun;
+        let given = longer.grow(offers, history, choice, &line)?;
+        if given {
+            self.take(alloc, offers, history, longer)?;
+            return Ok(());
+        }
+        Ok(())
+    }
+
+    /// Takes the order that is longer by the call that returned, where no other need come before it.
+    fn take_only(
+        &mut self,
+        alloc: Global,
+        offers: &mut Offers,
+        history: &History,
+        begun: Begun,
+        group: Group,
+    ) -> Result<(), AllocError>
+        requires round { IsRound history.now.recorded self.old }
+        requires begun { IsBegun history.now.recorded begun }
+        requires first { IsNextCall history.now.recorded begun.front.counts 0 group.first }
+        requires least { IsLeast history.now.recorded.events begun.front.counts 0 history.now.recorded.config.cpus (rank_of group.first) }
+        requires returned { rank_of group.first < 1000000 }
+        requires group { IsGroup history.now.recorded begun group.first (is_inside group) }
+        requires alone { (cpu : ℕ) → cpu < 8 → is_inside group cpu ≡ true → cpu ≡ group.first.cpu }
+        ensures round { OnOk result (IsRound history.now.recorded self.new) }
+        ensures covers { OnOk result (Covers history.now.recorded self.old self.new) }
+        ensures taken { OnOk result (RoundLost history.now.recorded self.new → IsLost history.now.recorded begun) }
+    {
+        let line = Line::Keep {
+            cpu: group.first.cpu,
+            number: group.first.number,
+        };
+        let mut longer = begun;
+        let given = longer.grow(offers, history, group.first, &line)?;
+        if given {
+            self.take(alloc, offers, history, longer)?;
+            return Ok(());
+        }
+        Ok(())
+    }
+
     /// Takes the orders that are longer by the next line, and returns what is left behind it.
     fn take_line(
         &mut self,
@@ -134,19 +203,20 @@ impl Round {
         offers: &mut Offers,
         history: &History,
         begun: &Begun,
-        first: Choice,
+        group: Group,
         left: Left,
     ) -> Result<Option<Left>, AllocError>
         requires round { IsRound history.now.recorded self.old }
         requires begun { IsBegun history.now.recorded begun.now }
-        requires first { IsNextCall history.now.recorded begun.now.front.counts 0 first }
-        requires least { IsLeast history.now.recorded.events begun.now.front.counts 0 history.now.recorded.config.cpus (rank_of first) }
-        requires returned { rank_of first < 1000000 }
+        requires first { IsNextCall history.now.recorded begun.now.front.counts 0 group.first }
+        requires least { IsLeast history.now.recorded.events begun.now.front.counts 0 history.now.recorded.config.cpus (rank_of group.first) }
+        requires returned { rank_of group.first < 1000000 }
+        requires group { IsGroup history.now.recorded begun.now group.first (is_inside group) }
         ensures round { OnOk result (IsRound history.now.recorded self.new) }
         ensures covers { OnOk result (Covers history.now.recorded self.old self.new) }
-        ensures left { IfOk result (λ behind. RoundLost history.now.recorded self.new → LeavesBehind history.now.recorded begun.now left behind) }
+        ensures left { IfOk result (λ behind. RoundLost history.now.recorded self.new → LeavesBehind history.now.recorded begun.now (is_inside group) left behind) }
     {
-        match next_line(history, begun, first, left) {
+        match next_line(history, begun, group, left) {
             NextLine::None => Ok(None),
             NextLine::Passed(behind) => Ok(Some(behind)),
             NextLine::Line {
@@ -166,13 +236,13 @@ impl Round {
         alloc: Global,
         offers: &mut Offers,
         history: &History,
-        begun: &Begun,
+        begun: Begun,
     ) -> Result<bool, AllocError>
         requires round { IsRound history.now.recorded self.old }
-        requires begun { IsBegun history.now.recorded begun.now }
+        requires begun { IsBegun history.now.recorded begun }
         ensures round { OnOk result (IsRound history.now.recorded self.new) }
         ensures covers { OnOk result (Covers history.now.recorded self.old self.new) }
-        ensures taken { IfOk result (λ all. IsTrue all → RoundLost history.now.recorded self.new → IsLost history.now.recorded begun.now) }
+        ensures taken { IfOk result (λ all. IsTrue all → RoundLost history.now.recorded self.new → IsLost history.now.recorded begun) }
     {
         let Some(first) = begun.front.first_at(history, 0) else {
             return Ok(false);
@@ -180,12 +250,43 @@ impl Round {
         if rank(&first) >= PENDING {
             return Ok(false);
         }
+        if let Some(choice) = refused_choice(history, &begun.machine, &begun.front, rank(&first)) {
+            self.take_refused(alloc, offers, history, begun, choice)?;
+            return Ok(true);
+        }
+        let group = group_at(history, &begun, first);
+        if group.is_alone() {
+            self.take_only(alloc, offers, history, begun, group)?;
+            return Ok(true);
+        }
+        self.take_group(alloc, offers, history, &begun, group)
+    }
+
+    /// Takes each order that is longer by a line of the group, and returns whether these are all.
+    fn take_group(
+        &mut self,
+        alloc: Global,
+        offers: &mut Offers,
+        history: &History,
+        begun: &Begun,
+        group: Group,
+    ) -> Result<bool, AllocError>
+        requires round { IsRound history.now.recorded self.old }
+        requires begun { IsBegun history.now.recorded begun.now }
+        requires first { IsNextCall history.now.recorded begun.now.front.counts 0 group.first }
+        requires least { IsLeast history.now.recorded.events begun.now.front.counts 0 history.now.recorded.config.cpus (rank_of group.first) }
+        requires returned { rank_of group.first < 1000000 }
+        requires group { IsGroup history.now.recorded begun.now group.first (is_inside group) }
+        ensures round { OnOk result (IsRound history.now.recorded self.new) }
+        ensures covers { OnOk result (Covers history.now.recorded self.old self.new) }
+        ensures taken { IfOk result (λ all. IsTrue all → RoundLost history.now.recorded self.new → IsLost history.now.recorded begun.now) }
+    {
         let mut left = Left {
             from: 0,
             above: None,
         };
         'lines: for _line in 0..LINES {
-            let taken = self.take_line(alloc, offers, history, begun, first, left)?;
+            let taken = self.take_line(alloc, offers, history, begun, group, left)?;
             let Some(behind) = taken else {
                 return Ok(true);
             };
@@ -217,7 +318,7 @@ impl Round {
             next,
         };
         'orders: while let Some(begun) = left.pop() {
-            let all = round.take_each(alloc, offers, history, &begun)?;
+            let all = round.take_each(alloc, offers, history, begun)?;
             if !all {
                 return Ok(None);
             }

@@ -14,3 +14,9 @@ pub mod Steps
 pub mod Survival
 pub mod Beginnings
 pub mod Parts
+pub mod Groups
+pub mod Retags
+pub mod Spared
+pub mod SparedCalls
+pub mod Lending
+pub mod Passing

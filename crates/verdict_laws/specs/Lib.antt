@@ -1,2 +1,3 @@
 pub mod Forward
 pub mod Parts
+pub mod Apart

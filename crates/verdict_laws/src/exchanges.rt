@@ -112,6 +112,17 @@ pub fn looks_stay_in_a_group()
         → (i : ℕ) (line : Line) → slice_get before i ≡ Some line → inside line ≡ true }
 {}
 
+/// So an order that lacks a call at its return leads nowhere, if it does with each open call of that call's group which is given next.
+pub fn nowhere_in_a_group()
+    ensures { (history : History) (place cpu number : ℕ) (given : Reply) (lines : List Line) (state : State) (inside : Line → Bool)
+        → IsHistory history → IsKept history place lines state → IsReturned history.events place cpu number given → count_of cpu lines ≤ number
+        → inside (line.Keep cpu number) ≡ true
+        → ((line other : Line) → inside line ≡ false → inside other ≡ true → Passes history place lines state line other)
+        → ((line : Line) (new : State) → inside line ≡ true → IsOpen history.events place lines line → Gives history.events state (line ∷ []) new
+        → LeadsNowhere history (lines ++ line ∷ []))
+        → LeadsNowhere history lines }
+{}
+
 /// Before the first event the order without a line is all that is kept.
 pub fn kept_at_first()
     ensures { (history : History) → AreKept history 0 ([] ∷ []) }

@@ -1,24 +1,16 @@
--- Line by line.
+-- The call alone, or line by line.
 use Rattle.std.proofs.Common.{arith}
-use Rattle.finding.proofs.TriedLaws.{Tried-none}
+use Rattle.finding.proofs.NextLines.{IsSoon-called}
 use Rattle.finding.proofs.round.Round.take_each.Goals as goal
 
-pub take_line-requires-clause-returned : goal.take_line-requires-clause-returned
-take_line-requires-clause-returned c = omega (arith, c.rank.ensures.rank, c.if-rank-ge-PENDING.false)
+pub take_only-requires-clause-returned : goal.take_only-requires-clause-returned
+take_only-requires-clause-returned c = rw c.group_at-group.ensures.first (omega (arith, c.rank.ensures.rank, c.if-rank-ge-PENDING.false))
 
-pub lines-init : goal.lines-init
-lines-init c = record {
-  round = c.requires.round;
-  covers = λ lost. lost;
-  tried = λ lost lines holds. Tried-none c.args.history.now.recorded lines;
-}
+pub take_group-requires-clause-returned : goal.take_group-requires-clause-returned
+take_group-requires-clause-returned c = rw c.group_at-group.ensures.first (omega (arith, c.rank.ensures.rank, c.if-rank-ge-PENDING.false))
 
-pub lines-preserved : goal.lines-preserved
-lines-preserved c =
-    let taken = c.in_ok-taken.ensures in
-    let left = rw c.in-Some-taken.is at taken.left in
-    record {
-      round = taken.round;
-      covers = λ lost. c.lines.invariant.covers (taken.covers lost);
-      tried = λ lost lines holds. left lost lines holds (c.lines.invariant.tried (taken.covers lost) lines holds);
-    }
+pub take_refused-requires-clause-soon : goal.take_refused-requires-clause-soon
+take_refused-requires-clause-soon c =
+    IsSoon-called c.args.history.now.recorded c.requires.begun.front.is_history c.args.begun c.in-Some.first c.in-Some.ensures.least 0
+    c.in-Some-refused_choice.choice c.in-Some-refused_choice.ensures.next
+    (rw c.rank-2.ensures.rank at c.in-Some-refused_choice.ensures.bound)

@@ -1,8 +1,9 @@
 -- No line is left, none of a call, or one.
+use Rattle.finding.specs.Group.{is_inside}
 use Rattle.finding.proofs.round.Round.take_line.Goals as goal
 
 pub take_longer-requires-clause-stands : goal.take_longer-requires-clause-stands
-take_longer-requires-clause-stands c = (c.args.left, c.in-Line.behind, c.in-Line.ensures)
+take_longer-requires-clause-stands c = (is_inside c.args.group, c.args.left, c.in-Line.behind, c.in-Line.ensures)
 
 pub returns-in-None : goal.returns-in-None
 returns-in-None c = record { round = c.requires.round; covers = λ lost. lost; left = λ lost. c.in-None.ensures }

@@ -9,21 +9,21 @@ grow-requires-clause-begun c =
 pub grow-requires-clause-next : goal.grow-requires-clause-next
 grow-requires-clause-next c =
     IsNextCall-copied c.args.history.now.recorded c.args.begun.now c.in_ok-longer.longer c.in_ok-longer.ensures.front c.in_ok-longer.ensures.state
-    c.args.choice c.requires.stands.2.next
+    c.args.choice c.requires.stands.3.next
 
 pub grow-requires-clause-of_cpu : goal.grow-requires-clause-of_cpu
-grow-requires-clause-of_cpu c = c.requires.stands.2.of_cpu
+grow-requires-clause-of_cpu c = c.requires.stands.3.of_cpu
 
 pub grow-requires-clause-numbered : goal.grow-requires-clause-numbered
-grow-requires-clause-numbered c = c.requires.stands.2.numbered
+grow-requires-clause-numbered c = c.requires.stands.3.numbered
 
 pub grow-requires-clause-kind : goal.grow-requires-clause-kind
-grow-requires-clause-kind c = c.requires.stands.2.kind
+grow-requires-clause-kind c = c.requires.stands.3.kind
 
 pub grow-requires-clause-soon : goal.grow-requires-clause-soon
 grow-requires-clause-soon c =
     IsSoon-copied c.args.history.now.recorded c.args.begun.now c.in_ok-longer.longer c.in_ok-longer.ensures.front c.in_ok-longer.ensures.state
-    c.args.choice c.requires.stands.2.soon
+    c.args.choice c.requires.stands.3.soon
 
 pub take-requires-clause-begun : goal.take-requires-clause-begun
 take-requires-clause-begun c = (rw c.if-given.true at c.in_ok-given.ensures).begun

@@ -1,0 +1,47 @@
+//! Calls that may as well come behind others, whatever the state, by their words alone.
+
+ghost use Rattle.std.specs.Prelude.{◌≡◌};
+ghost use Rattle.rmm_spec.specs.Locks as locks;
+ghost use Rattle.verdict_laws.specs.Apart as spec;
+
+use command_words::{Name, named};
+use rmm_spec::Call;
+
+/// The granule that a call lends to the realm world or takes back, where it does.
+#[tactic(auto, unfolding(verdict_laws::specs::Apart::lent))]
+pub(crate) fn lent(call: &Call) -> Option<u64>
+    ensures { result ≡ spec.lent call.now }
+{
+    match call {
+        Call::GranuleDelegate { granule } | Call::GranuleUndelegate { granule } => Some(*granule),
+        _ => None,
+    }
+}
+
+/// Whether a call neither names the granule nor may give back granules that it doesn't name.
+pub(crate) fn is_apart_from(call: &Call, granule: u64) -> bool
+    ensures { result ≡ spec.is_apart_from call.now granule }
+{
+    !is_named(named(call).as_slice(), granule) && !frees_unnamed(call)
+}
+
+/// Whether a granule is named.
+fn is_named(names: &[Name], granule: u64) -> bool
+    ensures { result ≡ locks.is_named names.now granule }
+{
+    names.iter().any(|name| name.granule == granule)
+}
+
+/// Whether a call may give back granules that it doesn't name.
+#[tactic(auto, unfolding(verdict_laws::specs::Apart::frees_unnamed))]
+fn frees_unnamed(call: &Call) -> bool
+    ensures { result ≡ spec.frees_unnamed call.now }
+{
+    matches!(
+        call,
+        Call::DataDestroy { .. }
+            | Call::RealmDestroy { .. }
+            | Call::RecDestroy { .. }
+            | Call::RttRemove { .. }
+    )
+}

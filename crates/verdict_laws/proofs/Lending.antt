@@ -1,0 +1,112 @@
+-- A call that lends a granule or takes it back, and a call that is apart from the granule, come either way round.
+use Rattle.std.proofs.Common.{◌≡◌, ℕ, ◌==◌, Bool, true, false, not, ◌&&◌, if◌then◌else◌, [], Some, None, refl, sym, ◌∙◌, subst}
+use Rattle.std.specs.Prelude.{Result, Ok, Err}
+use Rattle.std.proofs.lemmas.Option.{same_Some}
+use Rattle.rmm_spec.specs.declared.accepted.Accepted.{Accepted}
+use Rattle.rmm_spec.specs.declared.call.Call.{Call}
+use Rattle.rmm_spec.specs.declared.call.Call.TheVariants as call
+use Rattle.rmm_spec.specs.declared.change.Change.TheVariants.{Retagged}
+use Rattle.rmm_spec.specs.declared.command.Command.{Command}
+use Rattle.rmm_spec.specs.declared.condition.Condition.TheVariants.{GranState, OwnOutside}
+use Rattle.rmm_spec.specs.declared.refusal.Refusal.{Refusal}
+use Rattle.rmm_spec.specs.declared.refusal.Refusal.TheVariants.{Misplaced, Input}
+use Rattle.rmm_spec.specs.declared.reply.Reply.{Reply}
+use Rattle.rmm_spec.specs.declared.tag.Tag.{Tag}
+use Rattle.rmm_spec.specs.declared.tag.Tag.TheVariants.{Undelegated, Delegated}
+use Rattle.rmm_spec.specs.Call.{call_of}
+use Rattle.rmm_spec.specs.Change.{changed}
+use Rattle.rmm_spec.specs.State.{State}
+use Rattle.rmm_spec.specs.Update.{with_tag}
+use Rattle.rmm_spec.specs.Sound.{IsSound}
+use Rattle.rmm_spec.specs.Lookup.{has_tag, tag_number, is_granule, is_inside}
+use Rattle.rmm_spec.specs.Rows.{done}
+use Rattle.rmm_spec.specs.Step.{CarriesOut, Step, outcome, answer_of, commands}
+use Rattle.rmm_spec.specs.Step.Terms.{class_of, named, words_of}
+use Rattle.verdict_laws.specs.Apart.{lent, is_apart_from}
+use Rattle.verdict_laws.proofs.SparedCalls.{Leaves, step_leaves, step_swapped}
+
+-- what a lending leads to, by whether the CPU is inside of a REC, and whether the granule has the tag that is needed
+abbrev lending_found : Bool → Bool → ℕ → Tag → Result Accepted Refusal
+lending_found inside has granule tag =
+    if not inside then (if has then Ok (done [] (Retagged (record { granule = granule; tag = tag }))) else Err (Input GranState))
+    else Err (Misplaced OwnOutside)
+
+-- A call that lends the granule: the tag that it needs, the tag that it puts, and what it leads to in each state.
+record IsLending (granule : ℕ) (c : Call) : Type 0 where
+  needed : Tag
+  put : Tag
+  found : (s : State) (cpu : ℕ) → outcome s cpu c ≡ lending_found (is_inside s cpu) (has_tag s granule needed) granule put
+
+-- each call that lends it is one
+IsLending-from_lent : (granule : ℕ) (c : Call) → lent c ≡ Some granule → IsLending granule c
+unfolding lent outcome answer_of commands class_of words_of named
+IsLending-from_lent granule (call.GranuleDelegate g) lends = record {
+  needed = Undelegated;
+  put = Delegated;
+  found = λ s cpu. rw (← same_Some g granule lends) refl;
+}
+IsLending-from_lent granule (call.GranuleUndelegate g) lends = record {
+  needed = Delegated;
+  put = Undelegated;
+  found = λ s cpu. rw (← same_Some g granule lends) refl;
+}
+IsLending-from_lent granule _ lends = absurd (let bad : None ≡ Some granule = lends in cc)
+
+-- so the same where the granule's tag is, and the CPU is inside of a REC where it was
+lending_same : (granule cpu : ℕ) (c : Call) (s t : State) → IsLending granule c → Leaves s granule cpu t → outcome t cpu c ≡ outcome s cpu c
+unfolding has_tag
+lending_same granule cpu c s t lending leaves =
+    lending.found t cpu
+    ∙ (λ i. lending_found (leaves.inside i) (is_granule (leaves.config i).granules granule && tag_number (leaves.tag i) == tag_number lending.needed)
+    granule lending.put)
+    ∙ sym (lending.found s cpu)
+
+module _ (old middle new : State) (cpu other : ℕ) (one two : Command) (given answered : Reply) (granule : ℕ)
+    (sound : IsSound old) (differ : ¬ (cpu ≡ other)) (lends : lent (call_of one) ≡ Some granule) (apart : is_apart_from (call_of two) granule ≡ true)
+    (first : Step old cpu one given middle) (second : Step middle other two answered new) where
+  -- what the lending leads to, it leads to behind the other call
+  again : (between : State) → Step old other two answered between
+      → CarriesOut (outcome old cpu (call_of one)) between given new → Step between cpu one given new
+  again between earlier carried =
+      subst (λ (r : Result Accepted Refusal). CarriesOut r between given new)
+      (sym (lending_same granule cpu (call_of one) old between (IsLending-from_lent granule (call_of one) lends)
+      (step_leaves old granule cpu other sound differ two answered between apart earlier))) carried
+
+  -- where it is refused
+  refused_turned : (refused : Refusal) → outcome old cpu (call_of one) ≡ Err refused
+      → (between : State) × Step old other two answered between × Step between cpu one given new
+  refused_turned refused is =
+      let carried : CarriesOut (Err refused) old given middle = subst (λ (r : Result Accepted Refusal). CarriesOut r old given middle) is first in
+      let earlier : Step old other two answered new = subst (λ (s : State). Step s other two answered new) carried.1 second in (
+        new,
+        earlier,
+        again new earlier (subst (λ (r : Result Accepted Refusal). CarriesOut r new given new) (sym is) (carried.0, refl)),
+      )
+
+  -- where it is accepted
+  accepted_turned : (tag : Tag) → outcome old cpu (call_of one) ≡ Ok (done [] (Retagged (record { granule = granule; tag = tag })))
+      → (between : State) × Step old other two answered between × Step between cpu one given new
+  unfolding changed
+  accepted_turned tag is =
+      let found : Result Accepted Refusal = Ok (done [] (Retagged (record { granule = granule; tag = tag }))) in
+      let carried : CarriesOut found old given middle = subst (λ (r : Result Accepted Refusal). CarriesOut r old given middle) is first in
+      let later : Step (with_tag old granule tag) other two answered new =
+      subst (λ (s : State). Step s other two answered new) carried.1 second in
+      let parts = step_swapped old granule cpu other sound differ two tag answered new apart later in (
+        parts.0,
+        parts.1,
+        again parts.0 parts.1 (subst (λ (r : Result Accepted Refusal). CarriesOut r parts.0 given new) (sym is) (carried.0, parts.2)),
+      )
+
+  -- by which of them it is
+  turned_by : (inside has : Bool) (tag : Tag) → outcome old cpu (call_of one) ≡ lending_found inside has granule tag
+      → (between : State) × Step old other two answered between × Step between cpu one given new
+  turned_by true has tag is = refused_turned (Misplaced OwnOutside) is
+  turned_by false true tag is = accepted_turned tag is
+  turned_by false false tag is = refused_turned (Input GranState) is
+
+  -- both come the other way round
+  pub lending_turned : (between : State) × Step old other two answered between × Step between cpu one given new
+  lending_turned =
+      let lending = IsLending-from_lent granule (call_of one) lends in
+      turned_by (is_inside old cpu) (has_tag old granule lending.needed) lending.put (lending.found old cpu)

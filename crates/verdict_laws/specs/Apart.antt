@@ -1,0 +1,40 @@
+-- Calls that lend a granule to the realm world or take it back, and calls that have nothing to do with the granule.
+use Rattle.std.specs.Prelude.{◌≡◌, ℕ, Bool, true, false, not, ◌&&◌, List, Option, Some, None}
+use Rattle.rmm_spec.specs.declared.call.Call.{Call}
+use Rattle.rmm_spec.specs.declared.call.Call.TheVariants.{GranuleDelegate, GranuleUndelegate, DataDestroy, RealmDestroy, RecDestroy, RttRemove}
+use Rattle.rmm_spec.specs.declared.command.Command.{Command}
+use Rattle.rmm_spec.specs.declared.event.Event.{Event}
+use Rattle.rmm_spec.specs.declared.line.Line.{Line}
+use Rattle.rmm_spec.specs.Call.{call_of}
+use Rattle.rmm_spec.specs.Locks.{is_named}
+use Rattle.rmm_spec.specs.Step.Terms.{named}
+use Rattle.rmm_spec.specs.Linearization.{IsCalled, cpu_named, number_named}
+
+-- the granule that a call lends to the realm world or takes back, where it does
+unfoldable pub lent : Call → Option ℕ
+lent (GranuleDelegate granule) = Some granule
+lent (GranuleUndelegate granule) = Some granule
+lent _ = None
+
+-- whether a call may give back granules that it doesn't name
+unfoldable pub frees_unnamed : Call → Bool
+frees_unnamed (DataDestroy rd ipa) = true
+frees_unnamed (RealmDestroy rd) = true
+frees_unnamed (RecDestroy rec) = true
+frees_unnamed (RttRemove removal rd ipa level) = true
+frees_unnamed _ = false
+
+-- whether the call neither names the granule nor gives back granules that it doesn't name
+abbrev pub is_apart_from : Call → ℕ → Bool
+is_apart_from call granule = not (is_named (named call) granule) && not (frees_unnamed call)
+
+-- the line's call lends the granule or takes it back
+abbrev pub Lends : List Event → Line → ℕ → Type 0
+Lends events line granule =
+    (called : ℕ) (command : Command) → IsCalled events called (cpu_named line) (number_named line) command → lent (call_of command) ≡ Some granule
+
+-- the line's call is apart from the granule
+abbrev pub IsApart : List Event → Line → ℕ → Type 0
+IsApart events line granule =
+    (called : ℕ) (command : Command) → IsCalled events called (cpu_named line) (number_named line) command
+    → is_apart_from (call_of command) granule ≡ true
