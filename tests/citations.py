@@ -12,7 +12,7 @@ import sys
 CRATES = pathlib.Path(__file__).resolve().parent.parent / "crates"
 CITED = re.compile(r"\bRattle\.(\w+)\.proofs\b|\b(\w+)::proofs::")
 # crates that are made to be cited: lemmas, and laws on the definitions
-LAWS = {"lemmas", "spec_lemmas", "rmm_laws", "shape_laws", "world_laws", "order_laws"}
+LAWS = {"lemmas", "spec_lemmas", "rmm_laws", "shape_laws", "world_laws", "order_laws", "verdict_laws"}
 # of each other crate whose lemmas are cited, where, and why
 NAMED = {
     "certificate": ({"checker", "text_writers"}, "from one piece of a certificate to the next; a text that was written, read"),

@@ -20,10 +20,13 @@ use std::cmp::min;
 /// How many configurations that lead nowhere the search finds before an order is guessed.
 const FIRST_KEPT: usize = 8;
 
+/// How many it finds from a guess on before it looks at orders return by return.
+const GUESSED_KEPT: usize = 256;
+
 /// How many cells may be copied to name a return once it is known that there is no order.
 const TO_NAME: u64 = 1_000_000_000;
 
-/// How many cells may be copied to look at orders return by return, where each offer is made to a copy of a machine.
+/// How many cells may be copied to look at orders return by return, as if each offer were made to a copy of a machine.
 const TO_DECIDE: u64 = 1_000_000_000;
 
 /// What was found of a history.
@@ -42,7 +45,7 @@ pub fn find(alloc: Global, history: &History, limit: u64) -> Result<Found, Alloc
     ensures { IfOk result (IsFound history.now.recorded limit) }
 {
     let mut search = Search::new(alloc, history)?;
-    let progress = search_at_first(&mut search, alloc, history, limit / 2)?;
+    let progress = search_at_first(&mut search, alloc, history, FIRST_KEPT, limit / 2)?;
     match progress {
         Progress::Going => find_guessed(alloc, history, limit),
         Progress::Whole => order_found(alloc, history, &search),
@@ -56,7 +59,7 @@ fn find_guessed(alloc: Global, history: &History, limit: u64) -> Result<Found, A
 {
     let soon = limit / 2;
     let mut search = guessed(alloc, history, soon)?;
-    let progress = search_at_first(&mut search, alloc, history, soon)?;
+    let progress = search_at_first(&mut search, alloc, history, GUESSED_KEPT, soon)?;
     match progress {
         Progress::Going => find_forward(alloc, history, search, limit),
         Progress::Whole => order_found(alloc, history, &search),
@@ -178,17 +181,18 @@ fn told_place(
     }
 }
 
-/// Searches as long as few configurations lead nowhere, until so many offers are made.
+/// Searches as long as fewer configurations lead nowhere, until so many offers are made.
 fn search_at_first(
     search: &mut Search,
     alloc: Global,
     history: &History,
+    most: usize,
     limit: u64,
 ) -> Result<Progress, AllocError>
     requires { IsSearch history.now.recorded search.old }
     ensures { IfOk result (λ progress. IsSearched progress history.now.recorded 0 search.new) }
 {
-    'going: while search.offers.count() < limit && search.kept.len() < FIRST_KEPT {
+    'going: while search.offers.count() < limit && search.kept.len() < most {
         match search.step(alloc, history)? {
             Progress::Going => {}
             ended => return Ok(ended),
