@@ -12,11 +12,11 @@ import sys
 CRATES = pathlib.Path(__file__).resolve().parent.parent / "crates"
 CITED = re.compile(r"\bRattle\.(\w+)\.proofs\b|\b(\w+)::proofs::")
 # crates that are made to be cited: lemmas, and laws on the definitions
-LAWS = {"lemmas", "spec_lemmas", "rmm_laws", "shape_laws", "world_laws", "order_laws", "verdict_laws"}
+LAWS = {"lemmas", "spec_lemmas", "rmm_laws", "shape_laws", "world_laws", "verdict_laws"}
 # of each other crate whose lemmas are cited, where, and why
 NAMED = {
     "certificate": ({"checker", "text_writers"}, "from one piece of a certificate to the next; a text that was written, read"),
-    "checker": ({"explain", "finding", "order_laws", "verdict_laws"}, "a check's run, line by line, with which these go on"),
+    "checker": ({"explain", "finding", "verdict_laws"}, "a check's run, line by line, with which these go on"),
     "command_core": ({"granule_lock", "world"}, "granules that are all different, and which are held"),
     "command_rows": ({"command_core", "flat_machine", "spec_machine"}, "what a row's answer is by the definitions"),
     "commit_tickets": ({"monitor"}, "the journal, gone through beside the tokens"),

@@ -22,8 +22,8 @@ use Rattle.spec_lemmas.proofs.Places.{call_is_event}
 use Rattle.spec_machine.specs.declared.machine.Machine.{Machine}
 use Rattle.history.specs.Calls.{ArePlacesOf}
 use Rattle.spec_lemmas.proofs.Calls.{same_command}
-use Rattle.order_laws.proofs.CallOrder.{few_calls}
-use Rattle.order_laws.proofs.Nowhere.{nowhere_by}
+use Rattle.verdict_laws.proofs.CallOrder.{few_calls}
+use Rattle.verdict_laws.proofs.Nowhere.{nowhere_by}
 use Rattle.finding.specs.Attempt.{EndsLeadNowhere, MayTry, IsAnswered, IsAttempt}
 use Rattle.finding.specs.Ends.{IsBelow, IsEnd}
 use Rattle.finding.specs.Tried.{CallLeadsNowhere}

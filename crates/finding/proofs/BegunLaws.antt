@@ -4,9 +4,9 @@ use Rattle.std.proofs.Common.{Bool, true, set, append_assoc}
 use Rattle.rmm_spec.specs.FirstFault.{IsRefused}
 use Rattle.rmm_spec.specs.Rows.{ok}
 use Rattle.rmm_spec.specs.Linearization.{IsLinearization, IsOfItsKind}
-use Rattle.order_laws.specs.Order.{count_of, Reaches}
-use Rattle.order_laws.proofs.Growth.{Reaches-nil, Reaches-push}
-use Rattle.order_laws.proofs.Nowhere.{nowhere_by, nowhere_unless}
+use Rattle.verdict_laws.specs.Order.{count_of, Reaches}
+use Rattle.verdict_laws.proofs.Growth.{Reaches-nil, Reaches-push}
+use Rattle.verdict_laws.proofs.Nowhere.{nowhere_by, nowhere_unless}
 use Rattle.finding.specs.Attempt.{IsAttempt, MayTry}
 use Rattle.finding.specs.Begun.{Holds, IsGrown, IsLost, IsSoon, Stays}
 use Rattle.finding.specs.Counts.{AreCounts}

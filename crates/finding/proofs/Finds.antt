@@ -1,6 +1,6 @@
 -- What was found, by how a search or a look return by return ends.
 use Rattle.finding.proofs.Common.{◌+◌, ◌≡◌, History, IsHistory, IsSearch, LeadsNowhere, Search, [], refl, subst, take, ℕ}
-use Rattle.order_laws.proofs.Nowhere.{none-from_nowhere}
+use Rattle.verdict_laws.proofs.Nowhere.{none-from_nowhere}
 use Rattle.finding.specs.Found.{HasNone, HasNoneUpTo}
 use Rattle.finding.specs.declared.offers.Offers.{Offers}
 use Rattle.finding.proofs.Searches.{IsSearch-tried}

@@ -7,7 +7,7 @@ use Rattle.rmm_spec.specs.declared.event.Event.{Event}
 use Rattle.rmm_spec.specs.Call.{call_of}
 use Rattle.rmm_spec.specs.Linearization.{IsCalled, IsKnown}
 use Rattle.spec_lemmas.proofs.Calls.{same_command, told_at_call}
-use Rattle.order_laws.specs.Order.{IsNext, count_of}
+use Rattle.verdict_laws.specs.Order.{IsNext, count_of}
 use Rattle.verdict_laws.specs.Apart.{IsApart, Lends, is_apart_from, lent}
 use Rattle.verdict_laws.specs.Forward.{AreOpen, IsOpen}
 use Rattle.verdict_laws.proofs.Passing.{Passes-from_lending}

@@ -3,8 +3,8 @@ use Rattle.finding.proofs.Common.{◌++◌, ◌∙◌, ◌∷◌, ◌≡◌, ◌
 use Rattle.spec_lemmas.proofs.Places.{call_is_event}
 use Rattle.lemmas.proofs.Elements.{slice_get_push_cases}
 use Rattle.machine_cells.specs.Kept.{kept_state}
-use Rattle.order_laws.specs.Order.{count_of, Reaches}
-use Rattle.order_laws.proofs.Configurations.{nowhere_alike}
+use Rattle.verdict_laws.specs.Order.{count_of, Reaches}
+use Rattle.verdict_laws.proofs.Configurations.{nowhere_alike}
 use Rattle.finding.specs.Counts.{AreCounts}
 use Rattle.finding.specs.Kept.{Adds, AreNowhere, HasKept, IsNowhere, IsOf}
 use Rattle.finding.specs.declared.kept.Configuration.{Configuration}

@@ -3,7 +3,7 @@ use Rattle.finding.proofs.Common.{◌++◌, ◌+◌, ◌<◌, ◌^◌, ◌∙◌
 use Rattle.std.proofs.Common.{◌-◌, ◌*◌, Bool, true, false}
 use Rattle.std.proofs.lemmas.List.{length-append, length-map}
 use Rattle.spec_machine.specs.Offers.{one_more}
-use Rattle.order_laws.proofs.Short.{length-lines}
+use Rattle.verdict_laws.proofs.Short.{length-lines}
 use Rattle.finding.specs.Search.{Continues, GoesOn, IsDeclined, IsOffered, IsStanding, Moves, left_of, left_with}
 use Rattle.finding.proofs.Searches.{IsSearch-declined}
 use Rattle.finding.specs.declared.search.Progress.{Progress}

@@ -3,9 +3,9 @@ use Rattle.finding.proofs.Common.{◌++◌, ◌+◌, ◌<◌, ◌^◌, ◌∙◌
 use Rattle.std.proofs.Common.{Bool, false, true}
 use Rattle.rmm_spec.specs.declared.line.Line.TheVariants.{Keep}
 use Rattle.rmm_spec.specs.Linearization.{IsOfItsKind, IsReturned}
-use Rattle.order_laws.specs.Order.{count_of}
-use Rattle.order_laws.proofs.CallOrder.{call_before_return}
-use Rattle.order_laws.proofs.Settled.{nowhere_settled}
+use Rattle.verdict_laws.specs.Order.{count_of}
+use Rattle.verdict_laws.proofs.CallOrder.{call_before_return}
+use Rattle.verdict_laws.proofs.Settled.{nowhere_settled}
 use Rattle.verdict_laws.proofs.Groups.{nowhere_unless_inside}
 use Rattle.finding.specs.Attempt.{IsTriedNext, MayTry}
 use Rattle.finding.specs.Begun.{GoesBehind, Holds, IsGroup, IsLost, IsNextLine, IsSoon, MayStand}

@@ -15,12 +15,12 @@ use Rattle.rmm_spec.specs.FirstFault.{IsRefused}
 use Rattle.rmm_spec.specs.Linearization.{IsLinearization, IsOfItsKind}
 use Rattle.lemmas.proofs.Elements.{slice_get_push_cases, slice_get-append, slice_get-push}
 use Rattle.spec_machine.specs.declared.machine.Machine.{Machine}
-use Rattle.order_laws.specs.Order.{count_of, Reaches, ReturnBehind, Grows}
-use Rattle.order_laws.proofs.Counts.{count_of-same, count_of-other, count_of-nil}
-use Rattle.order_laws.proofs.Growth.{IsLinearization-from_Reaches, Reaches-nil, Reaches-push}
-use Rattle.order_laws.proofs.Nowhere.{nowhere_by, nowhere_unless}
-use Rattle.order_laws.proofs.Settled.{nowhere_settled}
-use Rattle.order_laws.proofs.Short.{length-lines}
+use Rattle.verdict_laws.specs.Order.{count_of, Reaches, ReturnBehind, Grows}
+use Rattle.verdict_laws.proofs.Counts.{count_of-same, count_of-other, count_of-nil}
+use Rattle.verdict_laws.proofs.Growth.{IsLinearization-from_Reaches, Reaches-nil, Reaches-push}
+use Rattle.verdict_laws.proofs.Nowhere.{nowhere_by, nowhere_unless}
+use Rattle.verdict_laws.proofs.Settled.{nowhere_settled}
+use Rattle.verdict_laws.proofs.Short.{length-lines}
 use Rattle.finding.specs.Attempt.{IsAttempt, MayTry}
 use Rattle.finding.specs.Counts.{AreCounts}
 use Rattle.finding.specs.Front.{IsFront}

@@ -9,9 +9,9 @@ use Rattle.rmm_spec.specs.declared.line.Line.TheVariants.{Keep}
 use Rattle.rmm_spec.specs.Rows.{ok}
 use Rattle.rmm_spec.specs.Linearization.{IsCalled, IsReturned, IsKnown, IsLinearization, ReturnsBefore}
 use Rattle.spec_lemmas.proofs.Places.{call_is_event, finished_is_known}
-use Rattle.order_laws.specs.Order.{count_of, HasOpen, IsNext, Reaches, ReturnBehind}
-use Rattle.order_laws.proofs.CallOrder.{finished_below, returns_in_order}
-use Rattle.order_laws.proofs.Nowhere.{nowhere_after, nowhere_past, nowhere_unless}
+use Rattle.verdict_laws.specs.Order.{count_of, HasOpen, IsNext, Reaches, ReturnBehind}
+use Rattle.verdict_laws.proofs.CallOrder.{finished_below, returns_in_order}
+use Rattle.verdict_laws.proofs.Nowhere.{nowhere_after, nowhere_past, nowhere_unless}
 use Rattle.finding.specs.Attempt.{EndsLeadNowhere}
 use Rattle.finding.specs.Choice.{pending_rank, rank_at}
 use Rattle.finding.specs.Counts.{AreCounts}

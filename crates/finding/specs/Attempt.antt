@@ -13,7 +13,7 @@ use Rattle.rmm_spec.specs.State.{State}
 use Rattle.rmm_spec.specs.Step.{outcome}
 use Rattle.rmm_spec.specs.Linearization.{IsCalled, IsOfItsKind, cpu_named, number_named}
 use Rattle.history.specs.Calls.{ArePlacesOf}
-use Rattle.order_laws.specs.Order.{LeadsNowhere, Reaches, count_of}
+use Rattle.verdict_laws.specs.Order.{LeadsNowhere, Reaches, count_of}
 use Rattle.finding.specs.Choice.{rank_of}
 use Rattle.finding.specs.Tried.{CallLeadsNowhere}
 use Rattle.finding.specs.declared.choice.Choice.{Choice}

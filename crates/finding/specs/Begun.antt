@@ -5,7 +5,7 @@ use Rattle.rmm_spec.specs.declared.line.Line.{Line}
 use Rattle.rmm_spec.specs.HistoryText.{History}
 use Rattle.rmm_spec.specs.Linearization.{IsOfItsKind, cpu_named, number_named}
 use Rattle.spec_machine.specs.View.{state_of}
-use Rattle.order_laws.specs.Order.{LeadsNowhere, Reaches, ReturnBehind}
+use Rattle.verdict_laws.specs.Order.{LeadsNowhere, Reaches, ReturnBehind}
 use Rattle.finding.specs.Choice.{IsNextCall}
 use Rattle.finding.specs.Counts.{AreCounts}
 use Rattle.finding.specs.Front.{IsFront}

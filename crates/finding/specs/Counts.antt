@@ -1,7 +1,7 @@
 -- How many calls of each CPU stand in an order.
 use Rattle.std.specs.Prelude.{◌≡◌, ℕ, ◌<◌, List, length, slice_index}
 use Rattle.rmm_spec.specs.declared.line.Line.{Line}
-use Rattle.order_laws.specs.Order.{count_of}
+use Rattle.verdict_laws.specs.Order.{count_of}
 
 -- how many calls of each CPU the lines name
 pub record AreCounts (counts : List ℕ) (lines : List Line) : Type 0 where

@@ -6,7 +6,7 @@ use Rattle.rmm_spec.specs.Linearization.{cpu_named}
 use Rattle.spec_machine.specs.View.{state_of}
 use Rattle.verdict_laws.specs.Apart.{Lends, IsApart}
 use Rattle.verdict_laws.specs.Forward.{IsKept, Passes}
-use Rattle.order_laws.specs.Order.{IsNext}
+use Rattle.verdict_laws.specs.Order.{IsNext}
 use Rattle.finding.specs.Begun.{Holds}
 use Rattle.finding.specs.declared.begun.Begun.{Begun}
 use Rattle.finding.specs.declared.group.Group.{Group}

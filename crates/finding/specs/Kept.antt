@@ -4,7 +4,7 @@ use Rattle.rmm_spec.specs.declared.line.Line.{Line}
 use Rattle.rmm_spec.specs.HistoryText.{History}
 use Rattle.rmm_spec.specs.State.{State}
 use Rattle.machine_cells.specs.Kept.{kept_state}
-use Rattle.order_laws.specs.Order.{LeadsNowhere, Reaches}
+use Rattle.verdict_laws.specs.Order.{LeadsNowhere, Reaches}
 use Rattle.finding.specs.Counts.{AreCounts}
 use Rattle.finding.specs.declared.kept.Configuration.{Configuration}
 

@@ -15,7 +15,7 @@ use Rattle.rmm_spec.specs.State.{State}
 use Rattle.rmm_spec.specs.Linearization.{IsCalled, IsReturned, IsEntryOf, IsLinearization, cpu_named, number_named}
 use Rattle.spec_machine.specs.View.{state_of}
 use Rattle.spec_machine.specs.declared.machine.Machine.{Machine}
-use Rattle.order_laws.specs.Order.{IsNext, IsRefusal, LeadsNowhere, Reaches}
+use Rattle.verdict_laws.specs.Order.{IsNext, IsRefusal, LeadsNowhere, Reaches}
 use Rattle.finding.specs.Counts.{AreCounts}
 use Rattle.finding.specs.Front.{IsFront}
 use Rattle.finding.specs.Kept.{AreNowhere}

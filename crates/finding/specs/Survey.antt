@@ -1,7 +1,7 @@
 -- What is found of a history return by return.
 use Rattle.std.specs.Prelude.{⊤, []}
 use Rattle.rmm_spec.specs.HistoryText.{History}
-use Rattle.order_laws.specs.Order.{LeadsNowhere}
+use Rattle.verdict_laws.specs.Order.{LeadsNowhere}
 use Rattle.finding.specs.declared.forward.Survey.{Survey}
 use Rattle.finding.specs.declared.forward.Survey.TheVariants as survey
 

@@ -6,7 +6,7 @@ use Rattle.rmm_spec.specs.declared.reply.Reply.{Reply}
 use Rattle.rmm_spec.specs.HistoryText.{History}
 use Rattle.rmm_spec.specs.Rows.{ok}
 use Rattle.rmm_spec.specs.Linearization.{IsReturned, IsFinished, IsOfItsKind, cpu_named, number_named}
-use Rattle.order_laws.specs.Order.{LeadsNowhere}
+use Rattle.verdict_laws.specs.Order.{LeadsNowhere}
 use Rattle.finding.specs.Choice.{pending_rank}
 
 -- Of the group's CPUs, each call that is tried before the rank leads nowhere, and one that is tried at it and hasn't returned leads

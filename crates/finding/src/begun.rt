@@ -24,7 +24,7 @@ impl Begun {
     ghost use Rattle.std.specs.Prelude.{◌≡◌, [], IfOk};
     ghost use Rattle.std.specs.Bool.{MatchBool};
     ghost use Rattle.rmm_spec.specs.Linearization.{IsOfItsKind, cpu_named, number_named};
-    ghost use Rattle.order_laws.specs.Order.{LeadsNowhere};
+    ghost use Rattle.verdict_laws.specs.Order.{LeadsNowhere};
     ghost use Rattle.spec_machine.specs.View.{state_of};
     ghost use Rattle.finding.specs.Begun.{IsBegun, IsGrown, IsLost, IsSoon, Stays};
     ghost use Rattle.finding.specs.Choice.{IsNextCall};

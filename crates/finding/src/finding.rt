@@ -2,7 +2,7 @@
 
 ghost use Rattle.std.specs.Prelude.{ℕ, [], IfOk, IfSome};
 ghost use Rattle.rmm_spec.specs.Linearization.{IsLinearization};
-ghost use Rattle.order_laws.specs.Order.{LeadsNowhere};
+ghost use Rattle.verdict_laws.specs.Order.{LeadsNowhere};
 ghost use Rattle.finding.specs.Found.{HasNoneUpTo, IsFound};
 ghost use Rattle.finding.specs.Search.{IsSearch, IsSearched, lines_of};
 

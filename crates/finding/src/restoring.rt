@@ -3,7 +3,7 @@
 ghost use Rattle.std.specs.Prelude.{◌≡◌, ◌≤◌, ℕ, List, length, IfOk, IfSome, IsTrue};
 ghost use Rattle.rmm_spec.specs.CertificateText.{IsCertificate};
 ghost use Rattle.rmm_spec.specs.Linearization.{IsOfItsKind};
-ghost use Rattle.order_laws.specs.Order.{Reaches};
+ghost use Rattle.verdict_laws.specs.Order.{Reaches};
 ghost use Rattle.rmm_spec.specs.State.{State};
 ghost use Rattle.spec_machine.specs.View.{state_of};
 ghost use Rattle.finding.specs.declared.frame.Frame.{Frame as HeldFrame};

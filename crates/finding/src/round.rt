@@ -38,7 +38,7 @@ pub(crate) struct Round {
 impl Round {
     ghost use Rattle.std.specs.Prelude.{◌≡◌, ◌<◌, ℕ, Bool, true, List, [], ◌∷◌, ◌++◌, IfOk, IfSome, IsTrue, OnOk};
     ghost use Rattle.rmm_spec.specs.declared.line.Line.{Line};
-    ghost use Rattle.order_laws.specs.Order.{LeadsNowhere};
+    ghost use Rattle.verdict_laws.specs.Order.{LeadsNowhere};
     ghost use Rattle.finding.specs.Begun.{Covers, Holds, IsBegun, IsGroup, IsLost, IsRound, IsSoon, LeavesBehind, MayStand, RoundLost};
     ghost use Rattle.finding.specs.Search.{IsRefusedHere};
     ghost use Rattle.spec_machine.specs.View.{state_of};

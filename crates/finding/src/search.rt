@@ -3,7 +3,7 @@
 ghost use Rattle.std.specs.Prelude.{◌≡◌, ℕ, ◌+◌, ◌-◌, ◌^◌, ◌<◌, ◌≤◌, Some, None, [], ◌∷◌, ◌++◌, length, IfOk, IfSome, OnOk, IsTrue, false};
 ghost use Rattle.rmm_spec.specs.Linearization.{IsFinished};
 ghost use Rattle.history.specs.Calls.{ArePlacesOf};
-ghost use Rattle.order_laws.specs.Order.{LeadsNowhere, ReturnBehind};
+ghost use Rattle.verdict_laws.specs.Order.{LeadsNowhere, ReturnBehind};
 ghost use Rattle.rmm_spec.specs.declared.line.Line.TheVariants as line;
 ghost use Rattle.finding.specs.Choice.{IsLeast, IsNextCall, least_of, rank_of};
 ghost use Rattle.finding.specs.Tried.{Tried};

@@ -12,9 +12,9 @@ use Rattle.rmm_spec.specs.declared.line.Line.{Line}
 use Rattle.rmm_spec.specs.declared.reply.Reply.{Reply}
 use Rattle.rmm_spec.specs.HistoryText.{History, IsHistory}
 use Rattle.rmm_spec.specs.Linearization.{IsCalled, IsReturned, IsFinished, NamesCall, cpu_named, number_named}
-use Rattle.order_laws.proofs.CallOrder.{call_before_return}
-use Rattle.order_laws.proofs.Moves.{Each, Pairs, Each-at}
-use Rattle.order_laws.proofs.Settled.{Apart}
+use Rattle.verdict_laws.proofs.CallOrder.{call_before_return}
+use Rattle.verdict_laws.proofs.Moves.{Each, Pairs, Each-at}
+use Rattle.verdict_laws.proofs.Settled.{Apart}
 use Rattle.verdict_laws.specs.Parts.{first_part}
 use Rattle.verdict_laws.proofs.Steps.{apart_places}
 

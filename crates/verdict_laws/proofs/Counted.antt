@@ -5,8 +5,8 @@ use Rattle.lemmas.proofs.Tests.{both_ways}
 use Rattle.rmm_spec.specs.declared.event.Event.{Event}
 use Rattle.rmm_spec.specs.declared.line.Line.{Line}
 use Rattle.rmm_spec.specs.Linearization.{cpu_named}
-use Rattle.order_laws.specs.Order.{count_of}
-use Rattle.order_laws.proofs.Counts.{count_of-nil, count_of-other}
+use Rattle.verdict_laws.specs.Order.{count_of}
+use Rattle.verdict_laws.proofs.Counts.{count_of-nil, count_of-other}
 use Rattle.verdict_laws.specs.Forward.{IsOpen, AreOpen}
 
 -- two lists' lines count together

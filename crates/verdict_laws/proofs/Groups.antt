@@ -6,7 +6,7 @@ use Rattle.rmm_spec.specs.declared.reply.Reply.{Reply}
 use Rattle.rmm_spec.specs.HistoryText.{History, IsHistory}
 use Rattle.rmm_spec.specs.State.{State}
 use Rattle.rmm_spec.specs.Linearization.{IsReturned}
-use Rattle.order_laws.specs.Order.{count_of, LeadsNowhere}
+use Rattle.verdict_laws.specs.Order.{count_of, LeadsNowhere}
 use Rattle.verdict_laws.specs.Forward.{IsKept, IsOpen, Gives, IsLook, Passes}
 use Rattle.verdict_laws.proofs.Looks.{Gives-split, nowhere_further, nowhere_unless_looked, stay_inside}
 use Rattle.verdict_laws.proofs.Steps.{nowhere_unless_put}

@@ -10,9 +10,9 @@ use Rattle.rmm_spec.specs.Step.{Step}
 use Rattle.rmm_spec.specs.Run.{JournalEntry, IsRun}
 use Rattle.rmm_spec.specs.Linearization.{IsCalled, AreEntriesOf, IsEntryOf, cpu_named, number_named}
 use Rattle.checker.proofs.Judging.{HasOnePlaces-from_history}
-use Rattle.order_laws.specs.Order.{count_of, Grows}
-use Rattle.order_laws.proofs.Counts.{count_of-nil, count_of-le, count_of-same, count_of-other}
-use Rattle.order_laws.proofs.Growth.{Reaches-nil, Reaches-push}
+use Rattle.verdict_laws.specs.Order.{count_of, Grows}
+use Rattle.verdict_laws.proofs.Counts.{count_of-nil, count_of-le, count_of-same, count_of-other}
+use Rattle.verdict_laws.proofs.Growth.{Reaches-nil, Reaches-push}
 use Rattle.verdict_laws.specs.Forward.{IsKept, IsOpen, AreOpen, Gives}
 use Rattle.verdict_laws.proofs.Counted.{AreOpen-push}
 

@@ -20,3 +20,11 @@ pub mod Spared
 pub mod SparedCalls
 pub mod Lending
 pub mod Passing
+pub mod CallOrder
+pub mod Counts
+pub mod Growth
+pub mod Nowhere
+pub mod Short
+pub mod Moves
+pub mod Settled
+pub mod Configurations

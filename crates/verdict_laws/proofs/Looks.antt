@@ -9,10 +9,10 @@ use Rattle.rmm_spec.specs.HistoryText.{History, IsHistory}
 use Rattle.rmm_spec.specs.State.{State}
 use Rattle.rmm_spec.specs.Linearization.{IsLinearization}
 use Rattle.rmm_laws.proofs.RunLaws.{run-append}
-use Rattle.order_laws.specs.Order.{LeadsNowhere}
-use Rattle.order_laws.proofs.Configurations.{nowhere_alike}
-use Rattle.order_laws.proofs.Moves.{Each, Each-append, Each-at}
-use Rattle.order_laws.proofs.Settled.{claimed-append, split_run}
+use Rattle.verdict_laws.specs.Order.{LeadsNowhere}
+use Rattle.verdict_laws.proofs.Configurations.{nowhere_alike}
+use Rattle.verdict_laws.proofs.Moves.{Each, Each-append, Each-at}
+use Rattle.verdict_laws.proofs.Settled.{claimed-append, split_run}
 use Rattle.verdict_laws.specs.Forward.{IsKept, AreOpen, Gives, IsMovable, IsLook, Passes}
 use Rattle.verdict_laws.proofs.Counted.{count_of-append, count_of-behind, AreOpen-behind, AreOpen-front, AreOpen-swap}
 use Rattle.verdict_laws.proofs.Growing.{IsKept-append}

@@ -14,8 +14,8 @@ use Rattle.rmm_spec.specs.Run.{JournalEntry}
 use Rattle.rmm_spec.specs.Linearization.{IsCalled, IsReturned, IsFinished, IsNamed, IsOfItsKind, NamesCall, NamesSame, ReturnsBefore, IsReplyOf, IsEntryOf, AreEntriesOf, IsLinearization, cpu_named, number_named}
 use Rattle.spec_lemmas.proofs.Calls.{same_command, same_given}
 use Rattle.checker.proofs.Judging.{HasOnePlaces-from_history}
-use Rattle.order_laws.proofs.Moves.{Each, Pairs, Each-from_places, Pairs-from_places, Each-at, Pairs-at}
-use Rattle.order_laws.proofs.Settled.{Apart, Split, in_either, split_run}
+use Rattle.verdict_laws.proofs.Moves.{Each, Pairs, Each-from_places, Pairs-from_places, Each-at, Pairs-at}
+use Rattle.verdict_laws.proofs.Settled.{Apart, Split, in_either, split_run}
 use Rattle.verdict_laws.specs.Parts.{first_part}
 use Rattle.verdict_laws.proofs.Beginnings.{begun, finished_or}
 

@@ -15,11 +15,11 @@ use Rattle.rmm_spec.specs.HistoryText.{History, IsHistory}
 use Rattle.rmm_spec.specs.State.{State, opening}
 use Rattle.rmm_spec.specs.Linearization.{IsCalled, IsReturned, IsFinished, IsLinearization, IsOfItsKind, NamesSame, cpu_named, number_named}
 use Rattle.checker.proofs.Judging.{HasOnePlaces-from_history}
-use Rattle.order_laws.specs.Order.{count_of, LeadsNowhere}
-use Rattle.order_laws.proofs.CallOrder.{call_before_return, returns_before_later}
-use Rattle.order_laws.proofs.Counts.{count_of-nil}
-use Rattle.order_laws.proofs.Moves.{Each, Pairs, Each-append, Each-from_places, Pairs-from_places, around_place}
-use Rattle.order_laws.proofs.Settled.{behind, in_either, same_state, split_run}
+use Rattle.verdict_laws.specs.Order.{count_of, LeadsNowhere}
+use Rattle.verdict_laws.proofs.CallOrder.{call_before_return, returns_before_later}
+use Rattle.verdict_laws.proofs.Counts.{count_of-nil}
+use Rattle.verdict_laws.proofs.Moves.{Each, Pairs, Each-append, Each-from_places, Pairs-from_places, around_place}
+use Rattle.verdict_laws.proofs.Settled.{behind, in_either, same_state, split_run}
 use Rattle.verdict_laws.specs.Forward.{IsKept, IsOpen, AreOpen, Gives}
 use Rattle.verdict_laws.proofs.Counted.{count_of-cons_other}
 use Rattle.verdict_laws.proofs.Looks.{Gives-split, nowhere_further}

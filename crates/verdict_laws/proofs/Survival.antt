@@ -11,9 +11,9 @@ use Rattle.rmm_spec.specs.declared.reply.Reply.{Reply}
 use Rattle.rmm_spec.specs.HistoryText.{History, IsHistory}
 use Rattle.rmm_spec.specs.State.{State, opening}
 use Rattle.rmm_spec.specs.Linearization.{IsCalled, IsReturned, IsLinearization}
-use Rattle.order_laws.specs.Order.{count_of, LeadsNowhere}
-use Rattle.order_laws.proofs.Configurations.{nowhere_alike}
-use Rattle.order_laws.proofs.Growth.{IsLinearization-from_Reaches}
+use Rattle.verdict_laws.specs.Order.{count_of, LeadsNowhere}
+use Rattle.verdict_laws.proofs.Configurations.{nowhere_alike}
+use Rattle.verdict_laws.proofs.Growth.{IsLinearization-from_Reaches}
 use Rattle.verdict_laws.specs.Forward.{IsKept, AreOpen, Gives, LeadNowhere, AllKept, AreKept, IsContinued, AreContinued}
 use Rattle.verdict_laws.proofs.Counted.{count_of-append, count_of-cons_same}
 use Rattle.verdict_laws.proofs.Growing.{IsKept-nil, IsKept-append}

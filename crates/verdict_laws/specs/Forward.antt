@@ -10,7 +10,7 @@ use Rattle.rmm_spec.specs.HistoryText.{History}
 use Rattle.rmm_spec.specs.State.{State}
 use Rattle.rmm_spec.specs.Run.{JournalEntry, IsRun}
 use Rattle.rmm_spec.specs.Linearization.{IsCalled, IsReturned, AreEntriesOf, cpu_named, number_named}
-use Rattle.order_laws.specs.Order.{IsNext, LeadsNowhere, Reaches, count_of}
+use Rattle.verdict_laws.specs.Order.{IsNext, LeadsNowhere, Reaches, count_of}
 
 -- ---- one order
 

@@ -1,3 +1,4 @@
 pub mod Forward
 pub mod Parts
 pub mod Apart
+pub mod Order

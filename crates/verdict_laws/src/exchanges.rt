@@ -8,7 +8,7 @@ ghost use Rattle.rmm_spec.specs.declared.reply.Reply.{Reply};
 ghost use Rattle.rmm_spec.specs.HistoryText.{History, IsHistory};
 ghost use Rattle.rmm_spec.specs.State.{State, opening};
 ghost use Rattle.rmm_spec.specs.Linearization.{IsCalled, IsLinearization, IsReturned};
-ghost use Rattle.order_laws.specs.Order.{LeadsNowhere, count_of};
+ghost use Rattle.verdict_laws.specs.Order.{LeadsNowhere, count_of};
 ghost use Rattle.verdict_laws.specs.Forward.{AllKept, AreContinued, AreKept, AreOpen, Gives, IsKept, IsLook, IsMovable, IsOpen, LeadNowhere, Passes};
 ghost use Rattle.verdict_laws.specs.Parts.{first_part};
 

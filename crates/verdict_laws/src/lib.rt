@@ -1,16 +1,21 @@
 //! What follows from the definitions of verdicts and orders: each law is the contract of a function that does nothing.
-//! It promises that some verdict is right of any two texts and no two are, so `Judges` leaves a checker nothing to choose; and, for a search
-//! through a history's events, that a kept order which lacks a call at its return leads nowhere if each sequence of open calls and then the
-//! call does, that with no order kept there is no linearization, that a history with one has one of each first part of its events, and that a
-//! call which lends a granule or takes it back passes each call that has nothing to do with the granule.
-//! The search for an order stands on the laws of kept orders.
+//! It promises that some verdict is right of any two texts and no two are, so `Judges` leaves a checker nothing to choose; of an order that is
+//! begun, where it leads nowhere and where it is a linearization (`begun`, line by line); and, for a search through a history's events, where a
+//! kept order leads nowhere, and that a call which lends a granule or takes it back passes each call that has nothing to do with the granule.
+//! The search for an order stands on the laws of orders.
 #![tactic(auto)]
 
 mod apart;
+mod begun;
 mod exchanges;
 mod verdicts;
 
 pub use apart::{lending_exchanges, lending_passes};
+pub use begun::{
+    grown_order_is_linearization, no_line_reaches_opening, nowhere_after_a_refusal,
+    nowhere_after_each_next, nowhere_by_configuration, nowhere_by_replies, nowhere_past_a_return,
+    nowhere_unless_next, one_line_more, open_beginning_is_no_order, orders_are_short,
+};
 pub use exchanges::{
     a_returning_call_is_open, all_kept_behind_a_call, all_kept_behind_a_return,
     all_kept_where_covered, first_parts_have_orders, kept_at_first, kept_at_last_is_linearization,

@@ -1,6 +1,6 @@
 use Rattle.finding.proofs.Common.{◌<◌, arith, length, lines_of, refl, state_of, subst, take}
 use Rattle.std.proofs.lemmas.Option.{slice_get_read}
-use Rattle.order_laws.specs.Order.{Reaches}
+use Rattle.verdict_laws.specs.Order.{Reaches}
 use Rattle.finding.proofs.Replayed.{Reaches-replayed}
 use Rattle.finding.proofs.restoring.replayed.Goals as goal
 

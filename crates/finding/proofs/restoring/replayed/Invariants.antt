@@ -1,6 +1,6 @@
 -- The lines so far.
 use Rattle.finding.proofs.Common.{lines_of, state_of, take}
-use Rattle.order_laws.specs.Order.{Reaches}
+use Rattle.verdict_laws.specs.Order.{Reaches}
 use Rattle.finding.proofs.restoring.replayed.Given as goal
 
 abbrev pub invariant-loop-at : goal.invariant-loop-at

@@ -1,6 +1,6 @@
 use Rattle.finding.proofs.Common.{◌∙◌, [], ap, arith, opening, subst, sym}
-use Rattle.order_laws.specs.Order.{Reaches}
-use Rattle.order_laws.proofs.Growth.{Reaches-nil}
+use Rattle.verdict_laws.specs.Order.{Reaches}
+use Rattle.verdict_laws.proofs.Growth.{Reaches-nil}
 use Rattle.finding.proofs.restoring.start_of.Goals as goal
 
 pub returns-in_ok-new-in-None : goal.returns-in_ok-new-in-None

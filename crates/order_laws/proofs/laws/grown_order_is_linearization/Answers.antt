@@ -1,5 +1,0 @@
-use Rattle.order_laws.proofs.Growth.{IsLinearization-from_Reaches}
-use Rattle.order_laws.proofs.laws.grown_order_is_linearization.Goals as goal
-
-pub returns : goal.returns
-returns c = IsLinearization-from_Reaches

@@ -1,5 +1,0 @@
-use Rattle.order_laws.proofs.Nowhere.{nowhere_past}
-use Rattle.order_laws.proofs.laws.nowhere_past_a_return.Goals as goal
-
-pub returns : goal.returns
-returns c = λ history lines state line cpu number is_history reached. nowhere_past history is_history lines state reached line cpu number

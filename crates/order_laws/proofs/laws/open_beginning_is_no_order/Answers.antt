@@ -1,5 +1,0 @@
-use Rattle.order_laws.proofs.Nowhere.{none-from_nowhere}
-use Rattle.order_laws.proofs.laws.open_beginning_is_no_order.Goals as goal
-
-pub returns : goal.returns
-returns c = none-from_nowhere

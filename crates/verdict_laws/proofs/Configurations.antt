@@ -1,0 +1,102 @@
+-- Two orders of the same calls that lead to one state are continued alike.
+use Rattle.std.proofs.Common.{◌≡◌, ℕ, ◌+◌, inl, inr, List, ◌++◌, length, Some, subst, arith}
+use Rattle.std.specs.List.{slice_get}
+use Rattle.std.proofs.lemmas.Option.{slice_get_within}
+use Rattle.rmm_spec.specs.declared.line.Line.{Line}
+use Rattle.rmm_spec.specs.HistoryText.{History, IsHistory}
+use Rattle.rmm_spec.specs.State.{State, opening}
+use Rattle.rmm_spec.specs.Run.{IsRun}
+use Rattle.rmm_spec.specs.Linearization.{IsFinished, IsNamed, IsLinearization, NamesCall, IsOfItsKind, cpu_named, number_named}
+use Rattle.rmm_laws.proofs.RunLaws.{run-append}
+use Rattle.checker.proofs.Judging.{HasOnePlaces-from_history}
+use Rattle.verdict_laws.specs.Order.{count_of, Reaches, LeadsNowhere}
+use Rattle.verdict_laws.proofs.Moves.{Each, Pairs, Each-from_places, Pairs-from_places, Pairs-at, Pairs-append, Pairs-behind}
+use Rattle.verdict_laws.proofs.Settled.{Apart, behind, in_either, claimed-append, same_state, split_run}
+use Rattle.lemmas.proofs.Elements.{slice_get-append}
+
+module _ (history : History) (is_history : IsHistory history) (one other : List Line) (state : State) (reached : Reaches history one state)
+    (also : Reaches history other state) (counts : (cpu : ℕ) → count_of cpu one ≡ count_of cpu other) where
+  -- the one order names what the other does
+  named_alike : (cpu number : ℕ) → IsNamed one cpu number → IsNamed other cpu number
+  named_alike cpu number named =
+      let below = reached.named cpu number named in
+      let same = counts cpu in
+      also.first cpu number (omega (arith, below, same))
+
+  back : (cpu number : ℕ) → IsNamed other cpu number → IsNamed one cpu number
+  back cpu number named =
+      let below = also.named cpu number named in
+      let same = counts cpu in
+      reached.first cpu number (omega (arith, below, same))
+
+  -- a line behind the other order names none of its calls
+  further : (more : List Line) → IsLinearization history (other ++ more) → (j : ℕ) (line : Line) → slice_get more j ≡ Some line
+      → ¬ IsNamed other (cpu_named line) (number_named line)
+  further more valid j line is named =
+      let within = slice_get_within other named.0 named.1 named.2 in
+      valid.order.names.once named.0 (length other + j) named.1 line (omega (arith, within))
+      (slice_get-append other more named.0 named.1 named.2) (behind other more j line is) (named.3, named.4)
+
+  apart : (more : List Line) → IsLinearization history (other ++ more) → Pairs (Apart history.events) (one ++ more)
+  apart more valid =
+      Pairs-append (Apart history.events) one more
+      (Pairs-from_places (Apart history.events) one (λ i j x y below is there.
+      (reached.passes.names.once i j x y below is there, reached.passes.real_time i j x y below is there)))
+      (Pairs-behind (Apart history.events) other more (Pairs-from_places (Apart history.events) (other ++ more) (λ i j x y below is there.
+      (valid.order.names.once i j x y below is there, valid.real_time i j x y below is there))))
+      (Each-from_places (λ x. Each (Apart history.events x) more) one (λ i x is.
+      Each-from_places (Apart history.events x) more (λ j y there. (
+        λ same. further more valid j y there (named_alike (cpu_named y) (number_named y) (i, x, is, same.0, same.1)),
+        λ returns.
+            reached.in_time y (λ named. further more valid j y there (named_alike (cpu_named y) (number_named y) named)) (i, x, is, returns),
+      ))))
+
+  each : (P : Line → Type 0) → ((i : ℕ) (line : Line) → slice_get one i ≡ Some line → P line) → (more : List Line)
+      → ((i : ℕ) (line : Line) → slice_get (other ++ more) i ≡ Some line → P line)
+      → (i : ℕ) (line : Line) → slice_get (one ++ more) i ≡ Some line → P line
+  each P here more there i line is = elim (in_either one more i line is) [
+    | inl among ↦ here i line among
+    | inr later ↦ there (length other + later.0) line (behind other more later.0 line later.1)
+  ]
+
+  complete : (more : List Line) → IsLinearization history (other ++ more) → (cpu number : ℕ) → IsFinished history.events cpu number
+      → IsNamed (one ++ more) cpu number
+  complete more valid cpu number finished =
+      let at = valid.order.complete cpu number finished in
+      elim (in_either other more at.0 at.1 at.2) [
+        | inl among ↦
+            let named = back cpu number (at.0, at.1, among, at.3, at.4) in
+            (named.0, named.1, slice_get-append one more named.0 named.1 named.2, named.3, named.4)
+        | inr later ↦ (length one + later.0, at.1, behind one more later.0 at.1 later.1, at.3, at.4)
+      ]
+
+  -- what continues the other continues the one
+  alike : (more : List Line) → IsLinearization history (other ++ more) → IsLinearization history (one ++ more)
+  alike more valid =
+      let pairs = apart more valid in
+      let parts = split_run history.events other more valid.entries (opening history.config) valid.last valid.run.claimed valid.run.run in
+      let places = HasOnePlaces-from_history history is_history in
+      let at : parts.middle ≡ state =
+      same_state history.events places other parts.first also.passes.entries (opening history.config) parts.middle state parts.claimed parts.run
+      also.passes.run.claimed also.passes.run.run in
+      record {
+        order = record {
+          names = record {
+            known = each (NamesCall history.events) reached.passes.names.known more valid.order.names.known;
+            kinds = each (IsOfItsKind history.events) reached.passes.names.kinds more valid.order.names.kinds;
+            once = λ i j line later below is there. (Pairs-at (Apart history.events) (one ++ more) i j line later pairs below is there).0;
+          };
+          complete = complete more valid;
+        };
+        real_time = λ i j line later below is there. (Pairs-at (Apart history.events) (one ++ more) i j line later pairs below is there).1;
+        entries = reached.passes.entries ++ parts.rest;
+        last = valid.last;
+        run = record {
+          claimed = claimed-append history.events one more reached.passes.entries parts.rest reached.passes.run.claimed parts.later;
+          run = run-append reached.passes.entries parts.rest (opening history.config) state valid.last reached.passes.run.run
+              (subst (λ (s : State). IsRun s parts.rest valid.last) at parts.further);
+        };
+      }
+
+  pub nowhere_alike : LeadsNowhere history one → LeadsNowhere history other
+  nowhere_alike nowhere = record { none = λ more valid. nowhere.none more (alike more valid) }
