@@ -19,6 +19,7 @@ use crate::entry::{
     Entry, command_of, counted_event, entry_cpu, event_of, reply_of, reserve_event, store,
 };
 use crate::event_ref::EventRef;
+use crate::events::Events;
 use crate::subhistory::{Subhistory, copies, make_room_at};
 use memory_map::Config;
 use rmi_codec::reply_has_text;
@@ -136,8 +137,15 @@ impl History {
         event_of(&self.words, self.number_at(place), self.entries[place]).to_event()
     }
 
+    /// The events, one after another.
+    pub fn events(&self) -> Events<'_>
+        ensures { result ≡ self.now.recorded.events }
+    {
+        Events::of(self)
+    }
+
     /// The event at a place, whose number the counts of the events before it tell without a search. They then count it too.
-    pub fn next_event(&self, place: usize, counts: &mut [u32; 8]) -> EventRef<'_>
+    pub(crate) fn counted_at(&self, place: usize, counts: &mut [u32; 8]) -> EventRef<'_>
         requires place { place < length self.now.recorded.events }
         requires counts { AreCounts counts.old (take place self.now.recorded.events) }
         ensures event { slice_get self.now.recorded.events place ≡ Some (event_seen result) }

@@ -9,6 +9,7 @@
 mod beginning;
 mod entry;
 mod event_ref;
+mod events;
 mod fault;
 mod history;
 mod laws;
@@ -17,6 +18,7 @@ mod reader;
 mod reading;
 mod subhistory;
 
+pub use events::Events;
 pub use fault::HistoryFault;
 pub use history::{Answer, Call, History, MOST_LINES, Places};
 pub use laws::read_pieces;

@@ -24,18 +24,19 @@ pub ruleset writing = (begun_append, begun_cons, line_text-spaced)
 pub record IsCut (left line rest : List ℕ) : Type 0 where
   pub is : left ≡ line ++ rest
 
+-- what is left of some lines, cut behind the first
+pub lines_first : {X : Type 0} (parts : X → List (List ℕ)) (left rest : List X) (x : X) → left ≡ x ∷ rest
+    → IsCut (lines_text (map parts left)) (line_text (parts x) ++ 10 ∷ []) (lines_text (map parts rest))
+lines_first parts left rest x first =
+    record { is = ap (λ ys. lines_text (map parts ys)) first ∙ sym (append_assoc (line_text (parts x)) (10 ∷ []) (lines_text (map parts rest))) }
+
 -- what is left of some lines where one of them is next
 pub lines_left : {X : Type 0} (parts : X → List (List ℕ)) (xs : List X) (place : ℕ) (x : X) → slice_get xs place ≡ Some x
     → IsCut (lines_text (map parts (drop place xs))) (line_text (parts x) ++ 10 ∷ []) (lines_text (map parts (drop (place + 1) xs)))
 lines_left parts xs place x is =
-    let within = slice_get_within xs place x is in
-    let next : drop place xs ≡ x ∷ drop (place + 1) xs =
-    drop-cons xs place x within ∙ ap (λ y. y ∷ drop (suc place) xs) (get_or_from_slice_get xs place x x is)
-    ∙ ap (λ k. x ∷ drop k xs) (sym (add-one place)) in
-    record {
-      is = ap (λ ys. lines_text (map parts ys)) next
-          ∙ sym (append_assoc (line_text (parts x)) (10 ∷ []) (lines_text (map parts (drop (place + 1) xs))));
-    }
+    lines_first parts (drop place xs) (drop (place + 1) xs) x
+    (drop-cons xs place x (slice_get_within xs place x is) ∙ ap (λ y. y ∷ drop (suc place) xs) (get_or_from_slice_get xs place x x is)
+    ∙ ap (λ k. x ∷ drop k xs) (sym (add-one place)))
 
 -- what is left of some words where one of them is next
 pub words_left : (ws : List ℕ) (place : ℕ) → place < length ws
@@ -59,8 +60,8 @@ kept_after old mid new kept begun =
     kept_on old mid new (drop (length mid) new) kept
     (sym (take-append-drop (length mid) new) ∙ ap (λ front. front ++ drop (length mid) new) begun)
 
-pub begun_after : (old mid new text line rest left : List ℕ) → mid ++ left ≡ old ++ text → IsCut left line rest → take (length new) (mid ++ line) ≡ new
-    → take (length new) (old ++ text) ≡ new
+pub begun_after : (old mid new text line rest left : List ℕ) → mid ++ left ≡ old ++ text → IsCut left line rest
+    → take (length new) (mid ++ line) ≡ new → take (length new) (old ++ text) ≡ new
 begun_after old mid new text line rest left written next begun =
     ap (take (length new)) (sym written ∙ ap (λ more. mid ++ more) next.is) ∙ begun_append new mid line rest begun
 

@@ -45,9 +45,9 @@ fn push_events(out: &mut Vec<u8>, history: &History) -> Result<(), AllocError>
     ensures full { OnErr result (vec_capacity out.old < vec_len out.old + length (lines_text (map event_parts history.now.recorded.events))) }
     ensures capacity { vec_capacity out.old ≤ vec_capacity out.new }
 {
-    let mut counts = [0; 8];
-    for place in 0..history.len() {
-        push_event(out, &history.next_event(place, &mut counts).to_event())?;
+    let mut events = history.events();
+    while let Some(event) = events.next() {
+        push_event(out, &event.to_event())?;
     }
     Ok(())
 }

@@ -2,7 +2,7 @@
 use Rattle.std.proofs.Common.{ap, arith}
 use Rattle.history.proofs.CountLaws.{cpu_within, count_few, event_counted, AreCounts-next}
 use Rattle.history.proofs.EntryLaws.{IsEntryAt-read, within_entries}
-use Rattle.history.proofs.history.History.next_event.Goals as goal
+use Rattle.history.proofs.history.History.counted_at.Goals as goal
 
 pub index-requires : goal.index-requires
 index-requires c =
