@@ -6,13 +6,13 @@ use Rattle.rmm_spec.specs.Walk.{reach, table_number}
 use Rattle.spec_lemmas.proofs.WalkLaws.{reach-zero}
 use Rattle.spec_lemmas.proofs.Placed.{any_below-from}
 
--- one entry of a table passes
-pub one_passes : (passes : ℕ → Bool) (place : ℕ) → place < 512 → true ≡ passes place → true ≡ any_below 512 passes
-one_passes passes place below holds = sym (any_below-from 512 passes place below (sym holds))
+-- one of so many passes
+pub one_passes : (passes : ℕ → Bool) (many place : ℕ) → place < many → true ≡ passes place → true ≡ any_below many passes
+one_passes passes many place below holds = sym (any_below-from many passes place below (sym holds))
 
 -- none does, once all are looked at
-pub none_passes : (passes : ℕ → Bool) (count : ℕ) → count ≡ 512 → any_below count passes ≡ false → false ≡ any_below 512 passes
-none_passes passes count all none = sym none ∙ ap (λ n. any_below n passes) all
+pub none_passes : (passes : ℕ → Bool) (many count : ℕ) → count ≡ many → any_below count passes ≡ false → false ≡ any_below many passes
+none_passes passes many count all none = sym none ∙ ap (λ n. any_below n passes) all
 
 -- a walk up to level 0 ends there
 pub ends_at_zero : (s : State) (rd ipa max : ℕ) → max ≡ 0 → 0 ≡ reach s rd ipa max

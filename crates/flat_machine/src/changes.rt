@@ -1,78 +1,75 @@
-//! What an accepted command changes, map by map.
-
-ghost use Rattle.std.specs.Prelude.{IsTrue};
-ghost use Rattle.rmm_spec.specs.Applicable.{IsRealmUpdate};
-ghost use Rattle.realm_desc.specs.Updates.{IsRecUpdate};
+//! What an accepted command changes: the definitions' ten kinds of change, as code, each by the updates of a state.
 
 use crate::fault::FlatFault;
-use crate::kept::Kept;
 use crate::machine::FlatMachine;
+use crate::records::{new_realm, new_rec, realm_updated, rec_updated};
 use command_rows::Sight;
-use memory_map::Pa;
-use realm_desc::Rec;
-use rmm_spec::{Change, RealmChange, RealmUpdate, RecChange, RecUpdate, Tag, TagChange};
+use rmm_spec::{Change, Entry, EntryChange, RealmChange, RealmUpdate, RecChange, Tag, TagChange};
 
 impl FlatMachine {
-    /// Makes the change.
-    pub(crate) fn apply(&mut self, change: &Change) -> Result<(), FlatFault> {
-        match *change {
-            Change::Unchanged => Ok(()),
-            Change::Retagged(TagChange { granule, tag }) => self.retag(granule, tag),
-            Change::RealmMade {
-                rd,
-                root,
-                width,
-                level,
-                vmid,
-                algo,
-            } => self.make_realm(rd, root, width, level, vmid, algo),
-            Change::RealmDestroyed { rd, root } => self.destroy_realm(rd, root),
-            Change::RecMade {
-                rd,
-                rec,
-                mpidr,
-                flags,
-                aux0,
-                aux1,
-            } => self.make_rec(rd, rec, mpidr, flags, aux0, aux1),
-            Change::RecDestroyed { rec, aux0, aux1 } => self.destroy_rec(rec, aux0, aux1),
-            Change::RecordsChanged { realm, rec } => self.change_records(None, realm, rec),
-            Change::TableMade {
-                rd,
-                level,
-                number,
-                rtt,
-                entry,
-            } => self.make_table(rd, level, number, rtt, entry),
-            Change::TableDestroyed {
-                rd,
-                level,
-                number,
-                rtt,
-                entry,
-            } => self.destroy_table(rd, level, number, rtt, entry),
-            Change::EntriesChanged {
-                rd,
-                level,
-                entries,
-                page,
-                realm,
-                rec,
-            } => {
-                self.change_entries(rd, level, entries)?;
-                self.change_records(page, realm, rec)
-            }
+    fn with_realm_change(&mut self, change: Option<RealmChange>) -> Result<(), FlatFault> {
+        let Some(RealmChange { rd, update }) = change else {
+            return Ok(());
+        };
+        let realm = self.realm(rd).ok_or(FlatFault::Missing)?;
+        let updated = realm_updated(update, &realm).ok_or(FlatFault::Missing)?;
+        self.with_realm(rd, updated)
+    }
+
+    fn with_rec_change(&mut self, change: Option<RecChange>) -> Result<(), FlatFault> {
+        let Some(RecChange { rec, update }) = change else {
+            return Ok(());
+        };
+        let record = self.rec(rec).ok_or(FlatFault::Missing)?;
+        let updated = rec_updated(update, &record).ok_or(FlatFault::Missing)?;
+        self.with_rec(rec, updated)
+    }
+
+    fn with_tag_change(&mut self, change: Option<TagChange>) -> Result<(), FlatFault> {
+        match change {
+            None => Ok(()),
+            Some(TagChange { granule, tag }) => self.with_tag(granule, tag),
         }
     }
 
-    /// Gives a granule another state, with which no record goes.
-    pub(crate) fn retag(&mut self, granule: u64, tag: Tag) -> Result<(), FlatFault> {
-        let kept = Kept::bare(tag).ok_or(FlatFault::Missing)?;
-        self.granules.insert(granule, kept)?;
+    fn with_entry_change(
+        &mut self,
+        rd: u64,
+        level: u8,
+        change: EntryChange,
+    ) -> Result<(), FlatFault> {
+        match change {
+            EntryChange::Replaced { number, entry } => self.with_leaf(rd, level, number, entry)?,
+            EntryChange::RipasSet { first, last, ripas } => {
+                self.with_ripas(rd, level, first, last, ripas);
+            }
+        }
         Ok(())
     }
 
-    fn make_rec(
+    fn realm_made(
+        &mut self,
+        rd: u64,
+        root: u64,
+        width: u8,
+        level: u8,
+        vmid: u8,
+        algo: u8,
+    ) -> Result<(), FlatFault> {
+        let realm = new_realm(root, width, level, vmid, algo).ok_or(FlatFault::Missing)?;
+        self.with_tag(root, Tag::Rtt)?;
+        self.with_realm(rd, realm)?;
+        self.with_root(rd, level, root)
+    }
+
+    fn realm_destroyed(&mut self, rd: u64, root: u64) -> Result<(), FlatFault> {
+        self.with_tag(rd, Tag::Delegated)?;
+        self.with_tag(root, Tag::Delegated)?;
+        self.without_realm(rd);
+        Ok(())
+    }
+
+    fn rec_made(
         &mut self,
         rd: u64,
         rec: u64,
@@ -81,104 +78,108 @@ impl FlatMachine {
         aux0: u64,
         aux1: u64,
     ) -> Result<(), FlatFault> {
-        let mut realm = self.realm(rd).ok_or(FlatFault::Missing)?;
-        if !realm.takes_index(u64::from(mpidr)) {
-            return Err(FlatFault::Missing);
-        }
-        realm.count_rec(mpidr, flags);
-        let made = Rec::new(Pa::new(rd), mpidr, flags, Pa::new(aux0), Pa::new(aux1));
-        self.granules.insert(rd, Kept::Rd(realm))?;
-        self.granules.insert(rec, Kept::Rec(made))?;
-        self.granules.insert(aux0, Kept::RecAux)?;
-        self.granules.insert(aux1, Kept::RecAux)?;
-        let count = self.rec_counts.get(&rd).copied().unwrap_or(0);
-        self.rec_counts.insert(rd, count.wrapping_add(1))?;
-        Ok(())
+        let update = RealmUpdate::RecCounted { mpidr, flags };
+        let made = new_rec(rd, mpidr, flags, aux0, aux1).ok_or(FlatFault::Missing)?;
+        self.with_tag(aux0, Tag::RecAux)?;
+        self.with_tag(aux1, Tag::RecAux)?;
+        self.with_realm_change(Some(RealmChange { rd, update }))?;
+        self.with_rec(rec, made)
     }
 
-    fn destroy_rec(&mut self, rec: u64, aux0: u64, aux1: u64) -> Result<(), FlatFault> {
-        let rd = self.rec(rec).ok_or(FlatFault::Missing)?.owner.address();
-        self.granules.insert(rec, Kept::Delegated)?;
-        self.granules.insert(aux0, Kept::Delegated)?;
-        self.granules.insert(aux1, Kept::Delegated)?;
-        match self.rec_counts.get(&rd).copied().unwrap_or(0) {
-            0 | 1 => {
-                self.rec_counts.remove(&rd);
-            }
-            count => {
-                self.rec_counts.insert(rd, count - 1)?;
-            }
-        }
-        Ok(())
+    fn rec_destroyed(&mut self, rec: u64, aux0: u64, aux1: u64) -> Result<(), FlatFault> {
+        self.with_tag(rec, Tag::Delegated)?;
+        self.with_tag(aux0, Tag::Delegated)?;
+        self.with_tag(aux1, Tag::Delegated)
     }
 
-    // Changes a page's state and the records of a realm and of a REC, each where it goes with the change.
-    fn change_records(
+    fn table_made(
         &mut self,
+        rd: u64,
+        level: u8,
+        number: u64,
+        rtt: u64,
+        entry: Entry,
+    ) -> Result<(), FlatFault> {
+        self.with_tag(rtt, Tag::Rtt)?;
+        self.with_table(rd, level, number, rtt, entry)
+    }
+
+    fn table_destroyed(
+        &mut self,
+        rd: u64,
+        level: u8,
+        number: u64,
+        rtt: u64,
+        entry: Entry,
+    ) -> Result<(), FlatFault> {
+        self.with_tag(rtt, Tag::Delegated)?;
+        self.without_table(rd, level, number, entry)
+    }
+
+    fn entries_changed(
+        &mut self,
+        rd: u64,
+        level: u8,
+        entries: EntryChange,
         page: Option<TagChange>,
         realm: Option<RealmChange>,
         rec: Option<RecChange>,
     ) -> Result<(), FlatFault> {
-        if let Some(TagChange { granule, tag }) = page {
-            self.retag(granule, tag)?;
-        }
-        if let Some(change) = realm {
-            self.change_realm(change)?;
-        }
-        match rec {
-            Some(change) => self.change_rec(change),
-            None => Ok(()),
-        }
+        self.with_tag_change(page)?;
+        self.with_realm_change(realm)?;
+        self.with_rec_change(rec)?;
+        self.with_entry_change(rd, level, entries)
     }
 
-    fn change_realm(&mut self, change: RealmChange) -> Result<(), FlatFault> {
-        let RealmChange { rd, update } = change;
-        let mut realm = self.realm(rd).ok_or(FlatFault::Missing)?;
-        if !can_update_realm(update) {
-            return Err(FlatFault::Missing);
+    /// Makes the change.
+    pub(crate) fn changed(&mut self, change: &Change) -> Result<(), FlatFault> {
+        match *change {
+            Change::Unchanged => Ok(()),
+            Change::Retagged(TagChange { granule, tag }) => self.with_tag(granule, tag),
+            Change::RealmMade {
+                rd,
+                root,
+                width,
+                level,
+                vmid,
+                algo,
+            } => self.realm_made(rd, root, width, level, vmid, algo),
+            Change::RealmDestroyed { rd, root } => self.realm_destroyed(rd, root),
+            Change::RecMade {
+                rd,
+                rec,
+                mpidr,
+                flags,
+                aux0,
+                aux1,
+            } => self.rec_made(rd, rec, mpidr, flags, aux0, aux1),
+            Change::RecDestroyed { rec, aux0, aux1 } => self.rec_destroyed(rec, aux0, aux1),
+            Change::RecordsChanged { realm, rec } => {
+                self.with_realm_change(realm)?;
+                self.with_rec_change(rec)
+            }
+            Change::TableMade {
+                rd,
+                level,
+                number,
+                rtt,
+                entry,
+            } => self.table_made(rd, level, number, rtt, entry),
+            Change::TableDestroyed {
+                rd,
+                level,
+                number,
+                rtt,
+                entry,
+            } => self.table_destroyed(rd, level, number, rtt, entry),
+            Change::EntriesChanged {
+                rd,
+                level,
+                entries,
+                page,
+                realm,
+                rec,
+            } => self.entries_changed(rd, level, entries, page, realm, rec),
         }
-        realm.update(update);
-        self.granules.insert(rd, Kept::Rd(realm))?;
-        Ok(())
-    }
-
-    fn change_rec(&mut self, change: RecChange) -> Result<(), FlatFault> {
-        let RecChange { rec, update } = change;
-        let mut record = self.rec(rec).ok_or(FlatFault::Missing)?;
-        if !can_update_rec(&record, update) {
-            return Err(FlatFault::Missing);
-        }
-        record.update(update);
-        self.granules.insert(rec, Kept::Rec(record))?;
-        Ok(())
-    }
-}
-
-// Whether a realm can be updated so.
-fn can_update_realm(update: RealmUpdate) -> bool
-    ensures { IsTrue result → IsRealmUpdate update }
-{
-    match update {
-        RealmUpdate::MeasurementExtended {
-            index: 1..=4,
-            size: 0..=0x40,
-            ..
-        } => true,
-        RealmUpdate::RecCounted { .. } | RealmUpdate::MeasurementExtended { .. } => false,
-        RealmUpdate::Activated
-        | RealmUpdate::TurnedOff
-        | RealmUpdate::PageMeasured { .. }
-        | RealmUpdate::StretchMeasured { .. } => true,
-    }
-}
-
-// Whether the REC can be updated so.
-#[tactic(auto, unfolding(realm_desc::specs::View::rec_record))]
-fn can_update_rec(rec: &Rec, update: RecUpdate) -> bool
-    ensures { IsTrue result → IsRecUpdate rec.now update }
-{
-    match update {
-        RecUpdate::RequestMoved { .. } => rec.request.is_some(),
-        _ => true,
     }
 }

@@ -18,10 +18,6 @@ pub struct FlatMachine {
     pub(crate) granules: HashMap<u64, Kept>,
     pub(crate) tables: HashMap<Spot, u64>,
     pub(crate) leaves: HashMap<Spot, Entry>,
-    // the descriptor of the realm that has each VMID
-    pub(crate) vmids: HashMap<u8, u64>,
-    // how many RECs each realm has, where it has any
-    pub(crate) rec_counts: HashMap<u64, u64>,
 }
 
 impl FlatMachine {
@@ -38,8 +34,6 @@ impl FlatMachine {
             granules: HashMap::new(alloc),
             tables: HashMap::new(alloc),
             leaves: HashMap::new(alloc),
-            vmids: HashMap::new(alloc),
-            rec_counts: HashMap::new(alloc),
         }
     }
 
@@ -81,7 +75,7 @@ impl FlatMachine {
                 _ => return Ok(false),
             },
         };
-        self.apply(&change)?;
+        self.changed(&change)?;
         Ok(true)
     }
 

@@ -10,15 +10,14 @@ use rmm_spec::{Entry, EntryTest, Tag, Version, Walked};
 
 #[tactic(auto, unfolding(crate::specs::Flat::state_of, rmm_spec::specs::Lookup::has_tag))]
 impl Sight for FlatMachine {
-    ghost use Rattle.std.specs.Prelude.{nat_eq, is_some};
-    ghost use Rattle.std.specs.HashMap.{get};
+    ghost use Rattle.rmm_spec.specs.Lookup as lookup;
     ghost use Rattle.flat_machine.specs.Flat.{state_of};
 
     ghost state = { state_of };
 
-    ghost uses_vmid = { λ machine vmid. is_some (get nat_eq machine.vmids vmid) };
+    ghost uses_vmid = { λ machine vmid. lookup.is_vmid_used (state_of machine) vmid };
 
-    ghost has_recs = { λ machine rd. is_some (get nat_eq machine.rec_counts rd) };
+    ghost has_recs = { λ machine rd. lookup.has_rec (state_of machine) rd };
 
     fn version(&self) -> Version {
         self.config.version()
@@ -64,10 +63,10 @@ impl Sight for FlatMachine {
     }
 
     fn has_rec(&self, rd: u64) -> bool {
-        self.rec_counts.contains_key(&rd)
+        self.owns_rec(rd)
     }
 
     fn is_vmid_used(&self, vmid: u8) -> bool {
-        self.vmids.contains_key(&vmid)
+        self.uses_vmid(vmid)
     }
 }

@@ -5,8 +5,10 @@ ghost use Rattle.rmm_spec.specs.Lookup as lookup;
 
 use crate::kept::{Kept, Spot};
 use crate::machine::FlatMachine;
+use command_rows::Sight;
 use memory_map::{
-    Config, can_be_set, entry_number, entry_size, granule_at, linked, passes, table_number,
+    Config, GRANULE_BYTES, can_be_set, entry_number, entry_size, granule_at, linked, passes,
+    table_number,
 };
 use realm_desc::{Realm, Rec};
 use rmm_spec::{Entry, EntryTest, Stretch, Tag};
@@ -19,6 +21,26 @@ pub(crate) fn is_granule(config: &Config, address: u64) -> bool
     ensures { result ≡ lookup.is_granule config.now.granules address }
 {
     granule_at(config, address).is_some()
+}
+
+#[tactic(auto, unfolding(realm_desc::specs::View::realm_record))]
+fn has_vmid(vmid: u8, realm: &Option<Realm>) -> bool
+    ensures { result ≡ lookup.has_vmid vmid realm.now }
+{
+    match realm {
+        Some(realm) => realm.vmid == vmid,
+        None => false,
+    }
+}
+
+#[tactic(auto, unfolding(realm_desc::specs::View::rec_record))]
+fn is_owned_by(rd: u64, rec: &Option<Rec>) -> bool
+    ensures { result ≡ lookup.is_owned_by rd rec.now }
+{
+    match rec {
+        Some(rec) => rec.owner.address() == rd,
+        None => false,
+    }
 }
 
 #[tactic(auto, unfolding(crate::specs::Flat::state_of))]
@@ -55,6 +77,32 @@ impl FlatMachine {
             Some(Kept::Rec(rec)) => Some(*rec),
             _ => None,
         }
+    }
+
+    /// Whether a realm has the VMID.
+    #[tactic(auto, unfolding(crate::specs::Flat::state_of, rmm_spec::specs::Lookup::is_vmid_used))]
+    pub(crate) fn uses_vmid(&self, vmid: u8) -> bool
+        ensures { result ≡ lookup.is_vmid_used (state_of self.now) vmid }
+    {
+        for number in 0..self.config.granules() {
+            if has_vmid(vmid, &self.realm(number * GRANULE_BYTES)) {
+                return true;
+            }
+        }
+        false
+    }
+
+    /// Whether a REC belongs to the realm.
+    #[tactic(auto, unfolding(crate::specs::Flat::state_of, rmm_spec::specs::Lookup::has_rec))]
+    pub(crate) fn owns_rec(&self, rd: u64) -> bool
+        ensures { result ≡ lookup.has_rec (state_of self.now) rd }
+    {
+        for number in 0..self.config.granules() {
+            if is_owned_by(rd, &self.rec(number * GRANULE_BYTES)) {
+                return true;
+            }
+        }
+        false
     }
 
     /// The granule of a table.

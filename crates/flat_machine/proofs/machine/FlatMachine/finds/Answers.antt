@@ -8,12 +8,12 @@ pub returns-then-passes : goal.returns-then-passes
 unfolding has_entry
 returns-then-passes c =
     let a = c.args in
-    one_passes (λ k. passes a.test (entry_at (state_of a.self.now) a.rd a.level (512 * a.number + k))) c.loop-place.place (omega arith)
+    one_passes (λ k. passes a.test (entry_at (state_of a.self.now) a.rd a.level (512 * a.number + k))) 512 c.loop-place.place (omega arith)
     (rw c.entry.ensures at c.if-passes.ensures)
 
 pub returns : goal.returns
 unfolding has_entry
 returns c =
     let a = c.args in
-    none_passes (λ k. passes a.test (entry_at (state_of a.self.now) a.rd a.level (512 * a.number + k))) c.loop-place.place
+    none_passes (λ k. passes a.test (entry_at (state_of a.self.now) a.rd a.level (512 * a.number + k))) 512 c.loop-place.place
     (omega (arith, c.loop-place-test.false, c.loop-place.auto.place-end)) c.loop-place.invariant
