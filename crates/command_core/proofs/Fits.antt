@@ -1,7 +1,7 @@
 -- A change that a whole can take is one that can be made of what is held, where its new cells are held.
 use Rattle.command_core.proofs.Common.{◌&&◌, ◌*◌, ◌+◌, ◌<◌, ◌==◌, ◌||◌, ◌∙◌, ◌≡◌, ◌≤◌, Change, Config, HeldCell, Hold, IsTrue, List, None, Option, Rd, RealmRecord, Rec, RecRecord, Some, State, Unchanged, and_from, and_parts, ap, arith, can_make, eq-eqb, false≢true, flat_state, has_tag, hold_of, inl, inr, is_granule, is_held, is_some, length, nat_le, nat_tests, new_cells, realm_at, realm_in, rec_at, refl, subst, sym, table_placed, tag_number, tag_of, true, ℕ}
 use Rattle.std.proofs.Common.{◌/◌, ◌^◌}
-use Rattle.std.specs.Prelude.{nat_lt, ◌%◌}
+use Rattle.std.specs.Prelude.{nat_lt, not, ◌%◌}
 use Rattle.std.proofs.lemmas.Bool.{ltb-true}
 use Rattle.rmm_spec.specs.HistoryText.{granule_limit}
 use Rattle.rmm_spec.specs.declared.version.Version.TheVariants.{Large}
@@ -28,7 +28,8 @@ use Rattle.rmm_laws.proofs.Spaces.{space_cases}
 use Rattle.shape_laws.specs.Whole.{table_changed}
 use Rattle.world_laws.specs.TableCells.{is_moved, holds_page, holds_realm, holds_rec, holds_change}
 use Rattle.command_core.specs.Seen.{known_cell}
-use Rattle.command_core.specs.Changed.{is_plain, counts_in, is_realm_update, fits_realm, is_rec_update, fits_rec, fits_realm_change, fits_rec_change, fits_cells, can_count, CanMake, CanChange, fits_page, fits_entries}
+use Rattle.cell_changes.specs.Changes.{fits_entries, is_plain}
+use Rattle.command_core.specs.Changed.{counts_in, is_realm_update, fits_realm, is_rec_update, fits_rec, fits_realm_change, fits_rec_change, fits_cells, can_count, CanMake, CanChange, fits_page}
 use Rattle.command_core.proofs.Wholes.{Whole, state, same_at, few_recs, realm_at-cell, rec_at-cell}
 
 -- ---- updates
@@ -162,8 +163,10 @@ applied-fits config cpu hold w (RealmMade rd root width level vmid algo) can fit
     and_from (is_space width level && is_hash algo) true (and_from (is_space width level) (is_hash algo) can.space can.hashes) refl
 applied-fits config cpu hold w (RealmDestroyed rd root) can fits = refl
 applied-fits config cpu hold w (RecMade rd rec mpidr flags aux0 aux1) can fits =
-    and_from (counts_in mpidr (known_cell hold.cells rd)) (is_granule config.granules rd && nat_le (hold.side.rec_counts rd) config.granules)
-    (counts config cpu hold w rd mpidr can.rd_tag can.index_fits fits.held.1.1.1.0)
+    and_from (counts_in mpidr (known_cell hold.cells rd) && not (aux0 == aux1))
+    (is_granule config.granules rd && nat_le (hold.side.rec_counts rd) config.granules)
+    (and_from (counts_in mpidr (known_cell hold.cells rd)) (not (aux0 == aux1))
+    (counts config cpu hold w rd mpidr can.rd_tag can.index_fits fits.held.1.1.1.0) (ap not can.apart))
     (and_from (is_granule config.granules rd) (nat_le (hold.side.rec_counts rd) config.granules)
     (tagged config w.cells rd tag.Rd can.rd_tag).0 (few_recs config cpu hold w rd))
 applied-fits config cpu hold w (RecDestroyed rec aux0 aux1) can fits = refl

@@ -14,6 +14,7 @@ pub mod Inside
 pub mod Fits
 pub mod NoWholes
 pub mod Owned
+pub mod OwnShapes
 pub mod Stretches
 pub mod Made
 pub mod Walked

@@ -122,21 +122,17 @@ bad_aux-none config cpu hold w aux is_one bad = by (or_cases (not (is_granule co
 auxes-none : (config : Config) (cpu : ℕ) (hold : Hold) (w : Whole config cpu hold) (rec : ℕ) (o : Option Cell) → cell_in rec hold.cells ≡ o
     → has_bad_aux config o hold.cells ≡ true → ⊥
 auxes-none config cpu hold w rec (Some (Rec it)) found bad =
-    by (or_cases (is_bad_aux config it.aux0 hold.cells) (is_held it.aux0 hold.cells && (it.aux0 == it.aux1 || is_bad_aux config it.aux1 hold.cells))
+    by (or_cases (is_bad_aux config it.aux0 hold.cells) (is_held it.aux0 hold.cells && is_bad_aux config it.aux1 hold.cells)
     (and_parts (is_none it.cpu) (are_bad_auxes config it hold.cells) bad).1)
   where
     is_rec : rec_in (w.cells rec) ≡ Some it
     is_rec = ap rec_in (whole_cell config cpu hold w rec (Rec it) found)
 
-    second : ((it.aux0 == it.aux1) ≡ true) ⊎ (is_bad_aux config it.aux1 hold.cells ≡ true) → ⊥
-    second (inl same) = false≢true (sym (w.shaped.recs.two rec it is_rec) ∙ same)
-    second (inr is) = bad_aux-none config cpu hold w it.aux1 (w.shaped.recs.aux1 rec it is_rec) is
-
     by : (is_bad_aux config it.aux0 hold.cells ≡ true)
-        ⊎ ((is_held it.aux0 hold.cells && (it.aux0 == it.aux1 || is_bad_aux config it.aux1 hold.cells)) ≡ true) → ⊥
+        ⊎ ((is_held it.aux0 hold.cells && is_bad_aux config it.aux1 hold.cells) ≡ true) → ⊥
     by (inl is) = bad_aux-none config cpu hold w it.aux0 (w.shaped.recs.aux0 rec it is_rec) is
-    by (inr is) = second (or_cases (it.aux0 == it.aux1) (is_bad_aux config it.aux1 hold.cells)
-        (and_parts (is_held it.aux0 hold.cells) (it.aux0 == it.aux1 || is_bad_aux config it.aux1 hold.cells) is).1)
+    by (inr is) = bad_aux-none config cpu hold w it.aux1 (w.shaped.recs.aux1 rec it is_rec)
+        (and_parts (is_held it.aux0 hold.cells) (is_bad_aux config it.aux1 hold.cells) is).1
 auxes-none config cpu hold w rec _ found bad = false≢true bad
 
 -- ---- a REC's realm

@@ -15,7 +15,8 @@ use Rattle.shape_laws.specs.Whole.{cell_with_entries, table_changed}
 use Rattle.world_laws.specs.Held.{known_cell}
 use Rattle.world_laws.specs.TableCells.{entry_cells, holds_page, holds_realm, holds_rec, holds_change}
 use Rattle.world_laws.proofs.Found.{placed-holds}
-use Rattle.command_core.specs.Changed.{fits_realm_change, fits_rec_change, fits_page, fits_entries, fits_cells}
+use Rattle.cell_changes.specs.Changes.{fits_entries}
+use Rattle.command_core.specs.Changed.{fits_realm_change, fits_rec_change, fits_page, fits_cells}
 use Rattle.shape_laws.proofs.Cells.{cell-table}
 
 -- ---- lists

@@ -1,6 +1,6 @@
 -- What a change makes of what one CPU holds: its cells, the side table and its place. It is what the same change makes of a
 -- whole, on the cells that are held. This project's own.
-use Rattle.std.specs.Prelude.{◌≡◌, ℕ, ◌+◌, ◌*◌, ◌/◌, ◌^◌, ◌≤◌, Bool, true, false, ◌&&◌, ◌==◌, nat_lt, nat_le, IsTrue, List, [], ◌∷◌, ◌++◌, length, Option, Some, None, is_some, Result, Ok, Err}
+use Rattle.std.specs.Prelude.{◌≡◌, ℕ, ◌*◌, ◌^◌, ◌≤◌, Bool, true, false, not, ◌&&◌, ◌==◌, nat_lt, nat_le, IsTrue, List, [], ◌∷◌, ◌++◌, length, Option, Some, None, is_some, Result, Ok, Err}
 use Rattle.std.specs.List.{AllByRecursion}
 use Rattle.rmm_spec.specs.HistoryText.{Config, granule_limit}
 use Rattle.rmm_spec.specs.declared.version.Version.TheVariants.{Large}
@@ -20,8 +20,6 @@ use Rattle.rmm_spec.specs.declared.command.Command.{Command}
 use Rattle.rmm_spec.specs.declared.refusal.Refusal.{Refusal}
 use Rattle.rmm_spec.specs.declared.reply.Reply.{Reply}
 use Rattle.rmm_spec.specs.declared.reply.Reply.TheVariants as reply
-use Rattle.rmm_spec.specs.declared.tag.Tag.{Tag}
-use Rattle.rmm_spec.specs.declared.tag.Tag.TheVariants as tag
 use Rattle.rmm_spec.specs.Call.{call_of}
 use Rattle.rmm_spec.specs.Change.{new_realm, new_rec}
 use Rattle.rmm_spec.specs.Flat.{flat_state}
@@ -30,8 +28,6 @@ use Rattle.rmm_spec.specs.Step.{outcome}
 use Rattle.rmm_spec.specs.Step.Ripas.{IsReached}
 use Rattle.rmm_spec.specs.State.{RecRecord}
 use Rattle.rmm_spec.specs.Lookup.{is_granule, is_hash}
-use Rattle.rmm_spec.specs.declared.change.EntryChange.{EntryChange}
-use Rattle.rmm_spec.specs.declared.change.EntryChange.TheVariants.{Replaced, RipasSet}
 use Rattle.rmm_spec.specs.declared.change.TagChange.{TagChange}
 use Rattle.rmm_spec.specs.Step.Terms.{is_space}
 use Rattle.rmm_spec.specs.Walk.{table_size}
@@ -41,6 +37,7 @@ use Rattle.rmm_spec.specs.Shape.{Side, CpuPlace, Outside, Inside, IsWellShaped}
 use Rattle.rmm_spec.specs.Local.{HeldCell, Hold, Agrees, LocalStep}
 use Rattle.world_laws.specs.Replaced.{held_at, replaced_all}
 use Rattle.shape_laws.specs.Whole.{cell_with_tag, cell_with_realm, root_table, side_changed}
+use Rattle.cell_changes.specs.Changes.{fits_entries, is_plain}
 use Rattle.command_core.specs.Seen.{is_held, known_cell}
 
 -- ---- cells
@@ -128,13 +125,6 @@ CanAnswer cpu hold (Ok (Reaches stretch)) = ⊥
 
 -- ---- what a change requires of the records that are held, and of the side table
 
--- a granule that holds nothing
-abbrev pub is_plain : Tag → Bool
-is_plain tag.Rd = false
-is_plain tag.Rec = false
-is_plain tag.Rtt = false
-is_plain _ = true
-
 -- a realm whose next REC has that index
 abbrev pub counts_in : ℕ → Cell → Bool
 counts_in mpidr (Rd realm) = mpidr == realm.next_index && nat_lt mpidr 8
@@ -173,16 +163,25 @@ abbrev pub fits_page : Option TagChange → Bool
 fits_page None = true
 fits_page (Some change) = is_plain change.tag
 
--- the entries of a stretch are those of one table
-abbrev pub fits_entries : EntryChange → Bool
-fits_entries (Replaced number entry) = true
-fits_entries (RipasSet first last ripas) = nat_lt first last && nat_le last ((first / 512 + 1) * 512)
+-- what a change makes keeps what its type keeps: a REC's two others are two
+abbrev pub HasOwnShape : Change → Type 0
+HasOwnShape (RecMade rd rec mpidr flags aux0 aux1) = (aux0 == aux1) ≡ false
+HasOwnShape _ = Unit {0}
+
+-- so does what is done by what is accepted
+abbrev pub AcceptsOwnShape : Accepted → Type 0
+AcceptsOwnShape (Done words change) = HasOwnShape change
+AcceptsOwnShape (Reaches stretch) = Unit {0}
+
+abbrev pub AnswersOwnShape : Result Accepted Refusal → Type 0
+AnswersOwnShape (Ok accepted) = AcceptsOwnShape accepted
+AnswersOwnShape (Err refusal) = Unit {0}
 
 -- the records are what the change updates
 abbrev pub fits_cells : List HeldCell → Change → Bool
 fits_cells held (Retagged change) = is_plain change.tag
 fits_cells held (RealmMade rd root width level vmid algo) = is_space width level && is_hash algo
-fits_cells held (RecMade rd rec mpidr flags aux0 aux1) = counts_in mpidr (known_cell held rd)
+fits_cells held (RecMade rd rec mpidr flags aux0 aux1) = counts_in mpidr (known_cell held rd) && not (aux0 == aux1)
 fits_cells held (RecordsChanged realm rec) = fits_realm_change held realm && fits_rec_change held rec
 fits_cells held (TableMade rd level number rtt entry) =
     holds_change held (TableMade rd level number rtt entry) && nat_lt (number * table_size level) (2 ^ 64)

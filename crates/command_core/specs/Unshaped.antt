@@ -30,7 +30,7 @@ is_bad_aux config aux held = not (is_granule config.granules aux) || is_other_au
 -- the second is looked at once the first is held
 abbrev pub are_bad_auxes : Config → RecRecord → List HeldCell → Bool
 are_bad_auxes config rec held =
-    is_bad_aux config rec.aux0 held || (is_held rec.aux0 held && (rec.aux0 == rec.aux1 || is_bad_aux config rec.aux1 held))
+    is_bad_aux config rec.aux0 held || (is_held rec.aux0 held && is_bad_aux config rec.aux1 held)
 
 -- a REC that runs isn't destroyed, whatever its parts are
 abbrev pub has_bad_aux : Config → Option Cell → List HeldCell → Bool

@@ -12,9 +12,9 @@ ghost use Rattle.command_core.specs.Rooms.{IsRoomFor};
 ghost use Rattle.command_core.specs.Seen.{cell_of, place_of, known_cell};
 ghost use Rattle.command_core.specs.Sides.{side_of};
 
-use crate::change_room::Room;
 use crate::held::Held;
 use crate::put_cells::put_cells;
+use cell_changes::Room;
 use granule_cells::{Cell, CpuPlace, Side};
 use memory_map::Pa;
 use rmm_spec::{Change, RecChange, RecUpdate};

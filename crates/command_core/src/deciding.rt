@@ -3,7 +3,7 @@
 ghost use Rattle.std.specs.Prelude.{◌≡◌, false, IsTrue, Ok, Some, option_map, option_copied};
 ghost use Rattle.rmm_spec.specs.declared.accepted.Accepted.TheVariants.{Reaches};
 ghost use Rattle.rmm_spec.specs.Call.{call_of};
-ghost use Rattle.command_core.specs.Changed.{hold_of, CanChange, CanMake, CanMakeAnswer, Decides, IsFurthest, given_of};
+ghost use Rattle.command_core.specs.Changed.{hold_of, AnswersOwnShape, CanChange, CanMake, CanMakeAnswer, Decides, IsFurthest, given_of};
 ghost use Rattle.command_core.specs.Decided as spec;
 ghost use Rattle.command_core.specs.Foreseen.{side_or_unlisted, unlisted, IsDecision, change_of};
 ghost use Rattle.command_core.specs.Seen.{place_of};
@@ -133,7 +133,8 @@ fn made_answer<H: Held>(
     granules: u64,
     answer: Result<Accepted, Refusal>,
 ) -> Result<Accepted, Refusal>
-    requires { granules ≡ sight.now.config.now.granules }
+    requires granules { granules ≡ sight.now.config.now.granules }
+    requires shaped { AnswersOwnShape answer }
     ensures { result ≡ spec.made_answer sight.now.config.now (H.cells sight.now.held.now)
         (side_or_unlisted (option_map side_of (option_copied sight.now.side))) answer }
 {

@@ -8,7 +8,6 @@ ghost use Rattle.rmm_spec.specs.Step.Terms.{is_space};
 ghost use Rattle.rmm_spec.specs.Table.{place_number};
 ghost use Rattle.rmm_spec.specs.Update.{is_same_entry};
 ghost use Rattle.rmm_spec.specs.Walk.{is_table};
-ghost use Rattle.shape_laws.specs.Whole as whole_spec;
 ghost use Rattle.world_laws.specs.SeenState as spec;
 ghost use Rattle.command_core.specs.Standing as standing;
 
@@ -17,7 +16,7 @@ use crate::held_sight::HeldSight;
 use command_words::is_space;
 use granule_cells::Cell;
 use memory_map::{Pa, is_table, linked, passes, table_number};
-use rmm_spec::{Entry, EntryChange, EntryTest, Place, Ripas};
+use rmm_spec::{Entry, EntryTest, Place, Ripas};
 use rtt_table::Table;
 
 /// How many entries a table has.
@@ -72,16 +71,6 @@ fn known_width(width: u8) -> Option<u8>
         Some(width)
     } else {
         None
-    }
-}
-
-/// The number of the table whose entries are changed.
-pub(crate) fn table_changed(change: EntryChange) -> u64
-    ensures { result ≡ whole_spec.table_changed change }
-{
-    match change {
-        EntryChange::Replaced { number, .. } => number / 512,
-        EntryChange::RipasSet { first, .. } => first / 512,
     }
 }
 

@@ -7,7 +7,6 @@
 
 mod applying;
 mod bearing_out;
-mod change_room;
 mod deciding;
 mod furthest;
 mod held;
@@ -31,7 +30,7 @@ mod ways;
 
 pub use applying::{apply, apply_aside, apply_held};
 pub use bearing_out::bears_out;
-pub use change_room::Room;
+pub use cell_changes::{Room, room_for};
 pub use deciding::{answer, decide, foresee};
 pub use granule_cells::{Cell, CpuPlace, Descriptor, Side};
 pub use held::Held;
@@ -43,4 +42,4 @@ pub use laws::{
 pub use next::Next;
 pub use planning::{next_lock, next_step};
 pub use rmm_spec::Change;
-pub use rooms::{room, room_for};
+pub use rooms::room;

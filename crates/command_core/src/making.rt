@@ -6,6 +6,7 @@ ghost use Rattle.rmm_spec.specs.Lookup as lookup;
 ghost use Rattle.rmm_spec.specs.Walk.{table_size};
 ghost use Rattle.world_laws.specs.SeenState.{table_placed};
 ghost use Rattle.world_laws.specs.TableCells as tables;
+ghost use Rattle.cell_changes.specs.Changes as changes;
 ghost use Rattle.command_core.specs.Changed as spec;
 ghost use Rattle.command_core.specs.Foreseen.{side_or_unlisted};
 ghost use Rattle.command_core.specs.Seen as seen;
@@ -13,9 +14,10 @@ ghost use Rattle.command_core.specs.Seen.{cell_of};
 ghost use Rattle.command_core.specs.Sides.{side_of};
 
 use crate::held::Held;
-use crate::held_tables::{placed, table_changed};
+use crate::held_tables::placed;
 use crate::misfits::table_size;
 use crate::taking::{is_granule, is_held};
+use cell_changes::number_changed;
 use command_words::is_space;
 use granule_cells::{Cell, Side};
 use memory_map::{Config, Pa};
@@ -26,7 +28,7 @@ use rmm_spec::{
 
 // Whether a granule of that state holds nothing.
 fn is_plain(tag: Tag) -> bool
-    ensures { result ≡ spec.is_plain tag }
+    ensures { result ≡ changes.is_plain tag }
 {
     match tag {
         Tag::Undelegated | Tag::Delegated | Tag::RecAux | Tag::Data => true,
@@ -178,7 +180,7 @@ fn fits_page(change: &Option<TagChange>) -> bool
 
 // Whether the entries of a stretch are those of one table.
 fn fits_entries(change: &EntryChange) -> bool
-    ensures { result ≡ spec.fits_entries change.now }
+    ensures { result ≡ changes.fits_entries change.now }
 {
     match *change {
         EntryChange::Replaced { .. } => true,
@@ -187,9 +189,10 @@ fn fits_entries(change: &EntryChange) -> bool
     }
 }
 
-// Whether the records that are held are what the change updates.
+// Whether the records that are held are what the change updates. What it makes has the shape that its type keeps.
 #[tactic(auto, unfolding(world_laws::specs::TableCells::holds_change))]
 fn fits_cells<H: Held>(held: &H, change: &Change) -> bool
+    requires { spec.HasOwnShape change.now }
     ensures { result ≡ spec.fits_cells (H.cells held.now) change.now }
 {
     match change {
@@ -227,7 +230,7 @@ fn fits_cells<H: Held>(held: &H, change: &Change) -> bool
             holds_page(held, page)
                 && holds_realm(held, realm)
                 && holds_rec(held, rec)
-                && placed(held, *rd, *level, table_changed(*entries)).is_some()
+                && placed(held, *rd, *level, number_changed(entries)).is_some()
                 && fits_page(page)
                 && fits_entries(entries)
                 && fits_realm(held, realm)
@@ -267,7 +270,8 @@ pub(crate) fn can_make<H: Held>(
     side: Option<&Side>,
     change: &Change,
 ) -> bool
-    requires { granules ≡ config.now.granules }
+    requires granules { granules ≡ config.now.granules }
+    requires shaped { spec.HasOwnShape change.now }
     ensures { result ≡ spec.can_make config.now (H.cells held.now) (side_or_unlisted (option_map side_of (option_copied side.entry))) change.now }
 {
     fits_cells(held, change) && can_count(config, granules, side, change)

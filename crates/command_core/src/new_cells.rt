@@ -7,7 +7,8 @@ ghost use Rattle.world_laws.specs.Replaced.{replaced_cells, replaced_all};
 ghost use Rattle.shape_laws.specs.Whole.{cell_with_tag, cell_with_rec};
 ghost use Rattle.world_laws.specs.SeenState.{table_held};
 ghost use Rattle.world_laws.specs.TableCells.{tag_cells, realm_cells, rec_cells};
-ghost use Rattle.command_core.specs.Changed.{AreAllHeld, is_plain, fits_rec, fits_realm_change, fits_rec_change, fits_page};
+ghost use Rattle.cell_changes.specs.Changes.{is_plain};
+ghost use Rattle.command_core.specs.Changed.{AreAllHeld, fits_rec, fits_realm_change, fits_rec_change, fits_page};
 ghost use Rattle.command_core.specs.NewCells.{new_cell};
 ghost use Rattle.command_core.specs.Seen.{cell_of, is_held, known_cell};
 

@@ -1,20 +1,17 @@
 //! The cells that a change puts in.
 
-ghost use Rattle.std.specs.Prelude.{◌≡◌, IsTrue, Some, is_some, [], ◌∷◌, ◌++◌, option_map, option_copied, unwrap_or};
-ghost use Rattle.rmm_spec.specs.declared.change.RealmUpdate.TheVariants.{RecCounted};
+ghost use Rattle.std.specs.Prelude.{◌≡◌, IsTrue, [], ◌∷◌, ◌++◌};
 ghost use Rattle.rmm_spec.specs.Cell as whole;
 ghost use Rattle.world_laws.specs.Replaced.{held_at, replaced_all};
-ghost use Rattle.shape_laws.specs.Whole.{cell_with_realm};
 ghost use Rattle.world_laws.specs.TableCells.{realm_cells, rec_cells};
-ghost use Rattle.command_core.specs.Changed.{new_cells, AreHeld, AreAllHeld, counts_in, fits_realm_change, fits_rec_change, fits_cells};
+ghost use Rattle.command_core.specs.Changed.{new_cells, AreHeld, AreAllHeld, fits_realm_change, fits_rec_change, fits_cells};
 ghost use Rattle.command_core.specs.Rooms.{IsRoomFor};
-ghost use Rattle.command_core.specs.Seen.{cell_of, is_held};
+ghost use Rattle.command_core.specs.Seen.{is_held};
 
-use crate::change_room::Room;
 use crate::held::Held;
-use crate::held_tables::table_changed;
 use crate::new_cells::{page_after, put, put_new, rec_after, take_changed_realm, take_realm};
 use crate::put_tables::{destroy_table, make_table, put_entries, table_at};
+use cell_changes::{Room, number_changed};
 use granule_cells::{Cell, Descriptor};
 use memory_map::Pa;
 use realm_desc::Rec;
@@ -33,7 +30,7 @@ pub(crate) fn put_cells<H: Held>(held: &mut H, change: &Change, room: Room)
         Change::Unchanged => {}
         Change::Retagged(change) => put_new(held, page_after(Some(change))),
         Change::RealmMade { rd, root, .. } => {
-            let (descriptor, table) = realm_of(room);
+            let (descriptor, table) = room.into_realm();
             put_realm(held, rd, descriptor, root, table);
         }
         Change::RealmDestroyed { rd, root } => free_realm(held, rd, root),
@@ -58,7 +55,7 @@ pub(crate) fn put_cells<H: Held>(held: &mut H, change: &Change, room: Room)
             number,
             rtt,
             ..
-        } => make_table(held, rd, level, number, rtt, table_of(room)),
+        } => make_table(held, rd, level, number, rtt, room.into_table()),
         Change::TableDestroyed {
             rd,
             level,
@@ -74,36 +71,10 @@ pub(crate) fn put_cells<H: Held>(held: &mut H, change: &Change, room: Room)
             realm,
             rec,
         } => {
-            let granule = table_at(held, rd, level, table_changed(entries));
+            let granule = table_at(held, rd, level, number_changed(&entries));
             put_entries(held, granule, entries, page, realm, rec);
         }
     }
-}
-
-// The table that the room has.
-fn table_of(room: Room) -> Table
-    requires { IsTrue (is_some room.table) }
-    ensures { room.table ≡ Some result }
-{
-    let Room {
-        descriptor: _descriptor,
-        table,
-    } = room;
-    let Some(table) = table else { unreachable!() };
-    table
-}
-
-// The descriptor and the root that the room has.
-fn realm_of(room: Room) -> (Descriptor, Table)
-    requires descriptor { IsTrue (is_some room.descriptor) }
-    requires table { IsTrue (is_some room.table) }
-    ensures descriptor { room.descriptor ≡ Some result.0 }
-    ensures table { room.table ≡ Some result.1 }
-{
-    let (Some(descriptor), Some(table)) = (room.descriptor, room.table) else {
-        unreachable!()
-    };
-    (descriptor, table)
 }
 
 fn put_realm<H: Held>(held: &mut H, rd: u64, realm: Descriptor, root: u64, table: Table)

@@ -10,13 +10,15 @@ ghost use Rattle.world_laws.specs.Replaced.{replaced_cells, replaced_all};
 ghost use Rattle.shape_laws.specs.Whole as spec_whole;
 ghost use Rattle.world_laws.specs.SeenState.{table_held, table_placed};
 ghost use Rattle.world_laws.specs.TableCells.{tag_cells, realm_cells, rec_cells, entry_cells, table_cells};
-ghost use Rattle.command_core.specs.Changed.{AreAllHeld, fits_realm_change, fits_rec_change, fits_page, fits_entries};
+ghost use Rattle.cell_changes.specs.Changes.{fits_entries};
+ghost use Rattle.command_core.specs.Changed.{AreAllHeld, fits_realm_change, fits_rec_change, fits_page};
 ghost use Rattle.command_core.specs.Seen.{is_held, known_cell};
 
 use crate::held::Held;
 use crate::held_tables::{placed, table_in};
 use crate::misfits::table_size;
 use crate::new_cells::{page_after, put, put_new, rec_after, take_changed_realm};
+use cell_changes::change_table;
 use granule_cells::Cell;
 use memory_map::Pa;
 use rmm_spec::{Entry, EntryChange, Place, RealmChange, RecChange, TagChange};
@@ -47,23 +49,6 @@ fn take_table<H: Held>(held: &mut H, granule: u64) -> Table
     table
 }
 
-// Changes the entries of a table.
-fn change_entries(table: &mut Table, change: EntryChange)
-    requires { IsTrue (fits_entries change) }
-    ensures { table.new ≡ record table.old { entries = spec_whole.entries_changed change table.old.entries } }
-{
-    match change {
-        EntryChange::Replaced { number, entry } => {
-            table.set_entry((number % 512) as usize, entry);
-        }
-        EntryChange::RipasSet { first, last, ripas } => {
-            let from = (first % 512) as usize;
-            let to = (last - first / 512 * 512) as usize;
-            table.set_ripas(from, to, ripas);
-        }
-    }
-}
-
 // Changes the entries of a table that is held.
 fn set_entries<H: Held>(held: &mut H, granule: u64, change: EntryChange)
     requires table { IsTrue (is_some (table_held (H.cells held.old) granule)) }
@@ -73,7 +58,7 @@ fn set_entries<H: Held>(held: &mut H, granule: u64, change: EntryChange)
     ensures kept { (g : ℕ) → is_held g (H.cells held.new) ≡ is_held g (H.cells held.old) }
 {
     let mut table = take_table(held, granule);
-    change_entries(&mut table, change);
+    change_table(&mut table, change);
     put(held, granule, Cell::Rtt(table));
 }
 
@@ -102,7 +87,7 @@ pub(crate) fn put_entries<H: Held>(
     let new_rec = rec_after(held, rec);
     let new_realm = take_changed_realm(held, realm);
     let mut table = take_table(held, granule);
-    change_entries(&mut table, entries);
+    change_table(&mut table, entries);
     put_new(held, new_page);
     put_new(held, new_realm);
     put_new(held, new_rec);

@@ -36,8 +36,7 @@ fn are_bad_auxes<H: Held>(config: &Config, rec: &Rec, held: &H) -> bool
     ensures { result ≡ spec.are_bad_auxes config.now rec.now (H.cells held.now) }
 {
     is_bad_aux(config, rec.aux0, held)
-        || (is_held(held, rec.aux0)
-            && (rec.aux0.address() == rec.aux1.address() || is_bad_aux(config, rec.aux1, held)))
+        || (is_held(held, rec.aux0) && is_bad_aux(config, rec.aux1, held))
 }
 
 // A REC that runs isn't destroyed, whatever its parts are.

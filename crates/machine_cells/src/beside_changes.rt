@@ -7,15 +7,67 @@ ghost use Rattle.granule_cells.specs.Sides.{side_of};
 ghost use Rattle.machine_cells.specs.Whole.{cells_of, places_of};
 
 use crate::cell_list::CellList;
+use crate::granules::Granules;
 use crate::places::Places;
 use granule_cells::{CpuPlace, Side};
 use memory_map::Pa;
 use realm_desc::Rec;
-use rmm_spec::{RecChange, RecUpdate};
+use rmm_spec::{Change, RecChange, RecUpdate};
 
-/// The VMID of the realm that is there is free.
+impl Granules {
+    ghost use Rattle.std.specs.Prelude.{◌≡◌, ◌+◌, IsTrue};
+    ghost use Rattle.rmm_spec.specs.declared.tag.Tag.TheVariants.{Rd};
+    ghost use Rattle.rmm_spec.specs.Lookup.{has_tag};
+    ghost use Rattle.rmm_spec.specs.Applicable.{CanApply};
+    ghost use Rattle.shape_laws.specs.Whole.{places_changed, side_changed};
+    ghost use Rattle.granule_cells.specs.Sides.{side_of, with_count};
+    ghost use Rattle.machine_cells.specs.Whole.{cells_of, places_of, state_in, IsShapedIn};
+
+    /// Makes what a change makes of the VMIDs, of the counts and of the CPUs' places, and keeps where a table is made.
+    #[inline(always)]
+    #[tactic(auto, unfolding(shape_laws::specs::Whole::side_changed, shape_laws::specs::Whole::places_changed))]
+    pub(crate) fn change_beside(&mut self, change: &Change)
+        requires shaped { IsShapedIn self.old }
+        requires can { CanApply (state_in self.old) change.now }
+        ensures list { self.new.list ≡ self.old.list }
+        ensures side { side_of self.new.side ≡ side_changed (cells_of self.old.list) (side_of self.old.side) change.now }
+        ensures places { places_of self.new.places ≡ places_changed (cells_of self.old.list) (places_of self.old.places) change.now }
+    {
+        match *change {
+            Change::RealmMade { rd, vmid, .. } => self.side.set_vmid(vmid, Some(Pa::new(rd))),
+            Change::RealmDestroyed { rd, .. } => free_vmid(&self.list, &mut self.side, rd),
+            Change::RecMade { rd, .. } => self.count_rec(rd),
+            Change::RecDestroyed { rec, .. } => uncount_rec(&self.list, &mut self.side, rec),
+            Change::RecordsChanged { rec, .. } | Change::EntriesChanged { rec, .. } => {
+                change_places(&self.list, &mut self.places, rec);
+            }
+            Change::TableMade {
+                rd,
+                level,
+                number,
+                rtt,
+                ..
+            } => self.near.keep(rd, level, number, Some(rtt)),
+            Change::Unchanged | Change::Retagged(_) | Change::TableDestroyed { .. } => {}
+        }
+    }
+
+    // The realm has one REC more.
+    fn count_rec(&mut self, rd: u64)
+        requires shaped { IsShapedIn self.old }
+        requires realm { IsTrue (has_tag (state_in self.old) rd Rd) }
+        ensures list { self.new.list ≡ self.old.list }
+        ensures side { side_of self.new.side ≡ with_count (side_of self.old.side) rd ((side_of self.old.side).rec_counts rd + 1) }
+        ensures places { self.new.places ≡ self.old.places }
+    {
+        let _fact = self.list.config.granules();
+        self.side.count_rec(Pa::new(rd));
+    }
+}
+
+// The VMID of the realm that is there is free.
 #[tactic(auto, unfolding(realm_desc::specs::View::realm_record))]
-pub(crate) fn free_vmid(list: &CellList, side: &mut Side, rd: u64)
+fn free_vmid(list: &CellList, side: &mut Side, rd: u64)
     ensures { side_of side.new ≡ whole.side_without_vmid (side_of side.old) (cells_of list.now rd) }
 {
     if let Some(realm) = list.realm_in(rd) {
@@ -23,9 +75,9 @@ pub(crate) fn free_vmid(list: &CellList, side: &mut Side, rd: u64)
     }
 }
 
-/// The realm of the REC that is there has one REC less.
+// The realm of the REC that is there has one REC less.
 #[tactic(auto, unfolding(realm_desc::specs::View::rec_record))]
-pub(crate) fn uncount_rec(list: &CellList, side: &mut Side, rec: u64)
+fn uncount_rec(list: &CellList, side: &mut Side, rec: u64)
     ensures { side_of side.new ≡ whole.side_without_rec (side_of side.old) (cells_of list.now rec) }
 {
     if let Some(rec) = list.rec_in(rec) {

@@ -78,7 +78,7 @@ impl CellList {
 
     // The place of the granule, which it gets where it has none.
     #[inline(always)]
-    fn made_place(&mut self, granule: u64) -> usize
+    pub(crate) fn made_place(&mut self, granule: u64) -> usize
         requires { IsTrue (is_granule self.old.config.granules granule) }
         ensures size { self.new.config ≡ self.old.config }
         ensures cells { cells_of self.new ≡ cells_of self.old }
@@ -215,16 +215,6 @@ impl CellList {
     {
         let place = self.made_place(granule);
         self.cells.put(place, slot);
-    }
-
-    /// Puts a REC there.
-    pub(crate) fn put_rec(&mut self, granule: u64, rec: Rec)
-        requires { IsTrue (is_granule self.old.config.granules granule) }
-        ensures size { self.new.config ≡ self.old.config }
-        ensures cells { cells_of self.new ≡ put (cells_of self.old) granule (spec.Rec rec) }
-    {
-        let place = self.made_place(granule);
-        self.cells.put_rec(place, rec);
     }
 }
 

@@ -9,7 +9,6 @@ mod beside;
 mod beside_changes;
 mod cell_list;
 mod change;
-mod changing;
 mod copies;
 mod granules;
 mod keeping;

@@ -1,13 +1,9 @@
 //! What a change makes of the cell at a place.
 
-ghost use Rattle.std.specs.Prelude.{◌≡◌, IsTrue};
-ghost use Rattle.shape_laws.specs.Whole as whole;
-ghost use Rattle.machine_cells.specs.Changes.{fits_entries};
-
 use crate::slot::Slot;
 use crate::slot_list::SlotList;
+use cell_changes::change_table;
 use rmm_spec::{EntryChange, RealmUpdate, RecUpdate};
-use rtt_table::Table;
 
 impl SlotList {
     ghost use Rattle.std.specs.Prelude.{◌≡◌, ◌<◌, ◌==◌, ◌&&◌, nat_lt, length, Some, IsTrue};
@@ -17,7 +13,7 @@ impl SlotList {
     ghost use Rattle.rmm_spec.specs.State.{RealmRecord, RecRecord};
     ghost use Rattle.realm_desc.specs.Updates.{IsRecUpdate};
     ghost use Rattle.shape_laws.specs.Whole.{cell_with_realm, cell_with_rec, cell_with_entries, entries_changed};
-    ghost use Rattle.machine_cells.specs.Changes.{fits_entries};
+    ghost use Rattle.cell_changes.specs.Changes.{fits_entries};
     ghost use Rattle.machine_cells.specs.Held.{cell_at, changed_in};
 
     /// Updates the realm that is there.
@@ -72,22 +68,5 @@ impl SlotList {
             return;
         };
         change_table(table, change);
-    }
-}
-
-// Changes the entries of a table.
-fn change_table(table: &mut Table, change: EntryChange)
-    requires { IsTrue (fits_entries change) }
-    ensures { table.new ≡ record table.old { entries = whole.entries_changed change table.old.entries } }
-{
-    match change {
-        EntryChange::Replaced { number, entry } => {
-            table.set_entry((number % 512) as usize, entry);
-        }
-        EntryChange::RipasSet { first, last, ripas } => {
-            let from = (first % 512) as usize;
-            let to = (last - first / 512 * 512) as usize;
-            table.set_ripas(from, to, ripas);
-        }
     }
 }

@@ -252,9 +252,9 @@ fn first_address(level: u8, number: u64) -> Option<u64>
     number.checked_mul(table_size(level))
 }
 
-/// How many bytes a table covers.
+// How many bytes a table covers.
 #[tactic(auto, unfolding(rmm_spec::specs::Walk::table_size))]
-pub(crate) fn table_size(level: u8) -> u64
+fn table_size(level: u8) -> u64
     ensures { result ≡ spec.table_size level }
 {
     1 << (12 + 9 * 4u64.saturating_sub(u64::from(level)))

@@ -1,6 +1,6 @@
 //! A REC, one virtual CPU of a realm.
 
-ghost use Rattle.std.specs.Prelude.{◌≡◌, ◌&&◌, is_none};
+ghost use Rattle.std.specs.Prelude.{◌≡◌, ◌==◌, ◌&&◌, false, is_none};
 ghost use Rattle.rmm_spec.specs.Change.{new_rec};
 ghost use Rattle.realm_desc.specs.View.{pending_of};
 
@@ -26,6 +26,7 @@ pub struct Rec {
 }
 
 impl Model for Rec {
+    ghost use Rattle.std.specs.Prelude.{◌≡◌, ◌==◌, false};
     ghost use Rattle.rmm_spec.specs.State.{RecRecord};
 
     ghost Value = { RecRecord };
@@ -33,6 +34,9 @@ impl Model for Rec {
     ghost use Rattle.realm_desc.specs.View.{rec_record, rec_fields, rec_fields-rec_record};
 
     ghost view = { rec_record };
+
+    // its two auxiliary granules are two
+    ghost invariant = { λ r. (r.aux0 == r.aux1) ≡ false };
 
     ghost inverse = { rec_fields };
 
@@ -43,6 +47,7 @@ impl Model for Rec {
 impl Rec {
     /// A REC that was just made: it runs on no CPU, and asks for nothing. It may run where the flags are 1.
     pub fn new(owner: Pa, index: u8, flags: u64, aux0: Pa, aux1: Pa) -> Self
+        requires two { (aux0 == aux1) ≡ false }
         ensures { result ≡ new_rec owner index flags aux0 aux1 }
     {
         Rec {

@@ -1,6 +1,8 @@
 //! What a CPU does next on a quiet machine of 32 granules: two realms with a REC each, at 1000 with its REC above it, and at
 //! 9000 with its REC below it, and from 10000 on one with tables. Each line is a command and what its CPU does until it is ready.
 
+ghost use Rattle.std.specs.Prelude.{◌≡◌, ◌==◌, false};
+
 use crate::tables;
 use command_core::{Cell, CpuPlace, Descriptor, Held, HeldPairs, Next, next_lock};
 use memory_map::{Config, Pa};
@@ -79,7 +81,9 @@ pub(crate) fn realm(alloc: Global, root: u64, vmid: u8) -> Result<Cell, AllocErr
     Ok(Cell::Rd(Descriptor::new(alloc, realm)?))
 }
 
-pub(crate) fn rec(owner: u64, aux0: u64, aux1: u64) -> Cell {
+pub(crate) fn rec(owner: u64, aux0: u64, aux1: u64) -> Cell
+    requires { (aux0 == aux1) ≡ false }
+{
     Cell::Rec(Rec::new(Pa::new(owner), 0, 1, Pa::new(aux0), Pa::new(aux1)))
 }
 

@@ -27,7 +27,6 @@ const AUXES: &str = "\
 c400015b 3000 | rec_without_first_aux
 c400015b 3000 | rec_in_its_first_aux
 c400015b 3000 | rec lent_first_aux
-c400015b 3000 | rec_with_one_aux first_aux
 c400015b 3000 | rec_without_second_aux first_aux
 c400015b 3000 | rec_in_its_second_aux first_aux
 c400015b 3000 | rec first_aux data_second_aux
@@ -40,7 +39,6 @@ c400015c 3000 | rec_in_its_realm
 
 // The second part is looked at once the first is held.
 const NOT_YET: &str = "\
-c400015b 3000 | rec_with_one_aux
 c400015b 3000 | rec_without_second_aux
 c400015b 3000 | rec_in_its_second_aux
 c4000159 1000 | realm
@@ -100,7 +98,6 @@ fn named_rec(name: &str) -> Result<(u64, Cell), Fail> {
         "rec" => (0x3000, rec(0x1000, 0x4000, 0x5000)),
         "rec_without_first_aux" => (0x3000, rec(0x1000, 0x1_0000, 0x5000)),
         "rec_in_its_first_aux" => (0x3000, rec(0x1000, 0x3000, 0x5000)),
-        "rec_with_one_aux" => (0x3000, rec(0x1000, 0x4000, 0x4000)),
         "rec_without_second_aux" => (0x3000, rec(0x1000, 0x4000, 0x5800)),
         "rec_in_its_second_aux" => (0x3000, rec(0x1000, 0x4000, 0x3000)),
         "rec_without_realm" => (0x3000, rec(0x1_0000, 0x4000, 0x5000)),

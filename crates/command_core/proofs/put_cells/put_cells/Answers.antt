@@ -12,7 +12,7 @@ table_at-granule-requires g c =
     let e = c.in-EntriesChanged in
     let old = g.H.Held.cells c.args.held.now in
     let fits = entries-fit old e.rd e.level e.entries e.page e.realm e.rec (subst (λ change. IsTrue (fits_cells old change)) e.is c.requires.fits) in
-    rw c.table_changed.ensures fits.0
+    rw c.number_changed.ensures fits.0
 
 pub put_entries-requires-clause-rec : goal.put_entries-requires-clause-rec
 put_entries-requires-clause-rec g c =

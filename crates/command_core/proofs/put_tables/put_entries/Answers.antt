@@ -17,6 +17,6 @@ returns g c =
     c.take_changed_realm-new_realm.ensures.new in
     let three = c.put_new-3.ensures.cells ∙ (λ i. replaced_all (two i) (c.rec_after-new_rec.ensures i)) in
     c.put.ensures.cells
-    ∙ (ap (λ now. replaced_cells now a.granule (Rtt c.change_entries.new.table)) three
-    ∙ table-last old (tag_cells old a.page) (realm_cells old a.realm) (rec_cells old a.rec) a.granule taken.result c.change_entries.new.table
-    (entries_changed a.entries) (sym (c.take_changed_realm-new_realm.ensures.tables a.granule) ∙ taken.ensures.table) c.change_entries.ensures)
+    ∙ (ap (λ now. replaced_cells now a.granule (Rtt c.change_table.new.table)) three
+    ∙ table-last old (tag_cells old a.page) (realm_cells old a.realm) (rec_cells old a.rec) a.granule taken.result c.change_table.new.table
+    (entries_changed a.entries) (sym (c.take_changed_realm-new_realm.ensures.tables a.granule) ∙ taken.ensures.table) c.change_table.ensures)

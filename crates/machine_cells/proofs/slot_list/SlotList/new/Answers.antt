@@ -1,6 +1,5 @@
 use Rattle.machine_cells.proofs.Common.{◌++◌, ◌∙◌, ◌≡◌, AreHoused, List, Slot, [], ap, arith, replicate, sym}
 use Rattle.std.proofs.Common.{subst₂}
-use Rattle.rmm_spec.specs.Cell as spec
 use Rattle.machine_cells.specs.declared.slot.Slot.TheVariants.{Undelegated}
 use Rattle.machine_cells.specs.Held.{cells_held}
 use Rattle.machine_cells.proofs.Slots.{held-more, housed-more, housed-none}

@@ -1,0 +1,107 @@
+-- What a change makes of cells where the table whose entries it changes was found, and what it requires of them.
+use Rattle.std.specs.Prelude.{◌≡◌, ℕ, ◌+◌, ◌-◌, ◌*◌, ◌/◌, ◌%◌, ◌^◌, Bool, true, false, ◌&&◌, ◌==◌, nat_lt, nat_le, IsTrue, List, [], ◌∷◌, Option, Some, None, IfSome, slice_set}
+use Rattle.std.specs.List.{AllByRecursion}
+use Rattle.rmm_spec.specs.declared.change.Change.{Change}
+use Rattle.rmm_spec.specs.declared.change.Change.TheVariants.{Unchanged, Retagged, RealmMade, RealmDestroyed, RecMade, RecDestroyed, RecordsChanged, TableMade, TableDestroyed, EntriesChanged}
+use Rattle.rmm_spec.specs.declared.change.EntryChange.{EntryChange}
+use Rattle.rmm_spec.specs.declared.change.EntryChange.TheVariants.{Replaced, RipasSet}
+use Rattle.rmm_spec.specs.declared.change.RealmChange.{RealmChange}
+use Rattle.rmm_spec.specs.declared.change.RealmUpdate.TheVariants.{RecCounted}
+use Rattle.rmm_spec.specs.declared.change.RecChange.{RecChange}
+use Rattle.rmm_spec.specs.declared.change.TagChange.{TagChange}
+use Rattle.rmm_spec.specs.declared.tag.Tag.{Tag}
+use Rattle.rmm_spec.specs.declared.tag.Tag.TheVariants as tag
+use Rattle.rmm_spec.specs.Applicable.{IsRealmUpdate}
+use Rattle.rmm_spec.specs.Cell.{Cell, Delegated, Rd, Rec, RecAux, Rtt, put, realms_of, recs_of}
+use Rattle.rmm_spec.specs.Change.{new_realm, new_rec}
+use Rattle.rmm_spec.specs.Lookup.{is_hash}
+use Rattle.rmm_spec.specs.State.{RealmRecord, RecRecord}
+use Rattle.rmm_spec.specs.Step.Terms.{is_space}
+use Rattle.rmm_spec.specs.Walk.{table_size}
+use Rattle.realm_desc.specs.Updates.{IsRecUpdate}
+use Rattle.shape_laws.specs.Whole.{changed_at, cell_with_realm, root_table, table_changed, entries_changed, cells_with_entries, cells_with_table, cells_with_tag_change, cells_with_realm_change, cells_with_rec_change}
+
+-- ---- what becomes of cells
+
+-- the granule of the table whose entries are changed, by who finds a realm's table of a level and number
+abbrev pub table_found : (ℕ → ℕ → ℕ → Option ℕ) → Change → Option ℕ
+table_found find (TableMade rd level number rtt entry) = find rd (level - 1) (number / 512)
+table_found find (TableDestroyed rd level number rtt entry) = find rd (level - 1) (number / 512)
+table_found find (EntriesChanged rd level entries page realm rec) = find rd level (table_changed entries)
+table_found find _ = None
+
+-- the change that laws speak of, where that table lies at an address
+unfoldable pub cells_made : (ℕ → Cell) → Option ℕ → Change → ℕ → Cell
+cells_made cells at Unchanged = cells
+cells_made cells at (Retagged change) = cells_with_tag_change cells (Some change)
+cells_made cells at (RealmMade rd root width level vmid algo) =
+    put (put cells rd (Rd (new_realm root width level vmid algo))) root (Rtt (root_table rd width level))
+cells_made cells at (RealmDestroyed rd root) = put (put cells rd Delegated) root Delegated
+cells_made cells at (RecMade rd rec mpidr flags aux0 aux1) =
+    changed_at (put (put (put cells rec (Rec (new_rec rd mpidr flags aux0 aux1))) aux0 RecAux) aux1 RecAux) rd
+    (cell_with_realm (RecCounted mpidr flags))
+cells_made cells at (RecDestroyed rec aux0 aux1) = put (put (put cells rec Delegated) aux0 Delegated) aux1 Delegated
+cells_made cells at (RecordsChanged realm rec) = cells_with_rec_change (cells_with_realm_change cells realm) rec
+cells_made cells at (TableMade rd level number rtt entry) = cells_with_table cells rd level number rtt entry at
+cells_made cells at (TableDestroyed rd level number rtt entry) =
+    put (cells_with_entries cells (λ entries. slice_set entries (number % 512) entry) at) rtt Delegated
+cells_made cells at (EntriesChanged rd level entries page realm rec) =
+    cells_with_entries (cells_with_rec_change (cells_with_realm_change (cells_with_tag_change cells page) realm) rec) (entries_changed entries) at
+
+-- ---- what is required
+
+-- a granule that holds nothing
+abbrev pub is_plain : Tag → Bool
+is_plain tag.Rd = false
+is_plain tag.Rec = false
+is_plain tag.Rtt = false
+is_plain _ = true
+
+-- the entries of a stretch are those of one table
+abbrev pub fits_entries : EntryChange → Bool
+fits_entries (Replaced number entry) = true
+fits_entries (RipasSet first last ripas) = nat_lt first last && nat_le last ((first / 512 + 1) * 512)
+
+-- the REC that is there takes the update
+abbrev pub CanUpdate : (ℕ → Cell) → RecChange → Type 0
+CanUpdate cells change = (rec : RecRecord) → recs_of cells change.rec ≡ Some rec → IsRecUpdate rec change.update
+
+-- the next REC of the realm that is there has the index
+abbrev pub TakesIndex : (ℕ → Cell) → ℕ → ℕ → Type 0
+TakesIndex cells rd index = (realm : RealmRecord) → realms_of cells rd ≡ Some realm → IsTrue (index == realm.next_index && nat_lt index 8)
+
+-- a page's tag, a realm and a REC that go with changed entries
+pub record FitParts (cells : ℕ → Cell) (page : Option TagChange) (realm : Option RealmChange) (rec : Option RecChange) : Type 0 where
+  pub plain : IfSome page (λ c. IsTrue (is_plain c.tag))
+  pub of_realm : IfSome realm (λ c. IsRealmUpdate c.update)
+  pub of_rec : IfSome rec (CanUpdate cells)
+
+-- a change fits the cells that it finds
+abbrev pub FitsCells : (ℕ → Cell) → Change → Type 0
+FitsCells cells (Retagged change) = IsTrue (is_plain change.tag)
+FitsCells cells (RealmMade rd root width level vmid algo) = IsTrue (is_space width level && is_hash algo)
+FitsCells cells (RecMade rd rec mpidr flags aux0 aux1) = TakesIndex cells rd mpidr × ((aux0 == aux1) ≡ false)
+FitsCells cells (RecordsChanged realm rec) = FitParts cells None realm rec
+FitsCells cells (TableMade rd level number rtt entry) = IsTrue (nat_lt (number * table_size level) (2 ^ 64))
+FitsCells cells (EntriesChanged rd level entries page realm rec) = FitParts cells page realm rec × IsTrue (fits_entries entries)
+FitsCells cells _ = Unit {0}
+
+-- the granules in which a change puts another cell
+abbrev pub page_put : Option TagChange → List ℕ
+page_put None = []
+page_put (Some change) = change.granule ∷ []
+
+abbrev pub granules_put : Change → List ℕ
+granules_put (Retagged change) = change.granule ∷ []
+granules_put (RealmMade rd root width level vmid algo) = rd ∷ root ∷ []
+granules_put (RealmDestroyed rd root) = rd ∷ root ∷ []
+granules_put (RecMade rd rec mpidr flags aux0 aux1) = rec ∷ aux0 ∷ aux1 ∷ []
+granules_put (RecDestroyed rec aux0 aux1) = rec ∷ aux0 ∷ aux1 ∷ []
+granules_put (TableMade rd level number rtt entry) = rtt ∷ []
+granules_put (TableDestroyed rd level number rtt entry) = rtt ∷ []
+granules_put (EntriesChanged rd level entries page realm rec) = page_put page
+granules_put _ = []
+
+-- each of them is one that can be put in
+abbrev pub CanPutAll : (ℕ → Bool) → Change → Type 0
+CanPutAll has change = AllByRecursion (λ g. IsTrue (has g)) (granules_put change)

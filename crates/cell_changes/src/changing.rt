@@ -1,0 +1,201 @@
+//! What a change makes of cells, one function a kind of change.
+
+ghost use Rattle.std.specs.Prelude.{◌≡◌, ◌*◌, IsTrue, None, Some, IfSome, replicate};
+ghost use Rattle.rmm_spec.specs.declared.entry.Entry as entries;
+ghost use Rattle.rmm_spec.specs.declared.change.RealmUpdate.TheVariants.{RecCounted};
+ghost use Rattle.rmm_spec.specs.Applicable.{IsRealmUpdate};
+ghost use Rattle.rmm_spec.specs.Cell as whole;
+ghost use Rattle.rmm_spec.specs.Cell.{put};
+ghost use Rattle.rmm_spec.specs.Walk as walk;
+ghost use Rattle.shape_laws.specs.Whole.{changed_at, cell_with_realm, cells_with_tag_change, cells_with_realm_change, cells_with_rec_change, cells_with_entries, cells_with_table, entries_changed};
+ghost use Rattle.cell_changes.specs.Changes.{fits_entries, is_plain, CanUpdate, FitParts, TakesIndex};
+
+use crate::cell_store::CellStore;
+use granule_cells::Descriptor;
+use realm_desc::Rec;
+use rmm_spec::{Entry, EntryChange, Place, RealmChange, RecChange, Tag, TagChange};
+use rtt_table::Table;
+
+pub(crate) fn put_realm<S: CellStore>(
+    store: &mut S,
+    rd: u64,
+    realm: Descriptor,
+    root: u64,
+    table: Table,
+)
+    requires rd { IsTrue (S.has (S.kept store.old) rd) }
+    requires root { IsTrue (S.has (S.kept store.old) root) }
+    ensures kept { S.kept store.new ≡ S.kept store.old }
+    ensures cells { S.cells_in store.new ≡ put (put (S.cells_in store.old) rd (whole.Rd realm)) root (whole.Rtt table) }
+{
+    store.put_realm(rd, realm);
+    store.put_table(root, table);
+}
+
+pub(crate) fn free_realm<S: CellStore>(store: &mut S, rd: u64, root: u64)
+    requires rd { IsTrue (S.has (S.kept store.old) rd) }
+    requires root { IsTrue (S.has (S.kept store.old) root) }
+    ensures kept { S.kept store.new ≡ S.kept store.old }
+    ensures cells { S.cells_in store.new ≡ put (put (S.cells_in store.old) rd whole.Delegated) root whole.Delegated }
+{
+    store.put_tag(rd, Tag::Delegated);
+    store.put_tag(root, Tag::Delegated);
+}
+
+/// The REC is put in with its two others, and its realm counts it.
+#[tactic(auto, unfolding(realm_desc::specs::View::rec_record))]
+pub(crate) fn make_rec<S: CellStore>(store: &mut S, rec: u64, made: Rec, flags: u64)
+    requires rec { IsTrue (S.has (S.kept store.old) rec) }
+    requires aux0 { IsTrue (S.has (S.kept store.old) made.aux0) }
+    requires aux1 { IsTrue (S.has (S.kept store.old) made.aux1) }
+    requires index { TakesIndex (S.cells_in store.old) made.owner made.index }
+    ensures kept { S.kept store.new ≡ S.kept store.old }
+    ensures cells { S.cells_in store.new
+        ≡ changed_at (put (put (put (S.cells_in store.old) rec (whole.Rec made)) made.aux0 whole.RecAux) made.aux1 whole.RecAux) made.owner
+        (cell_with_realm (RecCounted made.index flags)) }
+{
+    store.put_rec(rec, made);
+    store.put_tag(made.aux0.address(), Tag::RecAux);
+    store.put_tag(made.aux1.address(), Tag::RecAux);
+    store.count_rec(made.owner.address(), made.index, flags);
+}
+
+pub(crate) fn free_rec<S: CellStore>(store: &mut S, rec: u64, aux0: u64, aux1: u64)
+    requires rec { IsTrue (S.has (S.kept store.old) rec) }
+    requires aux0 { IsTrue (S.has (S.kept store.old) aux0) }
+    requires aux1 { IsTrue (S.has (S.kept store.old) aux1) }
+    ensures kept { S.kept store.new ≡ S.kept store.old }
+    ensures cells { S.cells_in store.new
+        ≡ put (put (put (S.cells_in store.old) rec whole.Delegated) aux0 whole.Delegated) aux1 whole.Delegated }
+{
+    store.put_tag(rec, Tag::Delegated);
+    store.put_tag(aux0, Tag::Delegated);
+    store.put_tag(aux1, Tag::Delegated);
+}
+
+// Gives a page's granule another tag, if a page goes with a change.
+#[inline(always)]
+fn change_tag<S: CellStore>(store: &mut S, change: Option<TagChange>)
+    requires granule { IfSome change (λ c. IsTrue (S.has (S.kept store.old) c.granule)) }
+    requires plain { IfSome change (λ c. IsTrue (is_plain c.tag)) }
+    ensures kept { S.kept store.new ≡ S.kept store.old }
+    ensures cells { S.cells_in store.new ≡ cells_with_tag_change (S.cells_in store.old) change }
+{
+    if let Some(TagChange { granule, tag }) = change {
+        store.put_tag(granule, tag);
+    }
+}
+
+// Updates a realm, if one is updated.
+#[inline(always)]
+fn change_realm<S: CellStore>(store: &mut S, change: Option<RealmChange>)
+    requires { IfSome change (λ c. IsRealmUpdate c.update) }
+    ensures kept { S.kept store.new ≡ S.kept store.old }
+    ensures cells { S.cells_in store.new ≡ cells_with_realm_change (S.cells_in store.old) change }
+{
+    if let Some(RealmChange { rd, update }) = change {
+        store.update_realm(rd, update);
+    }
+}
+
+// Updates a REC, if one is updated.
+#[inline(always)]
+fn change_rec<S: CellStore>(store: &mut S, change: Option<RecChange>)
+    requires { IfSome change (CanUpdate (S.cells_in store.old)) }
+    ensures kept { S.kept store.new ≡ S.kept store.old }
+    ensures cells { S.cells_in store.new ≡ cells_with_rec_change (S.cells_in store.old) change }
+{
+    if let Some(RecChange { rec, update }) = change {
+        store.update_rec(rec, update);
+    }
+}
+
+/// Updates a realm and a REC.
+#[inline(always)]
+pub fn change_records<S: CellStore>(
+    store: &mut S,
+    realm: Option<RealmChange>,
+    rec: Option<RecChange>,
+)
+    requires { FitParts (S.cells_in store.old) None realm rec }
+    ensures kept { S.kept store.new ≡ S.kept store.old }
+    ensures cells { S.cells_in store.new ≡ cells_with_rec_change (cells_with_realm_change (S.cells_in store.old) realm) rec }
+{
+    change_realm(store, realm);
+    change_rec(store, rec);
+}
+
+/// Puts in a new table, of the width of the one above, which gets a link to it.
+pub(crate) fn make_table<S: CellStore>(
+    store: &mut S,
+    above: u64,
+    place: Place,
+    number: u64,
+    rtt: u64,
+    table: Table,
+)
+    requires rtt { IsTrue (S.has (S.kept store.old) rtt) }
+    requires base { place.base ≡ number * walk.table_size place.level }
+    ensures kept { S.kept store.new ≡ S.kept store.old }
+    ensures cells { (entry : entries.Entry) → table.entries ≡ replicate 512 entry
+        → S.cells_in store.new ≡ cells_with_table (S.cells_in store.old) place.rd place.level number rtt entry (Some above) }
+{
+    let width = store.width_at(above);
+    let mut table = table;
+    table.set_place(Place { width, ..place });
+    let entry = Entry::Table(rtt);
+    store.change_entries(above, &EntryChange::Replaced { number, entry });
+    store.put_table(rtt, table);
+}
+
+/// Changes the entries of a table, with a page, a realm and a REC.
+#[inline(always)]
+pub(crate) fn change_entries<S: CellStore>(
+    store: &mut S,
+    at: Option<u64>,
+    entries: &EntryChange,
+    page: Option<TagChange>,
+    realm: Option<RealmChange>,
+    rec: Option<RecChange>,
+)
+    requires page { IfSome page (λ c. IsTrue (S.has (S.kept store.old) c.granule)) }
+    requires parts { FitParts (S.cells_in store.old) page realm rec }
+    requires entries { IsTrue (fits_entries entries.now) }
+    ensures kept { S.kept store.new ≡ S.kept store.old }
+    ensures cells { S.cells_in store.new
+        ≡ cells_with_entries (cells_with_rec_change (cells_with_realm_change (cells_with_tag_change (S.cells_in store.old) page) realm) rec)
+        (entries_changed entries.now) at }
+{
+    change_tag(store, page);
+    change_realm(store, realm);
+    change_rec(store, rec);
+    change_entries_at(store, at, entries);
+}
+
+// Changes the entries of the table in a granule, if one is given.
+#[inline(always)]
+pub(crate) fn change_entries_at<S: CellStore>(store: &mut S, at: Option<u64>, change: &EntryChange)
+    requires { IsTrue (fits_entries change.now) }
+    ensures kept { S.kept store.new ≡ S.kept store.old }
+    ensures cells { S.cells_in store.new ≡ cells_with_entries (S.cells_in store.old) (entries_changed change.now) at }
+{
+    if let Some(granule) = at {
+        store.change_entries(granule, change);
+    }
+}
+
+/// Takes a table out, and puts an entry where the link to it was.
+pub(crate) fn free_table<S: CellStore>(
+    store: &mut S,
+    at: Option<u64>,
+    entry: &EntryChange,
+    rtt: u64,
+)
+    requires rtt { IsTrue (S.has (S.kept store.old) rtt) }
+    requires entry { IsTrue (fits_entries entry.now) }
+    ensures kept { S.kept store.new ≡ S.kept store.old }
+    ensures cells { S.cells_in store.new ≡ put (cells_with_entries (S.cells_in store.old) (entries_changed entry.now) at) rtt whole.Delegated }
+{
+    change_entries_at(store, at, entry);
+    store.put_tag(rtt, Tag::Delegated);
+}
