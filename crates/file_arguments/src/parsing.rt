@@ -7,7 +7,7 @@ ghost use Rattle.file_arguments.specs.Arguments.{AskForNothing, AsksFor, IsNoFor
 ghost use Rattle.file_arguments.specs.declared.parsing.Refusal.TheVariants.{NoMemory};
 
 use clap::error::ErrorKind;
-use clap::{Arg, ArgAction, ArgMatches, Command, Error};
+use clap::{Arg, ArgAction, ArgMatches, Command, Error, value_parser};
 use std::alloc::{AllocError, Global};
 
 /// Why arguments gave no request.
@@ -151,6 +151,19 @@ pub(crate) fn option_named<'a>(
         .long(name)
         .value_name(value)
         .help(help)
+}
+
+/// `--NAME VALUE` whose value is a number from 1 on.
+pub(crate) fn count<'a>(
+    alloc: Global,
+    name: &'a str,
+    value: &'a str,
+    most: i64,
+    help: &'a str,
+) -> Arg<'a>
+    ensures { result.global ≡ false }
+{
+    option_named(alloc, name, value, help).value_parser(value_parser!(u64).range(1..=most))
 }
 
 /// `--NAME`, which has no value.

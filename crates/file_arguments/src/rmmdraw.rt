@@ -1,7 +1,10 @@
 //! The arguments, and what they ask for.
 
+ghost use Rattle.std.specs.Prelude.{◌≡◌, false};
+
+use crate::parsing::{count, flag_named, option_named, with_argument};
 use clap::error::ErrorKind;
-use clap::{Arg, ArgAction, ArgMatches, Command, Error, value_parser};
+use clap::{Arg, ArgMatches, Command, Error, value_parser};
 use std::alloc::{AllocError, Global};
 
 static SHARING: [&str; 3] = ["none", "some", "all"];
@@ -97,44 +100,48 @@ fn request_in(matches: &ArgMatches<'_>) -> Request {
 }
 
 fn program<'a>(alloc: Global) -> Result<Command<'a>, AllocError> {
-    let version = "Version of the rules (1). Alone it prints the program's version";
     let commands = "Commands of all CPUs together, at most 499999 (100)";
-    Command::new(alloc, "rmmdraw")
-        .bin_name("rmmdraw")?
-        .disable_version_flag(true)
-        .about("Draws a scenario and prints it as a file that rmmcheck runs")
-        .arg(option(alloc, "seed", "N", "Seed of the draw (0)").value_parser(value_parser!(u64)))?
-        .arg(
-            count(alloc, "version", "1|2", 2, version)
-                .short('V')
-                .num_args(0..=1),
-        )?
-        .arg(count(alloc, "granules", "G", 4096, "Granules, at most 4096 (64)"))?
-        .arg(count(alloc, "cpus", "P", 8, "CPUs, at most 8 (4)"))?
-        .arg(count(alloc, "commands", "N", 499_999, commands))?
-        .arg(sharing(alloc))?
-        .arg(flag(alloc, "turns", "List the turns for which they were drawn"))?
-        .arg(flag(alloc, "calls", "Print lines CPU COMMAND in place of a file"))
+    let command = with_argument(unfilled(alloc), seed(alloc));
+    let command = with_argument(command, version(alloc));
+    let command = with_argument(
+        command,
+        count(alloc, "granules", "G", 4096, "Granules, at most 4096 (64)"),
+    );
+    let command = with_argument(command, count(alloc, "cpus", "P", 8, "CPUs, at most 8 (4)"));
+    let command = with_argument(command, count(alloc, "commands", "N", 499_999, commands));
+    let command = with_argument(command, sharing(alloc));
+    let turns = "List the turns for which they were drawn";
+    let command = with_argument(command, flag_named(alloc, "turns", turns));
+    let calls = "Print lines CPU COMMAND in place of a file";
+    with_argument(command, flag_named(alloc, "calls", calls))
 }
 
-fn option<'a>(alloc: Global, id: &'a str, value: &'a str, help: &'a str) -> Arg<'a> {
-    Arg::new(alloc, id).long(id).value_name(value).help(help)
+// The command line without arguments.
+fn unfilled<'a>(alloc: Global) -> Result<Command<'a>, AllocError> {
+    let about = "Draws a scenario and prints it as a file that rmmcheck runs";
+    let command = Command::new(alloc, "rmmdraw").bin_name("rmmdraw")?;
+    Ok(command.disable_version_flag(true).about(about))
 }
 
-// A number from 1 on.
-fn count<'a>(alloc: Global, id: &'a str, value: &'a str, most: i64, help: &'a str) -> Arg<'a> {
-    option(alloc, id, value, help).value_parser(value_parser!(u64).range(1..=most))
+fn seed<'a>(alloc: Global) -> Arg<'a>
+    ensures { result.global ≡ false }
+{
+    let help = "Seed of the draw (0)";
+    option_named(alloc, "seed", "N", help).value_parser(value_parser!(u64))
 }
 
-fn sharing<'a>(alloc: Global) -> Arg<'a> {
-    option(alloc, "sharing", "HOW", "Granules that CPUs share (some)").value_parser(
-        SHARING.as_slice(),
-    )
+fn version<'a>(alloc: Global) -> Arg<'a>
+    ensures { result.global ≡ false }
+{
+    let help = "Version of the rules (1). Alone it prints the program's version";
+    count(alloc, "version", "1|2", 2, help)
+        .short('V')
+        .num_args(0..=1)
 }
 
-fn flag<'a>(alloc: Global, id: &'a str, help: &'a str) -> Arg<'a> {
-    Arg::new(alloc, id)
-        .long(id)
-        .action(ArgAction::SetTrue)
-        .help(help)
+fn sharing<'a>(alloc: Global) -> Arg<'a>
+    ensures { result.global ≡ false }
+{
+    let help = "Granules that CPUs share (some)";
+    option_named(alloc, "sharing", "HOW", help).value_parser(SHARING.as_slice())
 }

@@ -1,7 +1,10 @@
 //! The arguments, and what they ask for.
 
+ghost use Rattle.std.specs.Prelude.{◌≡◌, false};
+
+use crate::parsing::{count, flag_named, option_named, path_named, with_argument};
 use clap::error::ErrorKind;
-use clap::{Arg, ArgAction, ArgMatches, Command, Error, value_parser};
+use clap::{Arg, ArgMatches, Command, Error};
 use std::alloc::{AllocError, Global};
 
 const USAGE: &str =
@@ -153,64 +156,55 @@ fn names_in<'a>(matches: &ArgMatches<'a>) -> Option<Option<Names<'a>>> {
 }
 
 fn program<'a>(alloc: Global) -> Result<Command<'a>, AllocError> {
-    let version = "Version of the history (1). Alone it prints the program's version";
+    let events = path_named(alloc, "EVENTS", "What the recorder wrote");
+    let command = with_argument(with_options(alloc), events);
+    let history = "The file that gets the calls and returns";
+    let command = with_argument(command, path_named(alloc, "HISTORY", history));
+    let certificate = "The file that gets the commits";
+    with_argument(command, path_named(alloc, "CERTIFICATE", certificate))
+}
+
+// The command line without its paths.
+fn with_options<'a>(alloc: Global) -> Result<Command<'a>, AllocError> {
+    let prefix = "Take the events before the first stamp that no event has";
+    let command = with_argument(with_sizes(alloc), flag_named(alloc, "prefix", prefix));
+    let rename = "Give each granule the number of its first appearance, times 1000 (hex)";
+    let command = with_argument(command, flag_named(alloc, "rename", rename));
+    let memory = "An address from here on, in hex, is no granule";
+    let command = with_argument(command, option_named(alloc, "memory", "BYTES", memory));
+    let map = "Write which granule got which name to FILE";
+    with_argument(command, option_named(alloc, "map", "FILE", map))
+}
+
+// The command line with the options of the machine.
+fn with_sizes<'a>(alloc: Global) -> Result<Command<'a>, AllocError> {
+    let large = "Write the history of a machine of up to 1048576 granules, which begins with rml1";
+    let command = with_argument(unfilled(alloc), version(alloc));
+    let command = with_argument(command, flag_named(alloc, "large", large));
     let granules =
         "Granules of the machine, at most 4096, or 1048576 with --large, whatever the header says";
-    let large = "Write the history of a machine of up to 1048576 granules, which begins with rml1";
+    let command = with_argument(command, count(alloc, "granules", "G", 1_048_576, granules));
     let cpus = "CPUs of the machine, at most 8, whatever the header says";
-    let rename = "Give each granule the number of its first appearance, times 1000 (hex)";
-    Command::new(alloc, "rmmmerge")
-        .bin_name("rmmmerge")?
-        .disable_version_flag(true)
-        .about("Makes a history and a certificate of what a monitor's recorder wrote")
-        .override_usage(USAGE)
-        .arg(
-            count(alloc, "version", "1|2", 2, version)
-                .short('V')
-                .num_args(0..=1),
-        )?
-        .arg(flag(alloc, "large", large))?
-        .arg(count(alloc, "granules", "G", 1_048_576, granules))?
-        .arg(count(alloc, "cpus", "P", 8, cpus))?
-        .arg(flag(
-            alloc,
-            "prefix",
-            "Take the events before the first stamp that no event has",
-        ))?
-        .arg(flag(alloc, "rename", rename))?
-        .arg(option(
-            alloc,
-            "memory",
-            "BYTES",
-            "An address from here on, in hex, is no granule",
-        ))?
-        .arg(option(
-            alloc,
-            "map",
-            "FILE",
-            "Write which granule got which name to FILE",
-        ))?
-        .arg(path(alloc, "EVENTS", "What the recorder wrote"))?
-        .arg(path(alloc, "HISTORY", "The file that gets the calls and returns"))?
-        .arg(path(alloc, "CERTIFICATE", "The file that gets the commits"))
+    with_argument(command, count(alloc, "cpus", "P", 8, cpus))
 }
 
-fn option<'a>(alloc: Global, id: &'a str, value: &'a str, help: &'a str) -> Arg<'a> {
-    Arg::new(alloc, id).long(id).value_name(value).help(help)
+// The command line without arguments.
+fn unfilled<'a>(alloc: Global) -> Result<Command<'a>, AllocError> {
+    let about = "Makes a history and a certificate of what a monitor's recorder wrote";
+    let command = Command::new(alloc, "rmmmerge").bin_name("rmmmerge")?;
+    Ok(
+        command
+            .disable_version_flag(true)
+            .about(about)
+            .override_usage(USAGE),
+    )
 }
 
-// A number from 1 on.
-fn count<'a>(alloc: Global, id: &'a str, value: &'a str, most: i64, help: &'a str) -> Arg<'a> {
-    option(alloc, id, value, help).value_parser(value_parser!(u64).range(1..=most))
-}
-
-fn flag<'a>(alloc: Global, id: &'a str, help: &'a str) -> Arg<'a> {
-    Arg::new(alloc, id)
-        .long(id)
-        .action(ArgAction::SetTrue)
-        .help(help)
-}
-
-fn path<'a>(alloc: Global, id: &'a str, help: &'a str) -> Arg<'a> {
-    Arg::new(alloc, id).help(help)
+fn version<'a>(alloc: Global) -> Arg<'a>
+    ensures { result.global ≡ false }
+{
+    let help = "Version of the history (1). Alone it prints the program's version";
+    count(alloc, "version", "1|2", 2, help)
+        .short('V')
+        .num_args(0..=1)
 }
