@@ -144,7 +144,7 @@ impl Draft {
         Ok(false)
     }
 
-    // The same, after those that share a word with it, or that share none.
+    // The same, after those that share a word with it, or that share none, the one that returns next first.
     fn place_after(
         &mut self,
         history: &History,
@@ -152,20 +152,58 @@ impl Draft {
         place: usize,
         related: bool,
     ) -> Result<bool, AllocError> {
-        for other in 0..CPUS {
-            if other == cpu || self.are_related(history, cpu, other) != related {
+        let mut last = place;
+        for _other in 0..CPUS {
+            let Some(call) = self.next_return(last) else {
+                return Ok(false);
+            };
+            last = call.returned;
+            let other = usize::from(call.cpu);
+            if call.is_placed || self.are_related(history, cpu, other) != related {
                 continue;
             }
-            if self.is_placed(other) || !self.place_call(history, other, place)? {
-                continue;
-            }
-            self.place_looks(history, place)?;
-            if self.is_placed(cpu) || self.place_call(history, cpu, place)? {
-                self.place_looks(history, place)?;
+            if self.places_both(history, other, cpu, place)? {
                 return Ok(true);
             }
         }
         Ok(false)
+    }
+
+    // The open call that returns first after the place.
+    fn next_return(&self, place: usize) -> Option<OpenCall> {
+        let mut next: Option<OpenCall> = None;
+        for open in &self.open {
+            let Some(call) = open else {
+                continue;
+            };
+            if call.returned <= place {
+                continue;
+            }
+            match next {
+                Some(first) if first.returned < call.returned => {}
+                _ => next = Some(*call),
+            }
+        }
+        next
+    }
+
+    // Puts in one CPU's call and then another's, where the machine gives them their replies.
+    fn places_both(
+        &mut self,
+        history: &History,
+        first: usize,
+        cpu: usize,
+        place: usize,
+    ) -> Result<bool, AllocError> {
+        if !self.place_call(history, first, place)? {
+            return Ok(false);
+        }
+        self.place_looks(history, place)?;
+        if !self.is_placed(cpu) && !self.place_call(history, cpu, place)? {
+            return Ok(false);
+        }
+        self.place_looks(history, place)?;
+        Ok(true)
     }
 
     // Whether the open calls of two CPUs share a word.
