@@ -1,13 +1,15 @@
 -- What a line's look-ups say of it.
-use Rattle.std.proofs.Common.{◌≡◌, ℕ, ◌<◌, ◌≤◌, Bool, true, false, List, [], ◌∷◌, ◌++◌, length, get_or, set, max, Option, Some, None, MatchBool, is_some, refl, sym, subst, arith}
+use Rattle.std.proofs.Common.{◌≡◌, ◌∙◌, ℕ, ◌<◌, ◌≤◌, Bool, true, false, List, [], ◌∷◌, ◌++◌, length, get_or, set, max, Option, Some, None, MatchBool, is_some, refl, sym, subst, arith}
 use Rattle.std.proofs.lemmas.List.{get_or_read}
 use Rattle.std.proofs.lemmas.Option.{slice_get_within}
 use Rattle.std.specs.Option.{MatchOption}
+use Rattle.std.specs.Vec.{with_item}
 use Rattle.rmm_spec.specs.declared.command.Command.{Command}
 use Rattle.rmm_spec.specs.declared.event.Event.TheVariants.{Called}
 use Rattle.rmm_spec.specs.declared.line.Line.{Line}
 use Rattle.rmm_spec.specs.declared.line.Line.TheVariants.{Keep, Unfinished}
 use Rattle.rmm_spec.specs.declared.reply.Reply.{Reply}
+use Rattle.rmm_spec.specs.declared.verdict.Reason.{Reason}
 use Rattle.rmm_spec.specs.declared.verdict.Reason.TheVariants as reason
 use Rattle.rmm_spec.specs.HistoryText.{History, IsHistory}
 use Rattle.rmm_spec.specs.State.{State}
@@ -16,10 +18,11 @@ use Rattle.rmm_spec.specs.Linearization.{IsCalled, IsReturned, IsFinished, Names
 use Rattle.rmm_spec.specs.FirstFault.{FailsBy}
 use Rattle.spec_lemmas.proofs.Places.{one_call_place, one_return_place, finished_is_known}
 use Rattle.checker.specs.Progress.{Progress}
-use Rattle.checker.specs.Replay.{IsDue, IsReplayOf, NeedsMemory, IsRefusedMemory}
+use Rattle.checker.specs.Replay.{IsDue, IsReplayOf, JudgesLine, NeedsMemory, IsRefusedMemory}
 use Rattle.checker.specs.declared.replay.Replay.{Replay}
 use Rattle.spec_lemmas.proofs.Calls.{HasOnePlaces, told_at_call}
-use Rattle.checker.proofs.Progress.{Follows, Progress-push}
+use Rattle.spec_machine.specs.View.{state_of}
+use Rattle.checker.proofs.Progress.{Follows, Progress-push, Progress-returned, flag-returned}
 use Rattle.checker.proofs.Faults.{IsRefused-from_step, not-IsTooLate-from_latest, not-IsTooLate-pending}
 
 -- a history has one place for each call and each return
@@ -132,6 +135,51 @@ IsDue-kept replay history cpu number called flag returned told is_called is_read
       progress is_returned late;
   is_given = (returned, is_returned);
 }
+
+-- what is held with a flag at the return of a call
+abbrev pub flagged : Replay → ℕ → Replay
+flagged replay returned = record replay { named = with_item replay.named returned true }
+
+-- the same line is due where the flag of its return is set before
+pub IsDue-flagged : (replay : Replay) (history : History) (cpu number called : ℕ) (flag : Bool) (returned : ℕ) (told : Reply)
+    → (command : Command) × IsCalled history.events called cpu number command → flag ≡ get_or replay.named.items called flag → flag ≡ false
+    → IsReturned history.events returned cpu number told → replay.latest ≤ returned
+    → IsDue (flagged replay returned) history (Keep cpu number) cpu called told
+IsDue-flagged replay history cpu number called flag returned told is_called is_read unset is_returned late =
+    IsDue-kept (flagged replay returned) history cpu number called flag returned told is_called
+    (is_read ∙ sym (flag-returned history.events replay.named.items returned cpu number told is_returned called cpu number is_called.0 is_called.1 flag))
+    unset is_returned late
+
+-- what is judged with the flag is judged without it
+pub JudgesLine-flagged : (why : Option Reason) (old new : Replay) (history : History) (line : Line) (returned cpu number : ℕ) (told : Reply)
+    → IsReturned history.events returned cpu number told → JudgesLine why (flagged old returned) new history line
+    → JudgesLine why old new history line
+JudgesLine-flagged why old new history line returned cpu number told is_returned judged = λ before progress.
+    judged before
+    (Progress-returned history before old.named.items old.latest (state_of old.machine) progress returned cpu number told is_returned)
+
+-- and memory that is refused with the flag is refused without it
+pub IsRefusedMemory-flagged : (old : Replay) (history : History) (line : Line) (returned cpu number : ℕ) (told : Reply)
+    → IsReturned history.events returned cpu number told → IsRefusedMemory (flagged old returned) history line → IsRefusedMemory old history line
+IsRefusedMemory-flagged old history line returned cpu number told is_returned refused =
+    let due = refused.due in
+    let same = flag-returned history.events old.named.items returned cpu number told is_returned refused.place _ _ refused.command refused.is_called false in
+    record {
+      place = refused.place;
+      command = refused.command;
+      given = refused.given;
+      is_called = refused.is_called;
+      due = record {
+        of_cpu = due.of_cpu;
+        is_called = due.is_called;
+        unset = sym same ∙ due.unset;
+        kind = due.kind;
+        in_time = λ before progress. due.in_time before
+            (Progress-returned history before old.named.items old.latest (state_of old.machine) progress returned cpu number told is_returned);
+        is_given = due.is_given;
+      };
+      needs = record { makes = refused.needs.makes; accepted = refused.needs.accepted; is_given = refused.needs.is_given };
+    }
 
 -- an unfinished line, of a pending call
 pub IsDue-unfinished : (replay : Replay) (history : History) (cpu number called : ℕ) (flag : Bool) (claimed : Reply)

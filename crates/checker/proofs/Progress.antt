@@ -6,14 +6,14 @@ use Rattle.std.proofs.lemmas.Option.{none-some, slice_get_within}
 use Rattle.std.proofs.lemmas.List.{length-set}
 use Rattle.rmm_spec.specs.declared.command.Command.{Command}
 use Rattle.rmm_spec.specs.declared.event.Event.{Event}
-use Rattle.rmm_spec.specs.declared.event.Event.TheVariants.{Called}
+use Rattle.rmm_spec.specs.declared.event.Event.TheVariants.{Called, Returned}
 use Rattle.rmm_spec.specs.declared.line.Line.{Line}
 use Rattle.rmm_spec.specs.declared.reply.Reply.{Reply}
 use Rattle.rmm_spec.specs.HistoryText.{History, IsHistory}
 use Rattle.rmm_spec.specs.State.{State, opening}
 use Rattle.rmm_spec.specs.Step.{Step}
 use Rattle.rmm_spec.specs.Run.{JournalEntry}
-use Rattle.rmm_spec.specs.Linearization.{IsCalled, ReturnsBefore, cpu_named, number_named, NamesCall, IsOfItsKind, IsNamed, IsTooLate, NamesCalls, KeepsRealTime, IsReplyOf, IsEntryOf}
+use Rattle.rmm_spec.specs.Linearization.{IsCalled, IsReturned, ReturnsBefore, cpu_named, number_named, NamesCall, IsOfItsKind, IsNamed, IsTooLate, NamesCalls, KeepsRealTime, IsReplyOf, IsEntryOf}
 use Rattle.rmm_spec.specs.FirstFault.{Passes}
 use Rattle.checker.specs.Progress.{IsCallOf, Progress}
 use Rattle.lemmas.proofs.Elements.{slice_get_push_cases, slice_get-append, slice_get-push}
@@ -133,6 +133,32 @@ same_cpu : (events : List Event) (place cpu number other_cpu other : ℕ) (comma
 same_cpu events place cpu number other_cpu other command made here there =
     let both : Some (Called cpu number command) ≡ Some (Called other_cpu other made) = sym here ∙ there in
     (cc, cc)
+
+-- a flag at the place of a return is that of no call
+pub flag-returned : (events : List Event) (named : List Bool) (returned other_cpu other : ℕ) (given : Reply) → IsReturned events returned other_cpu other given
+    → (place cpu number : ℕ) (command : Command) → IsCalled events place cpu number command → (otherwise : Bool)
+    → get_or (set named returned true) place otherwise ≡ get_or named place otherwise
+flag-returned events named returned other_cpu other given there place cpu number command is otherwise =
+    get_or-set_other named returned place true otherwise (λ same.
+    let both : Some (Called cpu number command) ≡ Some (Returned other_cpu other given) =
+    sym is ∙ (ap (λ (p : ℕ). slice_get events p) same ∙ there) in
+    cc)
+
+-- so it says nothing of the lines
+pub Progress-returned : (history : History) (lines : List Line) (named : List Bool) (latest : ℕ) (state : State)
+    → Progress history lines named latest state → (returned cpu number : ℕ) (given : Reply) → IsReturned history.events returned cpu number given
+    → Progress history lines (set named returned true) latest state
+Progress-returned history lines named latest state progress returned cpu number given there =
+    let same = flag-returned history.events named returned cpu number given there in
+    record {
+      is_history = progress.is_history;
+      passes = progress.passes;
+      counted = length-set named returned true ∙ progress.counted;
+      flagged = λ place c n command is is_set. progress.flagged place c n command is (sym (same place c n command is false) ∙ is_set);
+      unflagged = λ place c n command is unset. progress.unflagged place c n command is (sym (same place c n command is false) ∙ unset);
+      no_later = progress.no_later;
+      reached = progress.reached;
+    }
 
 module _ (history : History) (one : HasOnePlaces history.events) (lines : List Line)
     (named : List Bool) (latest : ℕ) (old : State) (line : Line) (called : ℕ) (new : State) where

@@ -21,7 +21,7 @@ use spec_machine::Machine;
 use std::alloc::{AllocError, Global};
 
 /// The lines so far, replayed: the machine after them, a flag for each event that is a call which they name,
-/// and the latest place of such a call, or 0.
+/// and the latest place of such a call, or 0. A return's flag is set too, so that the last pass over the flags seldom stops.
 #[derive(Drop)]
 pub(crate) struct Replay {
     pub(crate) machine: Machine,
@@ -82,6 +82,7 @@ impl Replay {
                 let Some(reply) = history.reply_at(returned as usize) else {
                     unreachable!()
                 };
+                self.named[returned as usize] = true;
                 self.take_reply(history, cpu, places.called, reply)
             }
             LineRef::Unfinished { cpu, reply, .. } => {

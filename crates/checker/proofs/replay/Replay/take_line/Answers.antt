@@ -3,11 +3,12 @@ use Rattle.std.proofs.Common.{sym, ◌∙◌}
 use Rattle.std.proofs.lemmas.Option.{slice_get_within}
 use Rattle.std.proofs.lemmas.Result.{IfOk-weaker, on_err_weaker}
 use Rattle.rmm_spec.specs.declared.line.Line.TheVariants.{Keep, Unfinished}
+use Rattle.rmm_spec.specs.Linearization.{IsReturned}
 use Rattle.certificate.specs.LineRef.{line_seen}
 use Rattle.spec_lemmas.proofs.Calls.{told_at_return}
 use Rattle.checker.specs.Replay.{IsDue}
 use Rattle.rmi_view.specs.Seen.{reply_seen}
-use Rattle.checker.proofs.Judging.{called_within, IsDue-kept, IsDue-unfinished, IsTooLate-from_latest, MatchOption-at_not_some, MatchOption-at_is_some, NamesCall-read}
+use Rattle.checker.proofs.Judging.{called_within, flagged, IsDue-flagged, IsDue-unfinished, IsRefusedMemory-flagged, IsTooLate-from_latest, JudgesLine-flagged, MatchOption-at_not_some, MatchOption-at_is_some, NamesCall-read}
 use Rattle.checker.proofs.replay.Replay.take_line.Goals as goal
 
 pub returns-in_default-clause-judged : goal.returns-in_default-clause-judged
@@ -73,29 +74,36 @@ take_reply-requires-in-Unfinished-clause-is_called c =
     let places = rw c.in-Unfinished.is at c.in-Some.ensures.some in
     (c.in-Unfinished.number, places.called.0, places.called.1)
 
+-- the call returned with the reply that was read
+was_returned : (c : goal.After-take_reply) → IsReturned c.args.history.now.recorded.events c.in-Some-returned.returned
+    c.in-Keep.cpu c.in-Keep.number (reply_seen c.in-Some-reply_at.reply)
+was_returned c =
+    let places = rw c.in-Keep.is at c.in-Some.ensures.some in
+    told_at_return c.args.history.now.recorded.events c.in-Some-returned.returned c.in-Keep.cpu c.in-Keep.number
+    (reply_seen c.in-Some-reply_at.reply) (rw c.in-Some-returned.is at places.returned) c.in-Some-reply_at.ensures.some
+
 -- a kept line whose call is found and in time is due
-due_kept : (c : goal.After-take_reply) → IsDue c.args.self.now c.args.history.now.recorded
+due_kept : (c : goal.After-take_reply) → IsDue (flagged c.args.self.now c.in-Some-returned.returned) c.args.history.now.recorded
     (Keep c.in-Keep.cpu c.in-Keep.number) c.in-Keep.cpu c.in-Some.places.called (reply_seen c.in-Some-reply_at.reply)
 due_kept c =
-    let history = c.args.history.now.recorded in
-    let keep = c.in-Keep in
-    let returned = c.in-Some-returned.returned in
-    let reply = reply_seen c.in-Some-reply_at.reply in
-    let places = rw keep.is at c.in-Some.ensures.some in
-    let has_returned = rw c.in-Some-returned.is at places.returned in
-    IsDue-kept c.args.self.now history keep.cpu keep.number c.in-Some.places.called c.index.result.now returned reply
-    places.called c.index.ensures c.if-index.false
-    (told_at_return history.events returned keep.cpu keep.number reply has_returned c.in-Some-reply_at.ensures.some) c.if-returned-self.false
+    let places = rw c.in-Keep.is at c.in-Some.ensures.some in
+    IsDue-flagged c.args.self.now c.args.history.now.recorded c.in-Keep.cpu c.in-Keep.number c.in-Some.places.called c.index.result.now
+    c.in-Some-returned.returned (reply_seen c.in-Some-reply_at.reply) places.called c.index.ensures c.if-index.false (was_returned c)
+    c.if-returned-self.false
 
 pub returns-in-Some-reply_at-clause-judged : goal.returns-in-Some-reply_at-clause-judged
 returns-in-Some-reply_at-clause-judged c =
+    let keep = Keep c.in-Keep.cpu c.in-Keep.number in
     IfOk-weaker c.take_reply.result _ _
-    (λ why taken. rw c.in-Keep.is (taken (Keep c.in-Keep.cpu c.in-Keep.number) (due_kept c))) c.take_reply.ensures.judged
+    (λ why taken. rw c.in-Keep.is (JudgesLine-flagged why c.args.self.now c.take_reply.new.self c.args.history.now.recorded keep
+    c.in-Some-returned.returned _ _ _ (was_returned c) (taken keep (due_kept c)))) c.take_reply.ensures.judged
 
 pub returns-in-Some-reply_at-clause-refused : goal.returns-in-Some-reply_at-clause-refused
 returns-in-Some-reply_at-clause-refused c =
+    let keep = Keep c.in-Keep.cpu c.in-Keep.number in
     on_err_weaker c.take_reply.result
-    (λ refused. rw c.in-Keep.is (refused (Keep c.in-Keep.cpu c.in-Keep.number) (due_kept c))) c.take_reply.ensures.refused
+    (λ refused. rw c.in-Keep.is (IsRefusedMemory-flagged c.args.self.now c.args.history.now.recorded keep
+    c.in-Some-returned.returned _ _ _ (was_returned c) (refused keep (due_kept c)))) c.take_reply.ensures.refused
 
 -- an unfinished line of a pending call is due
 due_unfinished : (c : goal.After-take_reply-in-Unfinished) → IsDue c.args.self.now c.args.history.now.recorded
