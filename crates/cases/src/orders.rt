@@ -2,10 +2,12 @@
 //! search over all orders, written apart, and an order's count is that of the calls that returned, with those added that have to have
 //! taken effect.
 
+ghost use Rattle.std.specs.Prelude.{⊤};
+
 use anyhow::{Context, Result, bail};
 use certificate::Certificate;
 use checker::{Verdict, judged_order, verdict_text};
-use finding::{Found, find};
+use finding::{Advance, Found, Watch, find, find_watched};
 use history::{History, HistoryFault};
 use std::alloc::{AllocError, Global};
 use std::fs;
@@ -24,14 +26,35 @@ pub(crate) fn outcome<R: Files + AllocGlobal>(rt: &R, file: &str) -> Result<Stri
     }
 }
 
+// Stops a search as soon as it is asked.
+#[derive(Drop)]
+struct Stopping;
+
+impl Watch for Stopping {
+    ghost has_stopped = { λ _. ⊤ };
+
+    fn goes_on(&mut self, _advance: Advance) -> bool {
+        false
+    }
+}
+
 // Whether a search that may make no offer gives up, as it has to.
 fn gives_up(alloc: Global, history: &History) -> Result<bool, AllocError> {
     Ok(matches!(find(alloc, history, 0)?, Found::GaveUp(_)))
 }
 
+// Whether one that is stopped does.
+fn stops(alloc: Global, history: &History) -> Result<bool, AllocError> {
+    let found = find_watched(alloc, history, OFFERS, &mut Stopping)?;
+    Ok(matches!(found, Found::GaveUp(_)))
+}
+
 fn found(alloc: Global, history: &History) -> Result<String> {
     if !gives_up(alloc, history)? {
         bail!("an answer without an offer");
+    }
+    if !stops(alloc, history)? {
+        bail!("an answer after a stop");
     }
     match find(alloc, history, OFFERS)? {
         Found::Order(order) => judged(alloc, history, &order),

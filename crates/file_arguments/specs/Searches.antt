@@ -11,11 +11,14 @@ use Rattle.clap.specs.declared.builder.value_parser.ValueParser.TheVariants.{Uns
 abbrev pub limit_rule : Rule
 limit_rule = record (option_rule (codes "limit")) { parser = Some (Unsigned 0 18446744073709551615) }
 
+abbrev pub seconds_rule : Rule
+seconds_rule = record (option_rule (codes "seconds")) { parser = Some (Unsigned 0 18446744073709551615) }
+
 abbrev pub history_rule : Rule
 history_rule = record (new_rule (codes "HISTORY")) { required = true }
 
 abbrev pub search_command : App
-search_command = command_of (codes "rmmfind") (limit_rule ∷ flag_rule (codes "explain") ∷ flag_rule (codes "json") ∷ history_rule ∷ [])
+search_command = command_of (codes "rmmfind") (limit_rule ∷ seconds_rule ∷ flag_rule (codes "explain") ∷ flag_rule (codes "json") ∷ history_rule ∷ [])
 
 -- the number that is given, or ten million
 abbrev pub IsLimit : Option Text → ℕ → Type 0
@@ -24,9 +27,17 @@ IsLimit (Some digits) limit =
     (limit < 2 ^ 64)
     × IsNumeral 10 (without_leading_plus digits) × (digits_value 10 (without_leading_plus digits) ≡ limit)
 
+-- the seconds that are given, if any are
+abbrev pub IsTime : Option Text → Option ℕ → Type 0
+IsTime None seconds = seconds ≡ None
+IsTime (Some digits) seconds =
+    (count : ℕ) × (seconds ≡ Some count) × (count < 2 ^ 64)
+    × IsNumeral 10 (without_leading_plus digits) × (digits_value 10 (without_leading_plus digits) ≡ count)
+
 abbrev pub IsSearch : List Row → Search → Type 0
 IsSearch rows search =
     IsLimit (first_of (codes "limit") rows) search.limit
+    × IsTime (first_of (codes "seconds") rows) search.seconds
     × (search.has_reasons ≡ is_set (first_of (codes "explain") rows))
     × (search.has_json ≡ is_set (first_of (codes "json") rows))
     × (search.has_reasons && search.has_json ≡ false)

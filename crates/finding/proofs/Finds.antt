@@ -1,7 +1,9 @@
 -- What was found, by how a search or a look return by return ends.
-use Rattle.finding.proofs.Common.{◌+◌, ◌≡◌, History, IsHistory, IsSearch, LeadsNowhere, Search, [], refl, subst, take, ℕ}
+use Rattle.finding.proofs.Common.{◌+◌, ◌≡◌, inl, inr, History, IsHistory, IsSearch, LeadsNowhere, Search, [], refl, subst, take, ℕ}
 use Rattle.verdict_laws.proofs.Nowhere.{none-from_nowhere}
-use Rattle.finding.specs.Found.{HasNone, HasNoneUpTo}
+use Rattle.finding.specs.Found.{HasNone, HasNoneUpTo, IsFound, IsFoundWatched}
+use Rattle.finding.specs.declared.finding.Found.{Found}
+use Rattle.finding.specs.declared.finding.Found.TheVariants as found
 use Rattle.finding.specs.declared.offers.Offers.{Offers}
 use Rattle.finding.proofs.Searches.{IsSearch-tried}
 
@@ -21,3 +23,10 @@ pub HasNoneUpTo-nowhere : (history part : History) (place count : ℕ)
     → LeadsNowhere part [] → HasNoneUpTo history place
 HasNoneUpTo-nowhere history part place count counted are nowhere =
     subst (λ (n : ℕ). HasNone (record history { events = take n history.events })) counted (subst HasNone are (HasNone-nowhere part nowhere))
+
+-- nobody stopped the search
+pub IsFound-watched : (history : History) (limit : ℕ) (what : Found) → IsFoundWatched history limit ⊥ what → IsFound history limit what
+IsFound-watched history limit (found.Order certificate) is = is
+IsFound-watched history limit (found.None place) is = is
+IsFound-watched history limit (found.GaveUp offers) (inl tried) = tried
+IsFound-watched history limit (found.GaveUp offers) (inr stopped) = absurd stopped

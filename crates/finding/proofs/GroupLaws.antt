@@ -1,5 +1,5 @@
 -- What the next calls of CPUs tell of the order in which they may come.
-use Rattle.finding.proofs.Common.{◌+◌, ◌++◌, ◌<◌, ◌∙◌, ◌∷◌, ◌≡◌, Choice, HasOnePlaces-from_history, History, IsBegun, IsHistory, IsNextCall, Line, List, None, Option, Some, [], ap, arith, cases_lt, cpu_named, inl, inr, number_named, refl, state_of, subst, sym, ℕ}
+use Rattle.finding.proofs.Common.{◌++◌, ◌<◌, ◌∙◌, ◌∷◌, ◌≡◌, Choice, HasOnePlaces-from_history, History, IsBegun, Line, List, None, Option, Some, [], ap, cpu_named, number_named, refl, state_of, subst, sym, ℕ}
 use Rattle.std.proofs.Common.{Bool, true, false, not, get_or, zero, suc}
 use Rattle.std.specs.Prelude.{IfSome, replicate, slice_set}
 use Rattle.rmm_spec.specs.declared.command.Command.{Command}
@@ -7,8 +7,8 @@ use Rattle.rmm_spec.specs.declared.event.Event.{Event}
 use Rattle.rmm_spec.specs.Call.{call_of}
 use Rattle.rmm_spec.specs.Linearization.{IsCalled, IsKnown}
 use Rattle.spec_lemmas.proofs.Calls.{same_command, told_at_call}
-use Rattle.verdict_laws.specs.Order.{IsNext, count_of}
-use Rattle.verdict_laws.specs.Apart.{IsApart, Lends, is_apart_from, lent}
+use Rattle.verdict_laws.specs.Order.{IsNext}
+use Rattle.verdict_laws.specs.Apart.{is_apart_from, lent}
 use Rattle.verdict_laws.specs.Forward.{AreOpen, IsOpen}
 use Rattle.verdict_laws.proofs.Passing.{Passes-from_lending}
 use Rattle.finding.specs.Begun.{Holds, IsGroup}

@@ -1,5 +1,5 @@
 -- What is found of a history.
-use Rattle.std.specs.Prelude.{ℕ, ◌+◌, ◌≤◌, List, take, IfSome}
+use Rattle.std.specs.Prelude.{ℕ, ◌+◌, ◌≤◌, ◌⊎◌, List, take, IfSome}
 use Rattle.rmm_spec.specs.declared.line.Line.{Line}
 use Rattle.rmm_spec.specs.HistoryText.{History}
 use Rattle.rmm_spec.specs.Linearization.{IsLinearization}
@@ -14,7 +14,13 @@ HasNone history = (lines : List Line) → ¬ IsLinearization history lines
 abbrev pub HasNoneUpTo : History → ℕ → Type 0
 HasNoneUpTo history place = HasNone (record history { events = take (place + 1) history.events })
 
--- the order is a linearization, or no certificate is one, or so many offers were made
+-- the order is a linearization, or no certificate is one, or so many offers were made, or a watch has stopped the search
+abbrev pub IsFoundWatched : History → ℕ → Type 0 → Found → Type 0
+IsFoundWatched history limit stopped (found.Order certificate) = IsLinearization history certificate.lines
+IsFoundWatched history limit stopped (found.None place) = HasNone history × IfSome place (HasNoneUpTo history)
+IsFoundWatched history limit stopped (found.GaveUp offers) = (limit ≤ offers.count) ⊎ stopped
+
+-- the same where nobody follows it
 abbrev pub IsFound : History → ℕ → Found → Type 0
 IsFound history limit (found.Order certificate) = IsLinearization history certificate.lines
 IsFound history limit (found.None place) = HasNone history × IfSome place (HasNoneUpTo history)

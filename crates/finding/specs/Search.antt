@@ -151,8 +151,8 @@ Continues progress.Going history old new = GoesOn history old new
 Continues progress.Whole history old new = IsSearch history new × IsLinearization history (lines_of new.frames.items)
 Continues progress.Exhausted history old new = IsSearch history new × LeadsNowhere history []
 
--- what steps leave, where they end or so many offers are made
-abbrev pub IsSearched : Progress → History → ℕ → Search → Type 0
-IsSearched progress.Going history limit search = IsSearch history search × (limit ≤ search.offers.count)
-IsSearched progress.Whole history limit search = IsSearch history search × IsLinearization history (lines_of search.frames.items)
-IsSearched progress.Exhausted history limit search = LeadsNowhere history []
+-- what steps leave, where they end or something else ends them
+abbrev pub IsSearched : Progress → History → Type 0 → Search → Type 0
+IsSearched progress.Going history why search = IsSearch history search × why
+IsSearched progress.Whole history why search = IsSearch history search × IsLinearization history (lines_of search.frames.items)
+IsSearched progress.Exhausted history why search = LeadsNowhere history []

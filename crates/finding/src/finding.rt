@@ -1,10 +1,9 @@
 //! Orders found from a history alone.
 
-ghost use Rattle.std.specs.Prelude.{ℕ, [], IfOk, IfSome};
-ghost use Rattle.rmm_spec.specs.Linearization.{IsLinearization};
+ghost use Rattle.std.specs.Prelude.{◌≤◌, ◌⊎◌, ⊤, [], IfOk, IfSome};
 ghost use Rattle.verdict_laws.specs.Order.{LeadsNowhere};
-ghost use Rattle.finding.specs.Found.{HasNoneUpTo, IsFound};
-ghost use Rattle.finding.specs.Search.{IsSearch, IsSearched, lines_of};
+ghost use Rattle.finding.specs.Found.{HasNoneUpTo, IsFound, IsFoundWatched};
+ghost use Rattle.finding.specs.Search.{IsSearch, IsSearched};
 
 use crate::first_part::first_part;
 use crate::forward::{Survey, forward};
@@ -12,6 +11,7 @@ use crate::guided::{guessed, guided};
 use crate::kept::cells_of;
 use crate::offers::Offers;
 use crate::search::{Progress, Search};
+use crate::watch::{Pace, Unwatched, Watch, steps_on};
 use certificate::Certificate;
 use history::History;
 use std::alloc::{AllocError, Global};
@@ -36,7 +36,7 @@ pub enum Found {
     Order(Certificate),
     /// No certificate is one; nor is one of the history that ends behind the return at the place, where it is told.
     None(Option<u32>),
-    /// Neither, within the limit: so many offers were made.
+    /// Neither: so many offers were made within the limit, or until the watch stopped the search.
     GaveUp(Offers),
 }
 
@@ -44,126 +44,148 @@ pub enum Found {
 pub fn find(alloc: Global, history: &History, limit: u64) -> Result<Found, AllocError>
     ensures { IfOk result (IsFound history.now.recorded limit) }
 {
+    find_watched(alloc, history, limit, &mut Unwatched)
+}
+
+/// Looks for an order as `find` does, and gives up too once its watch says so.
+pub fn find_watched<W: Watch>(
+    alloc: Global,
+    history: &History,
+    limit: u64,
+    watch: &mut W,
+) -> Result<Found, AllocError>
+    ensures { IfOk result (IsFoundWatched history.now.recorded limit (W.has_stopped watch.new)) }
+{
     let mut search = Search::new(alloc, history)?;
-    let progress = search_at_first(&mut search, alloc, history, FIRST_KEPT, limit / 2)?;
+    let soon = limit / 2;
+    let progress = search_at_first(&mut search, alloc, history, FIRST_KEPT, soon, watch)?;
     match progress {
-        Progress::Going => find_guessed(alloc, history, limit),
-        Progress::Whole => order_found(alloc, history, &search),
-        Progress::Exhausted => none_found(alloc, history, search, limit),
+        Progress::Going => find_guessed(alloc, history, limit, watch),
+        Progress::Whole => {
+            let certificate = search.certificate(alloc, history)?;
+            Ok(Found::Order(certificate))
+        }
+        Progress::Exhausted => none_found(alloc, history, search, limit, watch),
     }
 }
 
 /// Begins anew with a guess, and searches on from where that leads.
-fn find_guessed(alloc: Global, history: &History, limit: u64) -> Result<Found, AllocError>
-    ensures { IfOk result (IsFound history.now.recorded limit) }
+fn find_guessed<W: Watch>(
+    alloc: Global,
+    history: &History,
+    limit: u64,
+    watch: &mut W,
+) -> Result<Found, AllocError>
+    ensures { IfOk result (IsFoundWatched history.now.recorded limit (W.has_stopped watch.new)) }
 {
     let soon = limit / 2;
-    let mut search = guessed(alloc, history, soon)?;
-    let progress = search_at_first(&mut search, alloc, history, GUESSED_KEPT, soon)?;
+    let mut search = guessed(alloc, history, soon, watch)?;
+    let progress = search_at_first(&mut search, alloc, history, GUESSED_KEPT, soon, watch)?;
     match progress {
-        Progress::Going => find_forward(alloc, history, search, limit),
-        Progress::Whole => order_found(alloc, history, &search),
-        Progress::Exhausted => none_found(alloc, history, search, limit),
+        Progress::Going => find_forward(alloc, history, search, limit, watch),
+        Progress::Whole => {
+            let certificate = search.certificate(alloc, history)?;
+            Ok(Found::Order(certificate))
+        }
+        Progress::Exhausted => none_found(alloc, history, search, limit, watch),
     }
 }
 
-/// The order of a search that came to a linearization.
-fn order_found(alloc: Global, history: &History, search: &Search) -> Result<Found, AllocError>
-    requires is_search { IsSearch history.now.recorded search.now }
-    requires whole { IsLinearization history.now.recorded (lines_of search.now.frames.items) }
-    ensures { (limit : ℕ) → IfOk result (IsFound history.now.recorded limit) }
-{
-    let certificate = search.certificate(alloc, history)?;
-    Ok(Found::Order(certificate))
-}
-
 /// That there is no order, with the return that none survives, where it is found within the limit.
-fn none_found(
+fn none_found<W: Watch>(
     alloc: Global,
     history: &History,
     search: Search,
     limit: u64,
+    watch: &mut W,
 ) -> Result<Found, AllocError>
     requires { LeadsNowhere history.now.recorded [] }
-    ensures { IfOk result (IsFound history.now.recorded limit) }
+    ensures { IfOk result (IsFoundWatched history.now.recorded limit (W.has_stopped watch.new)) }
 {
     let mut offers = search.offers;
     let near = offers_near(history, offers.count(), TO_NAME, limit);
-    let told = lost_place(alloc, &mut offers, history, near)?;
+    let told = lost_place(alloc, &mut offers, history, near, watch)?;
     Ok(Found::None(told))
 }
 
 /// Looks for an order return by return, and then as the search does.
-fn find_forward(
+fn find_forward<W: Watch>(
     alloc: Global,
     history: &History,
     search: Search,
     limit: u64,
+    watch: &mut W,
 ) -> Result<Found, AllocError>
     requires { IsSearch history.now.recorded search }
-    ensures { IfOk result (IsFound history.now.recorded limit) }
+    ensures { IfOk result (IsFoundWatched history.now.recorded limit (W.has_stopped watch.new)) }
 {
     let mut search = search;
     let near = offers_near(history, search.offers.count(), TO_DECIDE, limit);
-    let found = forward(alloc, &mut search.offers, history, near)?;
+    let found = forward(alloc, &mut search.offers, history, near, watch)?;
     match found {
         Survey::Lost(place) => {
-            let told = told_place(alloc, &mut search.offers, history, limit, place)?;
+            let told = told_place(alloc, &mut search.offers, history, limit, place, watch)?;
             Ok(Found::None(told))
         }
         Survey::Kept(orders) => {
-            let found = guided(alloc, history, orders.as_slice(), limit)?;
+            let found = guided(alloc, history, orders.as_slice(), limit, watch)?;
             match found {
                 Some(certificate) => Ok(Found::Order(certificate)),
-                None => find_rest(alloc, history, search, limit),
+                None => find_rest(alloc, history, search, limit, watch),
             }
         }
-        Survey::Undecided => find_rest(alloc, history, search, limit),
+        Survey::Undecided => find_rest(alloc, history, search, limit, watch),
     }
 }
 
 /// Goes on with the search.
-fn find_rest(
+fn find_rest<W: Watch>(
     alloc: Global,
     history: &History,
     search: Search,
     limit: u64,
+    watch: &mut W,
 ) -> Result<Found, AllocError>
     requires { IsSearch history.now.recorded search }
-    ensures { IfOk result (IsFound history.now.recorded limit) }
+    ensures { IfOk result (IsFoundWatched history.now.recorded limit (W.has_stopped watch.new)) }
 {
     let mut search = search;
-    let progress = search_until(&mut search, alloc, history, limit)?;
+    let progress = search_until(&mut search, alloc, history, limit, watch)?;
     match progress {
         Progress::Going => Ok(Found::GaveUp(search.offers)),
-        Progress::Whole => order_found(alloc, history, &search),
+        Progress::Whole => {
+            let certificate = search.certificate(alloc, history)?;
+            Ok(Found::Order(certificate))
+        }
         Progress::Exhausted => Ok(Found::None(None)),
     }
 }
 
 /// The place of the return that no order survives, where one is found within the limit.
-fn lost_place(
+fn lost_place<W: Watch>(
     alloc: Global,
     offers: &mut Offers,
     history: &History,
     limit: u64,
+    watch: &mut W,
 ) -> Result<Option<u32>, AllocError>
     ensures { IfOk result (λ told. IfSome told (HasNoneUpTo history.now.recorded)) }
 {
-    let found = forward(alloc, offers, history, limit)?;
+    let found = forward(alloc, offers, history, limit, watch)?;
     match found {
-        Survey::Lost(place) => told_place(alloc, offers, history, limit, place),
+        Survey::Lost(place) => told_place(alloc, offers, history, limit, place, watch),
         _ => Ok(None),
     }
 }
 
 /// The place, where it is found once more that the history up to it has no order.
-fn told_place(
+fn told_place<W: Watch>(
     alloc: Global,
     offers: &mut Offers,
     history: &History,
     limit: u64,
     place: u32,
+    watch: &mut W,
 ) -> Result<Option<u32>, AllocError>
     ensures { IfOk result (λ told. IfSome told (HasNoneUpTo history.now.recorded)) }
 {
@@ -174,25 +196,30 @@ fn told_place(
     let Some(part) = first_part(alloc, history, count)? else {
         return Ok(None);
     };
-    let found = forward(alloc, offers, &part, limit)?;
+    let found = forward(alloc, offers, &part, limit, watch)?;
     match found {
         Survey::Lost(_) => Ok(Some(place)),
         _ => Ok(None),
     }
 }
 
-/// Searches as long as fewer configurations lead nowhere, until so many offers are made.
-fn search_at_first(
+/// Searches as long as fewer configurations lead nowhere, until so many offers are made or the watch stops it.
+fn search_at_first<W: Watch>(
     search: &mut Search,
     alloc: Global,
     history: &History,
     most: usize,
     limit: u64,
+    watch: &mut W,
 ) -> Result<Progress, AllocError>
     requires { IsSearch history.now.recorded search.old }
-    ensures { IfOk result (λ progress. IsSearched progress history.now.recorded 0 search.new) }
+    ensures { IfOk result (λ progress. IsSearched progress history.now.recorded ⊤ search.new) }
 {
+    let mut pace = Pace::of_steps();
     'going: while search.offers.count() < limit && search.kept.len() < most {
+        if !steps_on(watch, &mut pace, history, search) {
+            return Ok(Progress::Going);
+        }
         match search.step(alloc, history)? {
             Progress::Going => {}
             ended => return Ok(ended),
@@ -201,17 +228,23 @@ fn search_at_first(
     Ok(Progress::Going)
 }
 
-/// Searches until so many offers are made.
-fn search_until(
+/// Searches until so many offers are made or the watch stops it.
+fn search_until<W: Watch>(
     search: &mut Search,
     alloc: Global,
     history: &History,
     limit: u64,
+    watch: &mut W,
 ) -> Result<Progress, AllocError>
     requires { IsSearch history.now.recorded search.old }
-    ensures { IfOk result (λ progress. IsSearched progress history.now.recorded limit search.new) }
+    ensures { IfOk result (λ progress. IsSearched progress history.now.recorded
+        ((limit ≤ search.new.offers.count) ⊎ W.has_stopped watch.new) search.new) }
 {
+    let mut pace = Pace::of_steps();
     'going: while search.offers.count() < limit {
+        if !steps_on(watch, &mut pace, history, search) {
+            return Ok(Progress::Going);
+        }
         match search.step(alloc, history)? {
             Progress::Going => {}
             ended => return Ok(ended),

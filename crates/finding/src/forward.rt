@@ -6,6 +6,7 @@ ghost use Rattle.finding.specs.Survey.{IsSurvey};
 use crate::begun::Begun;
 use crate::offers::Offers;
 use crate::round::next_orders;
+use crate::watch::{Pace, Watch};
 use history::History;
 use std::alloc::{AllocError, Global};
 
@@ -16,22 +17,24 @@ pub(crate) enum Survey {
     Lost(u32),
     /// Orders of all calls that returned.
     Kept(Vec<Begun>),
-    /// Neither: too many orders were possible, or the limit was reached.
+    /// Neither: too many orders were possible, the limit was reached, or the watch stopped it.
     Undecided,
 }
 
-/// Looks for orders return by return, and gives up once so many offers are made.
-pub(crate) fn forward(
+/// Looks for orders return by return, and gives up once so many offers are made or the watch says so.
+pub(crate) fn forward<W: Watch>(
     alloc: Global,
     offers: &mut Offers,
     history: &History,
     limit: u64,
+    watch: &mut W,
 ) -> Result<Survey, AllocError>
     ensures { IfOk result (IsSurvey history.now.recorded) }
 {
     let opening = Begun::opening(alloc, history)?;
     let mut kept = Vec::new(alloc);
     kept.push(opening)?;
+    let mut pace = Pace::of_copies(history);
     'places: for place in 0..history.len() {
         if history.reply_at(place).is_none() {
             continue;
@@ -39,7 +42,8 @@ pub(crate) fn forward(
         if offers.count() >= limit {
             return Ok(Survey::Undecided);
         }
-        let Some(next) = next_orders(alloc, offers, history, kept, place as u32)? else {
+        let next = next_orders(alloc, offers, history, kept, place as u32, watch, &mut pace)?;
+        let Some(next) = next else {
             return Ok(Survey::Undecided);
         };
         if next.is_empty() {

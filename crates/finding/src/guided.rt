@@ -10,55 +10,76 @@ use crate::begun::Begun;
 use crate::earlier::Earlier;
 use crate::longest::goes_on;
 use crate::search::{Progress, Search};
+use crate::watch::{Advance, Pace, Watch, steps_on};
 use certificate::Certificate;
 use guessing::guess;
 use history::History;
 use std::alloc::{AllocError, Global};
 
 /// The first order, where a search that tries its calls first comes to a linearization.
-pub(crate) fn guided(
+pub(crate) fn guided<W: Watch>(
     alloc: Global,
     history: &History,
     orders: &[Begun],
     limit: u64,
+    watch: &mut W,
 ) -> Result<Option<Certificate>, AllocError>
     ensures { IfOk result (λ found. IfSome found (λ certificate. IsLinearization history.now.recorded certificate.lines)) }
 {
     let Some(order) = orders.first() else {
         return Ok(None);
     };
-    let search = led(alloc, history, order.cpus.as_slice(), limit)?;
+    let search = led(alloc, history, order.cpus.as_slice(), limit, watch)?;
     ended(alloc, history, search, limit)
 }
 
 /// A search that tried the calls of a guess first.
-pub(crate) fn guessed(alloc: Global, history: &History, limit: u64) -> Result<Search, AllocError>
+pub(crate) fn guessed<W: Watch>(
+    alloc: Global,
+    history: &History,
+    limit: u64,
+    watch: &mut W,
+) -> Result<Search, AllocError>
     ensures { IfOk result (IsSearch history.now.recorded) }
 {
+    if !watch.goes_on(Advance {
+        events: 0,
+        orders: 1,
+    }) {
+        return Search::new(alloc, history);
+    }
     let cpus = guess(alloc, history)?;
-    led(alloc, history, cpus.as_slice(), limit)
+    led(alloc, history, cpus.as_slice(), limit, watch)
 }
 
 /// The lines that a search comes to which tries the order's calls first.
-pub(crate) fn order_of(
+pub(crate) fn order_of<W: Watch>(
     alloc: Global,
     history: &History,
     order: &Begun,
     limit: u64,
+    watch: &mut W,
 ) -> Result<Certificate, AllocError>
     ensures { IfOk result (λ certificate. (state : State) × Passes history.now.recorded certificate.lines state) }
 {
-    let search = led(alloc, history, order.cpus.as_slice(), limit)?;
+    let search = led(alloc, history, order.cpus.as_slice(), limit, watch)?;
     search.certificate(alloc, history)
 }
 
 /// A search that tried the next call of one CPU after another.
-fn led(alloc: Global, history: &History, cpus: &[u8], limit: u64) -> Result<Search, AllocError>
+fn led<W: Watch>(
+    alloc: Global,
+    history: &History,
+    cpus: &[u8],
+    limit: u64,
+    watch: &mut W,
+) -> Result<Search, AllocError>
     ensures { IfOk result (IsSearch history.now.recorded) }
 {
     let mut search = Search::new(alloc, history)?;
+    let mut pace = Pace::of_steps();
     'lines: for cpu in cpus {
-        if search.offers.count() >= limit {
+        if search.offers.count() >= limit || !steps_on(watch, &mut pace, history, &search) {
             return Ok(search);
         }
         search.earlier = Some(Earlier {

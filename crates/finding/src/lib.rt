@@ -1,7 +1,7 @@
 //! Finds an order of a history's calls that is a linearization, from the history alone, or that there is none.
 //! It promises that the order found is a linearization, and that where none is told no certificate at all is one, nor of the events up to
 //! the place that is told. It tries depth first, begins anew with a guess where that leads nowhere a few times, and at last looks return
-//! by return at all orders that are possible still; it gives up only where it has made as many offers as it may.
+//! by return at all orders that are possible still; it gives up only where it has made as many offers as it may, or whoever follows it said so.
 //! The program `rmmfind` depends on it.
 #![tactic(auto)]
 
@@ -32,11 +32,13 @@ mod round;
 mod search;
 mod survivors;
 mod told;
+mod watch;
 
 pub use certificate::Certificate;
-pub use finding::{Found, find};
+pub use finding::{Found, find, find_watched};
 pub use history::History;
 pub use longest::longest_order;
 pub use offers::Offers;
 pub use survivors::orders_before;
 pub use told::{append_found, status_of};
+pub use watch::{Advance, Unwatched, Watch};

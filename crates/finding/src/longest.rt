@@ -5,31 +5,44 @@ ghost use Rattle.rmm_spec.specs.FirstFault.{Passes};
 ghost use Rattle.rmm_spec.specs.State.{State};
 ghost use Rattle.finding.specs.Search.{GoesOn, IsSearch};
 
+use crate::guided::guessed;
 use crate::search::{Progress, Search};
+use crate::watch::{Pace, Unwatched, Watch, steps_on};
 use certificate::Certificate;
 use history::History;
 use std::alloc::{AllocError, Global};
 use std::cmp::max;
 
-/// The longest order that a search of so many offers begins, and the first of that length: its lines pass.
-pub fn longest_order(
+/// The longest order that a search begins from a guess on, within so many offers and until its watch stops it, or one that is longer: its
+/// lines pass. It takes about twice as long as that search.
+pub fn longest_order<W: Watch>(
     alloc: Global,
     history: &History,
     limit: u64,
+    watch: &mut W,
 ) -> Result<Certificate, AllocError>
     ensures { IfOk result (λ certificate. (state : State) × Passes history.now.recorded certificate.lines state) }
 {
-    let most = greatest_length(alloc, history, limit)?;
-    let mut search = Search::new(alloc, history)?;
+    let most = greatest_length(alloc, history, limit, watch)?;
+    let mut search = guessed(alloc, history, limit, &mut Unwatched)?;
     go_until(&mut search, alloc, history, limit, most)?;
     search.certificate(alloc, history)
 }
 
-/// How many lines the longest order has that a search of so many offers begins.
-fn greatest_length(alloc: Global, history: &History, limit: u64) -> Result<usize, AllocError> {
-    let mut search = Search::new(alloc, history)?;
-    let mut most = 0;
+/// How many lines that order has.
+fn greatest_length<W: Watch>(
+    alloc: Global,
+    history: &History,
+    limit: u64,
+    watch: &mut W,
+) -> Result<usize, AllocError> {
+    let mut search = guessed(alloc, history, limit, watch)?;
+    let mut pace = Pace::of_steps();
+    let mut most = search.len();
     'going: while search.offers.count() < limit {
+        if !steps_on(watch, &mut pace, history, &search) {
+            break;
+        }
         if !goes_on(&mut search, alloc, history)? {
             break;
         }
@@ -50,7 +63,7 @@ fn go_until(
     ensures { OnOk result (IsSearch history.now.recorded search.new) }
 {
     'going: while search.offers.count() < limit {
-        if search.len() == most {
+        if search.len() >= most {
             return Ok(());
         }
         if !goes_on(search, alloc, history)? {

@@ -11,6 +11,7 @@ use crate::next_line::{NextLine, next_line};
 use crate::offers::Offers;
 use crate::refused::refused_choice;
 use crate::search::Left;
+use crate::watch::{Advance, Pace, Watch};
 use history::History;
 use rmm_spec::Line;
 use std::alloc::{AllocError, Global};
@@ -295,12 +296,23 @@ impl Round {
         Ok(false)
     }
 
-    /// Makes the orders that lack a call longer by a line each; none where there are too many.
-    fn deeper(
+    /// How far it is, with one order at hand and so many left to make longer.
+    fn advance(&self, left: usize) -> Advance {
+        let kept = self.lacking.len().saturating_add(self.next.len());
+        Advance {
+            events: self.place as usize,
+            orders: kept.saturating_add(left).saturating_add(1),
+        }
+    }
+
+    /// Makes the orders that lack a call longer by a line each; none where there are too many, or the watch stops it.
+    fn deeper<W: Watch>(
         self,
         alloc: Global,
         offers: &mut Offers,
         history: &History,
+        watch: &mut W,
+        pace: &mut Pace,
     ) -> Result<Option<Round>, AllocError>
         requires { IsRound history.now.recorded self }
         ensures round { IfOk result (λ deeper. IfSome deeper (IsRound history.now.recorded)) }
@@ -318,6 +330,9 @@ impl Round {
             next,
         };
         'orders: while let Some(begun) = left.pop() {
+            if pace.is_due_at(offers.count()) && !watch.goes_on(round.advance(left.len())) {
+                return Ok(None);
+            }
             let all = round.take_each(alloc, offers, history, begun)?;
             if !all {
                 return Ok(None);
@@ -341,13 +356,15 @@ fn is_up_to(history: &History, begun: &Begun, place: u32) -> bool
 }
 
 /// The orders that lack no call which returned up to the place: where they lead nowhere, those that were kept do. None where there are too
-/// many.
-pub(crate) fn next_orders(
+/// many, or the watch stops it.
+pub(crate) fn next_orders<W: Watch>(
     alloc: Global,
     offers: &mut Offers,
     history: &History,
     kept: Vec<Begun>,
     place: u32,
+    watch: &mut W,
+    pace: &mut Pace,
 ) -> Result<Option<Vec<Begun>>, AllocError>
     requires { AllBegun history.now.recorded kept.items }
     ensures begun { IfOk result (λ orders. IfSome orders (λ next. AllBegun history.now.recorded next.items)) }
@@ -359,7 +376,7 @@ pub(crate) fn next_orders(
         if round.lacking.is_empty() {
             return Ok(Some(round.next));
         }
-        let Some(deeper) = round.deeper(alloc, offers, history)? else {
+        let Some(deeper) = round.deeper(alloc, offers, history, watch, pace)? else {
             return Ok(None);
         };
         round = deeper;

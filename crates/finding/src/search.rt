@@ -30,6 +30,7 @@ use history::History;
 use rmm_spec::Line;
 use spec_machine::Machine;
 use std::alloc::{AllocError, Global};
+use std::cmp::min;
 
 /// The lines of an order that is begun, what is left to try behind them, and how far they have come. The machine is behind them as long
 /// as no line is taken back.
@@ -99,6 +100,15 @@ impl Search {
     /// How many lines there are.
     pub(crate) fn len(&self) -> usize {
         self.frames.len()
+    }
+
+    /// The place of the first return whose call isn't in the order, or how many events there are.
+    pub(crate) fn place(&self, history: &History) -> usize {
+        let mut place = history.len();
+        for rank in &self.front.ranks {
+            place = min(place, *rank as usize);
+        }
+        place
     }
 
     /// The certificate of the lines.

@@ -1,28 +1,29 @@
-//! How far orders got where there is none.
+//! How far orders got where none of all calls is found.
 
 use certificate::{Certificate, LineRef};
 use checker::{Reason, Verdict};
 use explain::{explain, report};
-use finding::{longest_order, orders_before};
+use finding::{Watch, longest_order, orders_before};
 use history::{Event, History};
 use std::alloc::{AllocError, Global};
 use std::cmp::min;
 
 /// Appends how far orders got: those that a return was the end of, where it is known, each with why its call isn't given the reply.
-pub(crate) fn append_reached(
+pub(crate) fn append_reached<W: Watch>(
     alloc: Global,
     bytes: &[u8],
     history: &History,
     limit: u64,
     place: Option<u32>,
+    watch: &mut W,
     text: &mut Vec<u8>,
 ) -> Result<(), AllocError> {
     let Some(place) = place else {
-        return append_longest(alloc, bytes, history, limit, text);
+        return append_longest(alloc, bytes, history, limit, watch, text);
     };
-    let orders = orders_before(alloc, history, place, limit)?;
+    let orders = orders_before(alloc, history, place, limit, watch)?;
     if orders.is_empty() {
-        return append_longest(alloc, bytes, history, limit, text);
+        return append_longest(alloc, bytes, history, limit, watch, text);
     }
     let Some((cpu, number)) = returned_at(history, place) else {
         return Ok(());
@@ -48,15 +49,17 @@ fn returned_at(history: &History, place: u32) -> Option<(u8, u32)> {
     }
 }
 
-/// Appends the longest order that was begun, and why each call that could come next there isn't given the reply that it got.
-fn append_longest(
+/// Appends the longest order that is begun until the watch stops the search for it, and why each call that could come next there isn't given
+/// the reply that it got.
+pub(crate) fn append_longest<W: Watch>(
     alloc: Global,
     bytes: &[u8],
     history: &History,
     limit: u64,
+    watch: &mut W,
     text: &mut Vec<u8>,
 ) -> Result<(), AllocError> {
-    let longest = longest_order(alloc, history, limit)?;
+    let longest = longest_order(alloc, history, limit, watch)?;
     let mut order = Vec::new(alloc);
     text_writers::write_certificate(&longest, &mut order)?;
     text.push(b'\n')?;

@@ -1,14 +1,13 @@
 use Rattle.finding.proofs.finding.find_guessed.Goals as goal
 
 pub find_forward-requires : goal.find_forward-requires
-find_forward-requires c = (rw c.in-Going.is at c.in_ok-progress.ensures).0
+find_forward-requires g c = (rw c.in-Going.is at c.in_ok-progress.ensures).0
 
-pub order_found-requires : goal.order_found-requires
-order_found-requires c =
-    let found = rw c.in-Whole.is at c.in_ok-progress.ensures in record { is_search = found.0; whole = found.1 }
+pub certificate-requires : goal.certificate-requires
+certificate-requires g c = (rw c.in-Whole.is at c.in_ok-progress.ensures).0
 
-pub returns-in-Whole : goal.returns-in-Whole
-returns-in-Whole c = c.order_found.ensures c.args.limit
+pub returns-in_ok-certificate-in-Whole : goal.returns-in_ok-certificate-in-Whole
+returns-in_ok-certificate-in-Whole g c = rw c.in_ok-certificate-in-Whole.ensures ((rw c.in-Whole.is at c.in_ok-progress.ensures).1)
 
 pub none_found-requires : goal.none_found-requires
-none_found-requires c = rw c.in-Exhausted.is at c.in_ok-progress.ensures
+none_found-requires g c = rw c.in-Exhausted.is at c.in_ok-progress.ensures

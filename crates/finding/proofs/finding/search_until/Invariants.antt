@@ -4,7 +4,7 @@ use Rattle.finding.proofs.Moving.{until}
 use Rattle.finding.proofs.finding.search_until.Given as goal
 
 abbrev pub invariant-going : goal.invariant-going
-invariant-going l = IsSearch l.history.recorded l.search
+invariant-going g l = IsSearch l.history.recorded l.search
 
 abbrev pub decreases-going : goal.decreases-going
-decreases-going l = until l.limit l.search
+decreases-going g l = until l.limit l.search

@@ -6,7 +6,7 @@ use Rattle.finding.proofs.Rounds.{AllBegun-push, AllLost-pop}
 use Rattle.finding.proofs.forward.forward.Goals as goal
 
 pub places-init : goal.places-init
-places-init c =
+places-init g c =
     let history = c.args.history.now.recorded in
     record {
       begun = AllBegun-push history c.new-kept.result.items c.push.new.self.items c.in_ok-opening.opening c.in_ok-push.ensures.items
@@ -17,7 +17,7 @@ places-init c =
     }
 
 pub returns-then-is_empty : goal.returns-then-is_empty
-returns-then-is_empty c =
+returns-then-is_empty g c =
     let next = c.in-Some.next in
     let same : next.len ≡ length next.items = omega (arith, next.ok.0) in
     let empty : next.len ≡ 0 = eqb-true next.len 0 (sym c.is_empty.ensures ∙ c.if-is_empty.true) in
@@ -25,7 +25,7 @@ returns-then-is_empty c =
     ((rw c.in-Some.is at c.in_ok-next.ensures.covers) (λ k d within. absurd (omega (arith, within, same, empty))))
 
 pub places-preserved : goal.places-preserved
-places-preserved c = record {
+places-preserved g c = record {
   begun = rw c.in-Some.is at c.in_ok-next.ensures.begun;
   covers = λ lost. c.places.invariant.covers ((rw c.in-Some.is at c.in_ok-next.ensures.covers) lost);
 }

@@ -4,7 +4,7 @@ use Rattle.finding.specs.Begun.{AllBegun}
 use Rattle.finding.proofs.forward.forward.Given as goal
 
 abbrev pub invariant-places : goal.invariant-places
-invariant-places l = record {
+invariant-places g l = record {
   begun : AllBegun l.history.recorded l.kept.items;
   covers : AllLost l.history.recorded l.kept.items → LeadsNowhere l.history.recorded [];
 }

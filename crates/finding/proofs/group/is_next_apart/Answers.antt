@@ -1,7 +1,7 @@
 -- By the call's command.
 use Rattle.std.proofs.Common.{sym, ◌∙◌}
 use Rattle.rmi_view.specs.Seen.{command_seen}
-use Rattle.finding.proofs.GroupLaws.{IsNextApart-command, IsNextApart-none}
+use Rattle.finding.proofs.GroupLaws.{IsNextApart-command}
 use Rattle.finding.proofs.group.is_next_apart.Goals as goal
 
 pub returns-in-Some-command_at : goal.returns-in-Some-command_at

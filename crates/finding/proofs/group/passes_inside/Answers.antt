@@ -1,5 +1,5 @@
 -- CPU by CPU.
-use Rattle.std.proofs.Common.{◌≡◌, true, ℕ, ◌<◌, arith, subst, inl, inr}
+use Rattle.std.proofs.Common.{◌≡◌, true, ℕ, arith, subst, inl, inr}
 use Rattle.std.proofs.lemmas.Bool.{cases_lt}
 use Rattle.finding.specs.Group.{IsNextApart, is_inside}
 use Rattle.finding.proofs.GroupLaws.{PassesCpu-apart}

@@ -5,19 +5,19 @@ use Rattle.finding.proofs.Rounds.{AllBegun-pop, AllLost-push}
 use Rattle.finding.proofs.round.Round.deeper.Goals as goal
 
 pub orders-init : goal.orders-init
-orders-init c = record {
+orders-init g c = record {
   round = record { lacking = rw c.new.ensures.items (All-nil (IsBegun c.args.history.now.recorded)); next = c.requires.next };
   left = c.requires.lacking;
   covers = λ lost left. record { lacking = left; next = lost.next };
 }
 
 pub take_each-requires-clause-begun : goal.take_each-requires-clause-begun
-take_each-requires-clause-begun c =
+take_each-requires-clause-begun g c =
     (AllBegun-pop c.args.history.now.recorded c.orders.left.items c.pop.new.self.items
     c.in-Some.begun c.in-Some.ensures.items c.orders.invariant.left).1
 
 pub orders-preserved : goal.orders-preserved
-orders-preserved c =
+orders-preserved g c =
     let history = c.args.history.now.recorded in
     let taken = c.in_ok-all.ensures in
     let popped = AllBegun-pop history c.orders.left.items c.pop.new.self.items c.in-Some.begun c.in-Some.ensures.items c.orders.invariant.left in

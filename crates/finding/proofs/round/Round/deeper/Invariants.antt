@@ -4,11 +4,11 @@ use Rattle.finding.specs.Begun.{AllBegun, AllLost, IsRound, RoundLost}
 use Rattle.finding.proofs.round.Round.deeper.Given as goal
 
 abbrev pub invariant-orders : goal.invariant-orders
-invariant-orders l = record {
+invariant-orders g l = record {
   round : IsRound l.history.recorded l.round;
   left : AllBegun l.history.recorded l.left.items;
   covers : RoundLost l.history.recorded l.round → AllLost l.history.recorded l.left.items → RoundLost l.history.recorded l.fn.self;
 }
 
 abbrev pub decreases-orders : goal.decreases-orders
-decreases-orders l = vec_len l.left
+decreases-orders g l = vec_len l.left

@@ -1,0 +1,107 @@
+//! Who follows a search.
+
+ghost use Rattle.std.specs.Prelude.{◌≡◌, false};
+
+use crate::kept::cells_of;
+use crate::search::Search;
+use history::History;
+use std::cmp::{max, min};
+
+/// How many steps of a search are made, or offers where none is made to a copy of a machine, before a watch is asked again.
+const STEPS: u64 = 1024;
+
+/// How many cells may be copied before it is.
+const CELLS: u64 = 1 << 22;
+
+/// How far a search is.
+#[derive(Clone, Copy)]
+pub struct Advance {
+    /// How many of the history's events it is past: each call that returned among them stands in the orders.
+    pub events: usize,
+    /// How many orders are kept.
+    pub orders: usize,
+}
+
+/// Who follows a search, and may stop it.
+pub trait Watch {
+    /// It has told a search to stop.
+    ghost has_stopped: { Self → Type 0 };
+
+    /// Whether the search goes on from there.
+    fn goes_on(&mut self, advance: Advance) -> bool
+        ensures { result ≡ false → has_stopped self.new };
+}
+
+/// Nobody follows the search, so it goes on.
+#[derive(Drop)]
+pub struct Unwatched;
+
+impl Watch for Unwatched {
+    ghost has_stopped = { λ _. ⊥ };
+
+    fn goes_on(&mut self, _advance: Advance) -> bool {
+        true
+    }
+}
+
+/// When a watch is asked: at first, and then each time that so much is done.
+#[derive(Drop)]
+pub(crate) struct Pace {
+    steps: u64,
+    next: u64,
+    every: u64,
+}
+
+impl Pace {
+    /// Counts the steps of a search.
+    pub(crate) fn of_steps() -> Pace {
+        Pace {
+            steps: 0,
+            next: 0,
+            every: STEPS,
+        }
+    }
+
+    /// Goes by offers, each of which may be made to a copy of the history's machine.
+    pub(crate) fn of_copies(history: &History) -> Pace {
+        let offers = CELLS / cells_of(history);
+        Pace {
+            steps: 0,
+            next: 0,
+            every: max(1, min(offers, STEPS)),
+        }
+    }
+
+    /// Whether the watch is asked at so many offers.
+    pub(crate) fn is_due_at(&mut self, count: u64) -> bool {
+        if count < self.next {
+            return false;
+        }
+        self.next = count.saturating_add(self.every);
+        true
+    }
+
+    /// Whether it is asked before the next step.
+    fn is_due(&mut self) -> bool {
+        self.steps = self.steps.saturating_add(1);
+        self.is_due_at(self.steps)
+    }
+}
+
+/// Whether a search takes its next step, of which its watch is asked where that is due.
+pub(crate) fn steps_on<W: Watch>(
+    watch: &mut W,
+    pace: &mut Pace,
+    history: &History,
+    search: &Search,
+) -> bool
+    ensures { result ≡ false → W.has_stopped watch.new }
+{
+    if !pace.is_due() {
+        return true;
+    }
+    watch.goes_on(Advance {
+        events: search.place(history),
+        orders: 1,
+    })
+}
