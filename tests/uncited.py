@@ -11,8 +11,8 @@ ROOT = pathlib.Path(__file__).resolve().parent.parent / "crates"
 WORD = re.compile(r"[^\s(){},;.\[\]]+")
 HEAD = re.compile(r"^(?:abbrev |unfoldable )?(?:pub )?([^\s(){},;.]+) : ")
 FOUND = {
-    "crates/machine_cells/proofs/Alike.antt": {"SameTo-nil", "SameTo-more", "SameTo-set"},
-    "crates/machine_cells/proofs/Kept.antt": {"read_or"},
+    "crates/spec_machine/proofs/Alike.antt": {"SameTo-nil", "SameTo-more", "SameTo-set"},
+    "crates/spec_machine/proofs/Kept.antt": {"read_or"},
     "crates/rtt_table/proofs/Joined.antt": {"columns-at"},
     "crates/scenario/proofs/Worked.antt": {
         "IsScenarioText-stopping", "IsFirstFault-no_cpus", "IsFirstFault-third_cpu", "not_memory-comment"},

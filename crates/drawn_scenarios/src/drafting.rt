@@ -14,6 +14,7 @@ use memory_map::Config;
 use rmm_spec::{Accepted, Command, FunctionId, Reply, Stretch};
 use spec_machine::Machine;
 use std::alloc::Global;
+use told::owner_report;
 
 /// One of so many commands is taken as it is drawn.
 const UNCHECKED: u64 = 12;
@@ -79,7 +80,7 @@ pub(crate) fn drafted_programs(
     let mut rows = Vec::new(alloc);
     for _command in 0..amount.commands {
         rows.clear();
-        machine.owner_report(&mut rows)?;
+        owner_report(&machine, &mut rows)?;
         let cpu = idle_cpu(&mut schedule, &mut busy);
         let granules = Granules {
             rows: rows.as_slice(),

@@ -9,7 +9,7 @@ use arrayvec::ArrayVec;
 use command_words::{Name, named};
 use memory_map::GRANULE_BYTES;
 use rmm_spec::{Call, Command, FunctionId, Tag};
-use spec_machine::OwnerRow;
+use told::OwnerRow;
 
 /// How often a granule is drawn before one with another tag does.
 const GRANULE_DRAWS: u32 = 16;

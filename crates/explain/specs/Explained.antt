@@ -10,7 +10,7 @@ use Rattle.rmm_spec.specs.State.{State}
 use Rattle.rmm_spec.specs.Step.{outcome}
 use Rattle.rmm_spec.specs.Linearization.{ReturnsBefore, IsReplyOf}
 use Rattle.rmm_spec.specs.FirstFault.{Passes}
-use Rattle.spec_machine.specs.Report.{AddsOwners}
+use Rattle.told.specs.Report.{AddsOwners}
 use Rattle.told.specs.declared.explanation.Cause.{Cause}
 use Rattle.told.specs.declared.explanation.Cause.TheVariants as cause
 use Rattle.told.specs.declared.explanation.Explanation.{Explanation}

@@ -30,7 +30,7 @@ use rmi_view::copied_reply;
 use rmm_spec::{Accepted, Refusal, Reply};
 use spec_machine::Machine;
 use std::alloc::{AllocError, Global};
-use told::{Cause, Deciding, NamedCall, RefusedLine, StateBefore};
+use told::{Cause, Deciding, NamedCall, RefusedLine, StateBefore, owner_report};
 
 /// Why the step fails, with the calls that it is about. The machine is as the lines before the step leave it.
 pub(crate) fn cause_of(
@@ -235,7 +235,7 @@ fn told_of(
 {
     let command = &call.call.command;
     let mut owners = Vec::new(alloc);
-    machine.owner_report(&mut owners)?;
+    owner_report(machine, &mut owners)?;
     let rows = owners.as_slice();
     let decision = decision_of(
         alloc,

@@ -9,7 +9,7 @@ ghost use Rattle.rmm_spec.specs.Lookup.{rec_at, rec_inside};
 ghost use Rattle.rmm_spec.specs.State.{State};
 ghost use Rattle.rmm_spec.specs.Step.{Step, outcome};
 ghost use Rattle.spec_machine.specs.View.{state_of};
-ghost use Rattle.spec_machine.specs.Report.{AddsOwners};
+ghost use Rattle.told.specs.Report.{AddsOwners};
 ghost use Rattle.conditions.specs.Tests.{passes};
 ghost use Rattle.explain.specs.Deciding.{IsApart, IsConditionOf, IsDecision, IsFirstWrong, IsWrongWord};
 ghost use Rattle.explain.specs.Deciding.{words_source as spec_source};
@@ -24,9 +24,9 @@ use conditions::{
 };
 use rmi_view::CommandRef;
 use rmm_spec::{Accepted, Call, Command, Refusal, Reply, Stretch};
-use spec_machine::{Machine, OwnerRow};
+use spec_machine::Machine;
 use std::alloc::{AllocError, Global};
-use told::{Deciding, WrongWord, entry_size};
+use told::{Deciding, OwnerRow, WrongWord, entry_size};
 
 /// What decides, and what is to be watched of the states before.
 #[derive(Drop)]

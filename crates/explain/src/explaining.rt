@@ -12,7 +12,7 @@ ghost use Rattle.rmm_spec.specs.CertificateText.{IsCertificateText};
 ghost use Rattle.rmm_spec.specs.FirstFault.{FirstFault, Passes};
 ghost use Rattle.rmm_spec.specs.HistoryText.{History as Recorded, IsHistoryText};
 ghost use Rattle.rmm_spec.specs.Text.{first_lines};
-ghost use Rattle.spec_machine.specs.Report.{AddsOwners};
+ghost use Rattle.told.specs.Report.{AddsOwners};
 ghost use Rattle.rmm_spec.specs.Judgement.{Judges};
 ghost use Rattle.spec_machine.specs.View.{state_of};
 
@@ -26,7 +26,7 @@ use history::{History, HistoryFault};
 use rmi_codec::next_line;
 use spec_machine::Machine;
 use std::alloc::{AllocError, Global};
-use told::{Explanation, Summary};
+use told::{Explanation, Summary, owner_report};
 
 /// Explains the verdict on a history's text and a certificate's, and keeps what was read of them. Memory is refused only
 /// behind a header.
@@ -132,7 +132,7 @@ fn summary(
     ensures owners { IfOk result (λ told. AddsOwners (state_of machine.now) [] told.owners.items) }
 {
     let mut owners = Vec::new(alloc);
-    machine.owner_report(&mut owners)?;
+    owner_report(machine, &mut owners)?;
     Ok(Summary {
         count,
         calls: calls_of(history),

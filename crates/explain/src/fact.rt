@@ -9,7 +9,7 @@ ghost use Rattle.rmm_spec.specs.Lookup.{has_tag, rec_at, realm_at};
 ghost use Rattle.rmm_spec.specs.State.{State};
 ghost use Rattle.rmm_spec.specs.Step.Table.{ripas_left};
 ghost use Rattle.rmm_spec.specs.Walk as tables;
-ghost use Rattle.spec_machine.specs.Report.{AddsOwners};
+ghost use Rattle.told.specs.Report.{AddsOwners};
 ghost use Rattle.spec_machine.specs.View.{state_of};
 ghost use Rattle.explain.specs.Facts as spec;
 ghost use Rattle.explain.specs.Facts.{IsEntryIn, IsFact, IsFound, IsRealmFact, IsRecFact, entry_seen};
@@ -21,8 +21,8 @@ use memory_map::{
     table_number,
 };
 use rmm_spec::{Entry, EntryTest, Removal, Tag, Version};
-use spec_machine::{Machine, OwnerRow};
-use told::{EntryRead, Fact};
+use spec_machine::Machine;
+use told::{EntryRead, Fact, OwnerRow};
 
 /// How many entries a table has.
 const ENTRIES: u64 = 512;

@@ -2,7 +2,7 @@
 use Rattle.finding.proofs.Common.{◌++◌, ◌∙◌, ◌∷◌, ◌≡◌, ◌≤◌, History, IsHistory, LeadsNowhere, Line, List, Some, State, [], arith, cases_lt, inl, inr, slice_get, subst, sym, ℕ}
 use Rattle.spec_lemmas.proofs.Places.{call_is_event}
 use Rattle.lemmas.proofs.Elements.{slice_get_push_cases}
-use Rattle.machine_cells.specs.Kept.{kept_state}
+use Rattle.spec_machine.specs.Kept.{kept_state}
 use Rattle.verdict_laws.specs.Order.{count_of, Reaches}
 use Rattle.verdict_laws.proofs.Configurations.{nowhere_alike}
 use Rattle.finding.specs.Counts.{AreCounts}

@@ -3,7 +3,7 @@ use Rattle.std.specs.Prelude.{◌≡◌, ℕ, List, slice_get, Some, ◌⊎◌}
 use Rattle.rmm_spec.specs.declared.line.Line.{Line}
 use Rattle.rmm_spec.specs.HistoryText.{History}
 use Rattle.rmm_spec.specs.State.{State}
-use Rattle.machine_cells.specs.Kept.{kept_state}
+use Rattle.spec_machine.specs.Kept.{kept_state}
 use Rattle.verdict_laws.specs.Order.{LeadsNowhere, Reaches}
 use Rattle.finding.specs.Counts.{AreCounts}
 use Rattle.finding.specs.declared.kept.Configuration.{Configuration}

@@ -1,7 +1,7 @@
 //! Configurations that are known to lead nowhere.
 
 ghost use Rattle.std.specs.Prelude.{◌≡◌, ◌<◌, IsTrue};
-ghost use Rattle.machine_cells.specs.Kept.{kept_state};
+ghost use Rattle.spec_machine.specs.Kept.{kept_state};
 ghost use Rattle.spec_machine.specs.View.{state_of};
 ghost use Rattle.finding.specs.Kept.{HasKept};
 

@@ -1,6 +1,13 @@
-pub mod Memory
-pub mod Owners
-pub mod Report
+pub mod Whole
+pub mod Held
+pub mod Placed
+pub mod WholeLaws
+pub mod Single
 pub mod View
+pub mod Found
+pub mod Walks
+pub mod Searches
+pub mod Kept
+pub mod Memory
 pub mod Lending
 pub mod Offers

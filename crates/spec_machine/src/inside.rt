@@ -5,6 +5,7 @@ ghost use Rattle.std.specs.Prelude.{◌≡◌};
 use crate::machine::Machine;
 use crate::reply::{is_done, is_ok, is_refusal};
 use command_rows::Sight;
+use granule_cells::CpuPlace;
 use memory_map::{Pa, entry_ripas};
 use realm_desc::{Realm, Rec};
 use rec_steps::{RecStep, answer_inside, extension_inside, walked_address};
@@ -111,13 +112,24 @@ impl Machine {
         }
     }
 
+    /// The REC that the CPU is inside, where it is inside one.
+    pub(crate) fn rec_inside(&self, cpu: u8) -> Option<Pa>
+        ensures is { is_some result ≡ is_inside (state_of self.now) cpu }
+        ensures at { IfSome result (λ rec. rec ≡ rec_inside (state_of self.now) cpu) }
+    {
+        match self.granules.places.of(cpu) {
+            CpuPlace::Inside { rec, .. } => Some(rec),
+            CpuPlace::Outside => None,
+        }
+    }
+
     // The REC that the CPU is inside.
     fn rec_here(&self, cpu: u8, address: Pa) -> &Rec
         requires inside { IsTrue (is_inside (state_of self.now) cpu) }
         requires at { address ≡ rec_inside (state_of self.now) cpu }
         ensures { (state_of self.now).rec (rec_inside (state_of self.now) cpu) ≡ Some result.now }
     {
-        let Some(rec) = self.granules.rec(address.address()) else {
+        let Some(rec) = self.rec_in(address.address()) else {
             unreachable!()
         };
         rec
@@ -130,7 +142,7 @@ impl Machine {
         ensures { answer_at rec.now.owner (rec_inside (state_of self.now) cpu) result ≡ outcome (state_of self.now) cpu call.now }
     {
         let rd = owner(rec);
-        let Some(realm) = self.granules.realm(rd) else {
+        let Some(realm) = self.realm_in(rd) else {
             unreachable!()
         };
         let ripas = self.ripas_read(realm, rec, call);
@@ -151,7 +163,7 @@ impl Machine {
 
 // A REC's realm, by the address of its descriptor.
 #[tactic(auto, unfolding(realm_desc::specs::View::rec_record))]
-pub(crate) fn owner(rec: &Rec) -> u64
+fn owner(rec: &Rec) -> u64
     ensures { result ≡ rec.now.owner }
 {
     rec.owner.address()

@@ -1,23 +1,33 @@
-//! The specification machine as a program: it holds one state, decides by the rows of commands what is answered, and applies it.
+//! The specification machine as a program: a cell for each granule, decided on by the rows of commands, and changed by what they accept.
 //! It promises to accept an offer exactly where the definitions have a step, unless memory is refused, and then to hold the next state.
-//! An offer that isn't accepted leaves the state as it was. Only `new`, made tables, copies, kept states and reports take memory.
-//! What a clause sees of it is `state_of`, a flat state; how the parts are kept can change under every clause.
+//! An offer that isn't accepted leaves the state as it was. Only `new`, made tables, copies and kept states take memory.
+//! What a clause sees of it is `state_of`, a flat state that its cells stand for; tables are found by links, as a monitor finds them.
 //! The checker, the journal of commits and the search of orders depend on it.
 #![tactic(auto)]
 
+mod beside_changes;
+mod cell_list;
 mod change;
 mod copies;
 mod granules;
 mod inside;
+mod keeping;
 mod lending;
 mod machine;
-mod owner_report;
+mod near;
+mod places;
+mod put_cells;
 mod reaching;
 mod reply;
+mod same;
+mod searches;
 mod sight;
+mod slot;
+mod slot_changes;
+mod slot_list;
+mod walks;
 
 pub use granule_cells::{Cell, CpuPlace, Side};
+pub use keeping::KeptState;
 pub use machine::Machine;
-pub use machine_cells::KeptState;
-pub use owner_report::OwnerRow;
 pub use rmm_spec::{Accepted, Command, FunctionId, Reply};

@@ -1,12 +1,16 @@
 //! The machine, what it answers to a command, and its steps.
 
-ghost use Rattle.machine_cells.specs.Whole.{IsShapedIn};
-ghost use Rattle.machine_cells.specs.Single.{shaped-single};
+ghost use Rattle.spec_machine.specs.Whole.{IsShapedIn};
+ghost use Rattle.spec_machine.specs.Single.{shaped-single};
 
+use crate::cell_list::CellList;
+use crate::granules::Granules;
 use crate::lending::lending_of;
+use crate::near::Near;
+use crate::places::Places;
 use crate::reply::{is_ok, is_refusal};
 use command_rows::{answer_inside, answer_outside};
-use machine_cells::Granules;
+use granule_cells::Side;
 use memory_map::Config;
 use rmi_view::{CommandRef, ReplyRef};
 use rmm_spec::{Accepted, Call, Command, Refusal, Reply};
@@ -33,12 +37,20 @@ impl Machine {
     ghost use Rattle.spec_machine.specs.View.{state_of};
 
     /// A machine of that size in which every granule is the host's.
-    #[tactic(auto, unfolding(crate::specs::View::state_of))]
     pub fn new(alloc: Global, config: Config) -> Result<Machine, AllocError>
         ensures opening { IfOk result (λ machine. state_of machine ≡ opening config) }
         ensures offers { IfOk result (λ machine. machine.offers ≡ 0) }
     {
-        let granules = Granules::new(alloc, config)?;
+        let list = CellList::new(alloc, config)?;
+        let side = Side::new(alloc)?;
+        let places = Places::new(alloc)?;
+        let granules = Granules {
+            alloc,
+            list,
+            side,
+            places,
+            near: Near::new(),
+        };
         Ok(Machine {
             granules,
             offers: 0,
@@ -81,7 +93,6 @@ impl Machine {
 
     /// Takes one step, as `offer` does, with a command and a reply that lie elsewhere.
     #[inline(always)]
-    #[tactic(auto, unfolding(crate::specs::View::state_of))]
     pub fn offer_seen(
         &mut self,
         cpu: u8,

@@ -2,6 +2,7 @@
 
 use crate::machine::Machine;
 use command_rows::Sight;
+use memory_map::Pa;
 use realm_desc::{Realm, Rec};
 use rmm_spec::{Entry, EntryTest, Tag, Version, Walked};
 
@@ -15,49 +16,48 @@ impl Sight for Machine {
 
     ghost has_recs = { λ machine. has_rec (state_of machine) };
 
-    #[tactic(auto, unfolding(crate::specs::View::state_of))]
+    #[tactic(auto, unfolding(crate::specs::Whole::state_in, rmm_spec::specs::Flat::flat_state))]
     fn version(&self) -> Version {
-        self.granules.version()
+        self.granules.list.config.version()
     }
 
     #[inline(always)]
-    #[tactic(auto, unfolding(crate::specs::View::state_of))]
     fn has_tag(&self, address: u64, tag: Tag) -> bool {
-        self.granules.has_tag(address, tag)
+        match self.granules.list.tag(address) {
+            Some(found) => found == tag,
+            None => self.has_tag_untouched(address, tag),
+        }
     }
 
-    #[tactic(auto, unfolding(crate::specs::View::state_of))]
     fn realm(&self, rd: u64) -> Option<Realm> {
-        self.granules.realm(rd).copied()
+        self.realm_in(rd).copied()
     }
 
-    #[tactic(auto, unfolding(crate::specs::View::state_of))]
     fn rec(&self, address: u64) -> Option<Rec> {
-        self.granules.rec(address).copied()
+        self.rec_in(address).copied()
     }
 
-    #[tactic(auto, unfolding(crate::specs::View::state_of))]
     fn walk(&self, rd: u64, ipa: u64, max: u8) -> Walked {
-        self.granules.walk(rd, ipa, max)
+        self.walk_up_to(rd, ipa, max)
     }
 
-    #[tactic(auto, unfolding(crate::specs::View::state_of))]
     fn entry_at(&self, rd: u64, level: u8, number: u64) -> Entry {
-        self.granules.entry(rd, level, number)
+        let table = self.table_here(rd, level, number / 512);
+        self.entry_in(table, rd, level, number)
     }
 
-    #[tactic(auto, unfolding(crate::specs::View::state_of))]
     fn has_entry(&self, rd: u64, level: u8, number: u64, test: EntryTest) -> bool {
-        self.granules.has_entry(rd, level, number, test)
+        match self.table_here(rd, level, number) {
+            Some(table) => table.has(test),
+            None => self.has_unlisted(rd, level, number, test),
+        }
     }
 
-    #[tactic(auto, unfolding(crate::specs::View::state_of))]
     fn has_rec(&self, rd: u64) -> bool {
-        self.granules.has_rec(rd)
+        self.granules.side.rec_count(Pa::new(rd)) > 0
     }
 
-    #[tactic(auto, unfolding(crate::specs::View::state_of))]
     fn is_vmid_used(&self, vmid: u8) -> bool {
-        self.granules.is_vmid_used(vmid)
+        self.granules.side.realm_with(vmid).is_some()
     }
 }

@@ -7,9 +7,9 @@ use crate::before::StateBefore;
 use crate::facts::Fact;
 use crate::flaw::Flaw;
 use crate::named_call::{EarlierStep, NamedCall, UnfinishedCall};
+use crate::owner_rows::OwnerRow;
 use crate::since::{LateCommit, Since};
 use rmm_spec::{Accepted, Reason, Refusal, Reply, Verdict};
-use spec_machine::OwnerRow;
 
 /// A line that isn't in its grammar, counted from 1, its bytes without a newline, and why it isn't.
 #[derive(Clone, Copy)]

@@ -1,8 +1,8 @@
-//! The types of an explanation of a verdict on a history and a certificate, a malformed line's first wrong field among them, and how they
-//! and commands are written for people: a type stands beside the text that it is written as.
-//! It promises that an explanation's verdict is the one that `verdict_of` names, that its texts end, and, of a malformed line, that the
-//! fields before the place are those of some line of the grammar, what is reported as expected there is exactly what some such line has
-//! after them, and the line has none of it (`specs/Wrong.antt`). What else of an explanation is true, `explain` says, which depends on it.
+//! The types of an explanation of a verdict on a history and a certificate, a malformed line's first wrong field and each granule's owner
+//! among them, and how they and commands are written for people: a type stands beside the text that it is written as.
+//! It promises that an explanation's verdict is the one that `verdict_of` names, that owners are the state's, that its texts end, and, of a
+//! malformed line, that the fields before the place are those of some line of the grammar, what is reported as expected there is exactly
+//! what some such line has after them, and the line has none of it (`specs/Wrong.antt`). What else is true, `explain` says on top of it.
 #![tactic(auto)]
 
 mod asked_text;
@@ -17,6 +17,7 @@ mod flaw;
 mod levels;
 mod line_parts;
 mod named_call;
+mod owner_rows;
 mod reply_text;
 mod shown;
 mod since;
@@ -40,6 +41,7 @@ pub use line_parts::{
     wrong_in_certificate_line, wrong_in_command, wrong_in_event, wrong_in_header,
 };
 pub use named_call::{EarlierStep, NamedCall, UnfinishedCall};
+pub use owner_rows::{OwnerRow, owner_report};
 pub use shown::Shown;
 pub use since::{LateCommit, Since};
 pub use wanted::{Role, Wanted};

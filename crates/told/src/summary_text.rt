@@ -2,8 +2,8 @@
 
 use crate::explanation::Summary;
 use crate::facts_text::TagText;
+use crate::owner_rows::OwnerRow;
 use rmm_spec::Tag;
-use spec_machine::OwnerRow;
 use std::fmt;
 
 /// The roles that a granule has in a realm.

@@ -7,6 +7,7 @@ use drawn_scenarios::{DeepLife, Dice, Granules, Sharing, drafted_command, edged_
 use flat_machine::{Stepped, TwoMachines};
 use memory_map::Config;
 use std::alloc::Global;
+use told::owner_report;
 
 /// How many steps a run has.
 const STEPS: u64 = 160;
@@ -65,7 +66,7 @@ fn compare_run(alloc: Global, seed: u64) -> Result<Counts> {
     let mut counts = Counts::default();
     for step in 0..STEPS {
         rows.clear();
-        machines.machine().owner_report(&mut rows)?;
+        owner_report(machines.machine(), &mut rows)?;
         let granules = Granules {
             rows: rows.as_slice(),
             cpu: drawn_cpu(&mut dice, cpus, step < begun),

@@ -3,17 +3,18 @@
 use anyhow::{Result, bail};
 use history::History;
 use rmm_spec::{Event, Tag};
-use spec_machine::{Machine, OwnerRow};
+use spec_machine::Machine;
 use std::alloc::Global;
 use std::fmt;
 use std::fmt::Write;
+use told::{OwnerRow, owner_report};
 
 /// A line for each granule of the machine on which the history's calls were made, each answered before the next.
 pub(crate) fn owners(alloc: Global, history: &str) -> Result<String> {
     let recorded = history::read(alloc, history.as_bytes())?;
     let machine = machine_after(alloc, &recorded)?;
     let mut rows = Vec::new(alloc);
-    machine.owner_report(&mut rows)?;
+    owner_report(&machine, &mut rows)?;
     let mut text = String::new(alloc);
     for row in &rows {
         write!(text, "{}\n", RowText(*row))?;

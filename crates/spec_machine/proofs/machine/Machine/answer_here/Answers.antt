@@ -1,22 +1,21 @@
-use Rattle.spec_machine.proofs.Common.{◌∙◌, Rd, RecRecord, ap, has_tag, is_some, rec_inside, sound_in, state_of, sym}
+use Rattle.spec_machine.proofs.Common.{◌∙◌, Rd, RecRecord, ap, has_tag, is_some, rec_inside, state_of, sym}
 use Rattle.std.proofs.lemmas.Bool.{false≢true}
 use Rattle.rmm_laws.proofs.Applies.{inside_running}
 use Rattle.rec_steps.specs.Held.{IsHeld}
 use Rattle.rec_steps.proofs.Steps.{rec_at-held}
+use Rattle.spec_machine.proofs.Machines.{machine_sound}
 use Rattle.spec_machine.proofs.machine.Machine.answer_here.Goals as goal
 
 pub unreachable-requires : goal.unreachable-requires
-unfolding state_of
 unreachable-requires c =
     let m = c.args.self.now in
     let s = state_of m in
-    let sound = sound_in m.granules m.shaped in
+    let sound = machine_sound m in
     let running = inside_running s c.args.cpu sound c.requires.inside in
     let owner = c.owner-rd.ensures ∙ ap (λ (r : RecRecord). r.owner) (sym (rec_at-held s (rec_inside s c.args.cpu) c.args.rec.now c.requires.held)) in
     false≢true (ap is_some c.in_default.ensures ∙ sound.realms.tagged _ ∙ ap (λ a. has_tag s a Rd) owner ∙ running.owner)
 
 pub returns : goal.returns
-unfolding state_of
 returns c =
     let a = c.args in
     let s = state_of a.self.now in

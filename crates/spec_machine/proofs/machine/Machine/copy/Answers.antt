@@ -1,15 +1,19 @@
 -- What a machine keeps of its granules it keeps of the same granules.
-use Rattle.spec_machine.proofs.Common.{flat_state, state_in, state_of, subst₂, sym}
-use Rattle.shape_laws.specs.Whole.{IsShaped}
+use Rattle.spec_machine.proofs.Made.{same, same-shaped}
 use Rattle.spec_machine.proofs.machine.Machine.copy.Goals as goal
 
 pub invariant_of-result : goal.invariant_of-result
 invariant_of-result c =
-    let granules = c.in_ok-granules.ensures in
-    record { shaped = subst₂ IsShaped (sym granules.config) (sym granules.whole) c.args.self.now.shaped }
+    let m = c.args.self.now in
+    record {
+      shaped = same-shaped m.granules (record m.granules { list = c.in_ok-list.list; side = c.in_ok-side.side; places = c.in_ok-places.places })
+          m.shaped c.in_ok-list.ensures.size
+          (λ i. record { cells = c.in_ok-list.ensures.cells i; side = c.in_ok-side.ensures i; places = c.in_ok-places.ensures i });
+    }
 
 pub returns-clause-state : goal.returns-clause-state
-unfolding state_in state_of
 returns-clause-state c =
-    let granules = c.in_ok-granules.ensures in
-    λ i. flat_state (granules.config i) (granules.whole i).cells
+    let g = c.args.self.now.granules in
+    same g (record g { list = c.in_ok-list.list; side = c.in_ok-side.side; places = c.in_ok-places.places; near = c.new.result })
+    c.in_ok-list.ensures.size
+    (λ i. record { cells = c.in_ok-list.ensures.cells i; side = c.in_ok-side.ensures i; places = c.in_ok-places.ensures i })

@@ -1,14 +1,14 @@
-use Rattle.spec_machine.proofs.Common.{◌∙◌, CarriesOut, ap, outcome, refl, reply_seen, sound_in, state_of, subst, sym}
+use Rattle.spec_machine.proofs.Common.{◌∙◌, CarriesOut, ap, outcome, refl, reply_seen, state_of, subst, sym}
 use Rattle.std.proofs.lemmas.Bool.{false≢true}
 use Rattle.spec_machine.proofs.Memory.{owner_tagged}
 use Rattle.command_rows.proofs.Outcomes.{owned, outcome-outside}
+use Rattle.spec_machine.proofs.Machines.{machine_sound}
 use Rattle.spec_machine.proofs.machine.Machine.offer_outside.Goals as goal
 
 pub answer_outside-requires : goal.answer_outside-requires
-unfolding state_of
 answer_outside-requires c =
     let m = c.args.self.now in
-    record { owned = owned (state_of m) c.args.call.now (owner_tagged (state_of m) (sound_in m.granules m.shaped)) }
+    record { owned = owned (state_of m) c.args.call.now (owner_tagged (state_of m) (machine_sound m)) }
 
 pub take_accepted-requires : goal.take_accepted-requires
 take_accepted-requires c =

@@ -1,12 +1,12 @@
-use Rattle.spec_machine.proofs.Common.{◌∙◌, Ok, ap, changed, command_seen, done_applies, reached_applies, refl, sound_in, state_of, sym}
+use Rattle.spec_machine.proofs.Common.{◌∙◌, Ok, ap, changed, command_seen, done_applies, reached_applies, refl, state_of, sym}
 use Rattle.spec_machine.proofs.Memory.{done_makes, stretch_level}
+use Rattle.spec_machine.proofs.Machines.{machine_sound}
 use Rattle.spec_machine.proofs.machine.Machine.take_accepted.Goals as goal
 
 pub apply-requires : goal.apply-requires
-unfolding state_of
 apply-requires c =
     let is = sym c.requires ∙ ap Ok c.in-Done.is in
-    done_applies (state_of c.args.self.now) c.args.cpu (command_seen c.args.command) _ _ (sound_in c.args.self.now.granules c.args.self.now.shaped) is
+    done_applies (state_of c.args.self.now) c.args.cpu (command_seen c.args.command) _ _ (machine_sound c.args.self.now) is
 
 pub returns-in_default : goal.returns-in_default
 returns-in_default c =
@@ -23,13 +23,12 @@ returns-in_default c =
     }
 
 pub reach-requires : goal.reach-requires
-unfolding state_of
 reach-requires c =
     let s = state_of c.args.self.now in
     let is = sym c.requires ∙ ap Ok c.in-Reaches.is in
     record {
-      level = stretch_level s c.args.cpu (command_seen c.args.command) _ (sound_in c.args.self.now.granules c.args.self.now.shaped) is;
-      can = λ top. reached_applies s c.args.cpu (command_seen c.args.command) _ top (sound_in c.args.self.now.granules c.args.self.now.shaped) is;
+      level = stretch_level s c.args.cpu (command_seen c.args.command) _ (machine_sound c.args.self.now) is;
+      can = λ top. reached_applies s c.args.cpu (command_seen c.args.command) _ top (machine_sound c.args.self.now) is;
     }
 
 pub returns-in-Reaches : goal.returns-in-Reaches

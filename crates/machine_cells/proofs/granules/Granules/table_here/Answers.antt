@@ -1,8 +1,0 @@
-use Rattle.std.proofs.Common.{sym}
-use Rattle.machine_cells.proofs.HeldEntries.{stands-found}
-use Rattle.machine_cells.proofs.granules.Granules.table_here.Goals as goal
-
-pub returns : goal.returns
-returns c =
-    let a = c.args in
-    stands-found a.self.now a.rd a.level a.number c.in-Some.granule _ (sym c.in-Some.ensures) c.table_in.ensures

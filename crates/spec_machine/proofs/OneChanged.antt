@@ -1,0 +1,53 @@
+-- One cell that is read, or changed by what lies in it.
+use Rattle.spec_machine.proofs.Common.{◌==◌, ◌∙◌, ◌≡◌, Bool, CellList, HeldCells, None, RealmRecord, Some, TableRecord, ap, cells_of, eqb-true, false, if◌then◌else◌, none-some, place_in, put, refl, same_Some, sym, true, ℕ}
+use Rattle.rmm_spec.specs.State.{RecRecord}
+use Rattle.rmm_spec.specs.Cell as spec
+use Rattle.shape_laws.specs.Whole.{changed_at, width_in}
+use Rattle.spec_machine.specs.Held.{cell_at, changed_in}
+use Rattle.spec_machine.specs.Placed.{IsPlace}
+use Rattle.spec_machine.specs.Whole.{cells_in}
+use Rattle.spec_machine.proofs.Kept.{cell-read, cells_in-changed}
+
+-- what has a realm's record is its descriptor, and what has a REC's is that REC
+pub realm_cell : (c : spec.Cell) (r : RealmRecord) → Some r ≡ spec.realm_in c → c ≡ spec.Rd r
+realm_cell (spec.Rd other) r is = ap spec.Rd (sym (same_Some r other is))
+realm_cell _ r is = absurd (none-some r (sym is))
+
+pub rec_cell : (c : spec.Cell) (r : RecRecord) → Some r ≡ spec.rec_in c → c ≡ spec.Rec r
+rec_cell (spec.Rec other) r is = ap spec.Rec (sym (same_Some r other is))
+rec_cell _ r is = absurd (none-some r (sym is))
+
+-- a table's place has the width that its cell tells, and what is no table tells 0
+pub table-width : (c : spec.Cell) (t : TableRecord) → Some t ≡ spec.table_in c → width_in c ≡ t.place.width
+table-width (spec.Rtt other) t is = ap (λ (x : TableRecord). x.place.width) (sym (same_Some t other is))
+table-width _ t is = absurd (none-some t (sym is))
+
+pub no_table-width : (c : spec.Cell) → None ≡ spec.table_in c → width_in c ≡ 0
+no_table-width (spec.Rtt t) is = absurd (none-some t is)
+no_table-width _ is = refl
+
+-- a cell that stays as it is
+pub put-same : (cells : ℕ → spec.Cell) (granule : ℕ) (c : spec.Cell) → c ≡ cells granule → cells ≡ put cells granule c
+put-same cells granule c is = λ i other. by other (other == granule) refl i
+  where
+    by : (other : ℕ) (b : Bool) → (other == granule) ≡ b → cells other ≡ (if b then c else cells other)
+    by other true here = ap cells (eqb-true other granule here) ∙ sym is
+    by other false apart = refl
+
+-- nothing changes where the cell is the host's and the change leaves the host's cells
+pub outside-same : (list : CellList) (granule : ℕ) (change : spec.Cell → spec.Cell) → change spec.Undelegated ≡ spec.Undelegated
+    → cells_of list granule ≡ spec.Undelegated → cells_of list ≡ changed_at (cells_of list) granule change
+outside-same list granule change kept none = put-same (cells_of list) granule _ (ap change none ∙ kept ∙ sym none)
+
+-- the cell at a granule's place is what is kept of the granule
+pub place-cell : (list : CellList) (granule place : ℕ) → IsPlace list granule place → cell_at list.cells place ≡ cells_of list granule
+unfolding cells_of
+place-cell list granule place is = cell-read list.config.granules list.places list.cells.items granule place is.granule is.at
+
+-- and where it is changed there, the granule's is
+pub place-changed : (list : CellList) (granule place : ℕ) (new : HeldCells) (change : spec.Cell → spec.Cell) → IsPlace list granule place
+    → new ≡ changed_in list.cells place change
+    → cells_in list.config.granules (place_in list.places) new.items ≡ changed_at (cells_of list) granule change
+unfolding cells_of
+place-changed list granule place new change is changed =
+    cells_in-changed list.config.granules list.places list.cells new granule place change is.granule is.at is.within changed

@@ -1,0 +1,21 @@
+use Rattle.spec_machine.proofs.Common.{◌<◌, ◌∙◌, HousedRec, List, arith, length, seen, subst, sym}
+use Rattle.std.proofs.lemmas.Result.{IfOk-weaker}
+use Rattle.spec_machine.proofs.Slots.{in_slots, rec-below, slot-cell, IsOpened}
+use Rattle.spec_machine.proofs.slot_list.SlotList.copied_cell.Goals as goal
+
+pub index-requires : goal.index-requires
+index-requires c =
+    let o : IsOpened _ _ _ _ _ _ = record { are = c.self.invariant; is = c.self.view_is; within = c.requires } in
+    omega (arith, in_slots o, c.self.inside.slots.ok.0)
+
+pub copied_seen-requires : goal.copied_seen-requires
+copied_seen-requires c number is =
+    let o : IsOpened _ _ _ _ _ _ = record { are = c.self.invariant; is = c.self.view_is; within = c.requires } in
+    subst (λ (recs : List HousedRec). number < length recs) (sym c.as_slice.ensures.value) (rec-below o number c.index.result.now c.index.ensures is)
+
+pub returns : goal.returns
+returns c =
+    let o : IsOpened _ _ _ _ _ _ = record { are = c.self.invariant; is = c.self.view_is; within = c.requires } in
+    IfOk-weaker c.copied_seen.result _ _
+    (λ cell is. is ∙ ((λ i. seen (c.as_slice.ensures.value i) c.index.result.now) ∙ slot-cell o c.index.result.now c.index.ensures))
+    c.copied_seen.ensures

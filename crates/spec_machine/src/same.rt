@@ -1,0 +1,209 @@
+//! Whether a cell is the same as another.
+
+ghost use Rattle.std.specs.Prelude.{◌≡◌, ◌<◌, ℕ, length, IsTrue};
+ghost use Rattle.granule_cells.specs.Seen.{cell_of};
+ghost use Rattle.spec_machine.specs.declared.slot.Slot.TheVariants as kind;
+ghost use Rattle.spec_machine.specs.Held.{seen};
+
+use crate::slot::{HousedRec, Slot};
+use crate::slot_list::SlotList;
+use granule_cells::Cell;
+use measure::Rem;
+use memory_map::Config;
+use realm_desc::{HashAlgorithm, PendingExit, Realm, Rec, RipasRequest, Space};
+use rmm_spec::{Measurement, Place, Version};
+use rtt_table::Table;
+
+/// How many entries a table has.
+const ENTRIES: usize = 512;
+
+/// Whether two machines have the same size and rules.
+pub(crate) fn same_config(one: &Config, other: &Config) -> bool
+    ensures { IsTrue result → one.now ≡ other.now }
+{
+    one.granules() == other.granules()
+        && one.cpus() == other.cpus()
+        && same_version(one.version(), other.version())
+}
+
+fn same_version(one: Version, other: Version) -> bool
+    ensures { IsTrue result → one ≡ other }
+{
+    match one {
+        Version::One => matches!(other, Version::One),
+        Version::Two => matches!(other, Version::Two),
+        Version::Large => matches!(other, Version::Large),
+    }
+}
+
+impl SlotList {
+    ghost use Rattle.std.specs.Prelude.{◌≡◌, ◌<◌, length, IsTrue};
+    ghost use Rattle.granule_cells.specs.Seen.{cell_of};
+    ghost use Rattle.spec_machine.specs.Held.{cell_at};
+
+    /// Whether the cell at a place is the given one.
+    pub(crate) fn has_cell(&self, place: usize, cell: &Cell) -> bool
+        requires { place < length self.now.items }
+        ensures { IsTrue result → cell_of cell.now ≡ cell_at self.now place }
+    {
+        is_seen(cell, &self.slots[place], self.recs.as_slice())
+    }
+}
+
+// Whether a cell is the one that a slot stands for.
+fn is_seen(cell: &Cell, slot: &Slot, recs: &[HousedRec]) -> bool
+    requires { (number : ℕ) → slot.now ≡ kind.Rec number → number < length recs.now }
+    ensures { IsTrue result → cell_of cell.now ≡ seen recs.now slot.now }
+{
+    match slot {
+        Slot::Undelegated => matches!(cell, Cell::Undelegated),
+        Slot::Delegated => matches!(cell, Cell::Delegated),
+        Slot::RecAux => matches!(cell, Cell::RecAux),
+        Slot::Data => matches!(cell, Cell::Data),
+        Slot::Rd(descriptor) => match cell {
+            Cell::Rd(other) => same_realm(other.realm(), descriptor.realm()),
+            _ => false,
+        },
+        Slot::Rec(number) => match cell {
+            Cell::Rec(other) => same_rec(other, &recs[*number].rec),
+            _ => false,
+        },
+        Slot::Rtt(table) => match cell {
+            Cell::Rtt(other) => same_table(other, table),
+            _ => false,
+        },
+    }
+}
+
+#[tactic(auto, unfolding(realm_desc::specs::View::realm_record))]
+fn same_realm(one: &Realm, other: &Realm) -> bool
+    ensures { IsTrue result → one.now ≡ other.now }
+{
+    one.state == other.state
+        && same_space(one.space, other.space)
+        && one.vmid == other.vmid
+        && same_algorithm(one.algorithm, other.algorithm)
+        && one.root == other.root
+        && one.next_index == other.next_index
+        && same_measurement(one.rim.measurement(), other.rim.measurement())
+        && have_same_rems(&one.rems, &other.rems)
+}
+
+fn have_same_rems(one: &[Rem], other: &[Rem]) -> bool
+    ensures { IsTrue result → one.now ≡ other.now }
+{
+    if one.len() != other.len() {
+        return false;
+    }
+    for index in 0..one.len() {
+        if !same_rem(&one[index], &other[index]) {
+            return false;
+        }
+    }
+    true
+}
+
+fn same_rem(one: &Rem, other: &Rem) -> bool
+    ensures { IsTrue result → one.now ≡ other.now }
+{
+    same_measurement(one.measurement(), other.measurement())
+}
+
+fn same_measurement(one: &Measurement, other: &Measurement) -> bool
+    ensures { IsTrue result → one.now ≡ other.now }
+{
+    match one {
+        Measurement::Sha256(bytes) => match other {
+            Measurement::Sha256(second) => bytes == second,
+            Measurement::Sha512(_) => false,
+        },
+        Measurement::Sha512(bytes) => match other {
+            Measurement::Sha512(second) => bytes == second,
+            Measurement::Sha256(_) => false,
+        },
+    }
+}
+
+fn same_algorithm(one: HashAlgorithm, other: HashAlgorithm) -> bool
+    ensures { IsTrue result → one ≡ other }
+{
+    match one {
+        HashAlgorithm::Sha256 => matches!(other, HashAlgorithm::Sha256),
+        HashAlgorithm::Sha512 => matches!(other, HashAlgorithm::Sha512),
+    }
+}
+
+fn same_space(one: Space, other: Space) -> bool
+    ensures { IsTrue result → one ≡ other }
+{
+    match one {
+        Space::Bits39 => matches!(other, Space::Bits39),
+        Space::Bits48 => matches!(other, Space::Bits48),
+    }
+}
+
+#[tactic(auto, unfolding(realm_desc::specs::View::rec_record))]
+fn same_rec(one: &Rec, other: &Rec) -> bool
+    ensures { IsTrue result → one.now ≡ other.now }
+{
+    one.owner == other.owner
+        && one.index == other.index
+        && one.aux0 == other.aux0
+        && one.aux1 == other.aux1
+        && one.runnable == other.runnable
+        && one.cpu == other.cpu
+        && same_request(one.request, other.request)
+        && same_exit(one.pending, other.pending)
+}
+
+fn same_request(one: Option<RipasRequest>, other: Option<RipasRequest>) -> bool
+    ensures { IsTrue result → one ≡ other }
+{
+    match (one, other) {
+        (None, None) => true,
+        (Some(one), Some(other)) => {
+            one.base == other.base && one.top == other.top && one.ripas == other.ripas
+        }
+        _ => false,
+    }
+}
+
+fn same_exit(one: Option<PendingExit>, other: Option<PendingExit>) -> bool
+    ensures { IsTrue result → one ≡ other }
+{
+    match (one, other) {
+        (None, None) => true,
+        (Some(PendingExit::Psci(one)), Some(PendingExit::Psci(other))) => one == other,
+        (Some(PendingExit::RipasChange), Some(PendingExit::RipasChange)) => true,
+        (Some(PendingExit::HostCall(one)), Some(PendingExit::HostCall(other))) => one == other,
+        _ => false,
+    }
+}
+
+fn same_table(one: &Table, other: &Table) -> bool
+    ensures { IsTrue result → one.now ≡ other.now }
+{
+    same_place(one.place(), other.place()) && have_same_entries(one, other)
+}
+
+fn same_place(one: Place, other: Place) -> bool
+    ensures { IsTrue result → one ≡ other }
+{
+    one.rd == other.rd
+        && one.level == other.level
+        && one.base == other.base
+        && one.width == other.width
+}
+
+fn have_same_entries(one: &Table, other: &Table) -> bool
+    ensures { IsTrue result → one.now.entries ≡ other.now.entries }
+{
+    let _fact = one.is_whole();
+    let _fact = other.is_whole();
+    for index in 0..ENTRIES {
+        if one.entry(index) != other.entry(index) {
+            return false;
+        }
+    }
+    true
+}

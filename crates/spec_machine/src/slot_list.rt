@@ -1,0 +1,177 @@
+//! The cells of granules, each at its place.
+
+ghost use Rattle.std.specs.Prelude.{◌≡◌, ◌+◌, ◌<◌, ◌≤◌, ◌++◌, [], length, replicate, vec_len, vec_capacity};
+ghost use Rattle.rmm_spec.specs.Cell as spec;
+ghost use Rattle.spec_machine.specs.declared.slot.Slot.TheVariants.{Undelegated};
+
+use crate::slot::{HousedRec, Slot};
+use realm_desc::{Realm, Rec};
+use rmm_spec::Tag;
+use rtt_table::Table;
+use std::alloc::{AllocError, Global};
+use std::marker::Model;
+
+/// How many granules get their cells together.
+const BLOCK: usize = 512;
+
+/// The cells of granules, each at its place and in sixteen bytes. RECs, which are larger and few, stand beside them without gaps.
+#[derive(Drop)]
+pub(crate) struct SlotList {
+    pub(crate) slots: Vec<Slot>,
+    // with room for as many as there are slots, so that a REC takes no memory
+    pub(crate) recs: Vec<HousedRec>,
+}
+
+impl Model for SlotList {
+    ghost use Rattle.std.specs.Prelude.{vec_capacity};
+    ghost use Rattle.spec_machine.specs.Held.{held_in, AreKept, HeldCells};
+
+    ghost Value = { HeldCells };
+
+    ghost view = { λ s. held_in s.slots.items s.recs.items (vec_capacity s.slots) };
+
+    ghost invariant = { λ s. AreKept s.slots.items s.recs.items (vec_capacity s.slots) (vec_capacity s.recs) };
+}
+
+impl SlotList {
+    ghost use Rattle.std.specs.Prelude.{◌≡◌, ◌+◌, ◌<◌, ◌≤◌, ◌++◌, length, replicate, option_copied, IfOk};
+    ghost use Rattle.rmm_spec.specs.Cell.{rec_in, realm_in, table_in, tag_of};
+    ghost use Rattle.spec_machine.specs.Held.{cell_at, number_of, seen, with_cell, IsVacated};
+
+    /// So many places of granules that are all the host's, and room for further ones.
+    pub(crate) fn new(alloc: Global, count: usize, room: usize) -> Result<SlotList, AllocError>
+        requires { count ≤ room }
+        ensures items { IfOk result (λ list. list.items ≡ replicate count spec.Undelegated) }
+        ensures room { IfOk result (λ list. list.room ≡ room) }
+    {
+        let mut slots = Vec::with_capacity(alloc, room)?;
+        push_free(&mut slots, count);
+        let recs = Vec::with_capacity(alloc, room)?;
+        Ok(SlotList { slots, recs })
+    }
+
+    /// How many places there are.
+    pub(crate) fn len(&self) -> usize
+        ensures { result ≡ length self.now.items }
+    {
+        self.slots.len()
+    }
+
+    /// The places of one block more, of granules that are all the host's.
+    pub(crate) fn push_block(&mut self)
+        requires { length self.old.items + 512 ≤ self.old.room }
+        ensures items { self.new.items ≡ self.old.items ++ replicate 512 spec.Undelegated }
+        ensures len { length self.new.items ≡ length self.old.items + 512 }
+        ensures room { self.new.room ≡ self.old.room }
+    {
+        push_free(&mut self.slots, BLOCK);
+    }
+
+    /// The state of the granule at the place.
+    #[inline(always)]
+    pub(crate) fn tag(&self, place: usize) -> Tag
+        requires { place < length self.now.items }
+        ensures { result ≡ tag_of (cell_at self.now place) }
+    {
+        self.slots[place].tag()
+    }
+
+    /// The realm whose descriptor lies in the granule at the place, where one does.
+    #[inline(always)]
+    pub(crate) fn realm(&self, place: usize) -> Option<&Realm>
+        requires { place < length self.now.items }
+        ensures { option_copied result ≡ realm_in (cell_at self.now place) }
+    {
+        match &self.slots[place] {
+            Slot::Rd(descriptor) => Some(descriptor.realm()),
+            _ => None,
+        }
+    }
+
+    /// The REC whose granule is at the place, where it is one's.
+    #[inline(always)]
+    pub(crate) fn rec(&self, place: usize) -> Option<&Rec>
+        requires { place < length self.now.items }
+        ensures { option_copied result ≡ rec_in (cell_at self.now place) }
+    {
+        match &self.slots[place] {
+            Slot::Rec(number) => Some(&self.recs[*number].rec),
+            _ => None,
+        }
+    }
+
+    /// The table that lies in the granule at the place, where one does.
+    #[inline(always)]
+    pub(crate) fn table(&self, place: usize) -> Option<&Table>
+        requires { place < length self.now.items }
+        ensures { option_copied result ≡ table_in (cell_at self.now place) }
+    {
+        match &self.slots[place] {
+            Slot::Rtt(table) => Some(table),
+            _ => None,
+        }
+    }
+
+    /// Puts in the place what is no REC.
+    #[inline(always)]
+    pub(crate) fn put(&mut self, place: usize, slot: Slot)
+        requires within { place < length self.old.items }
+        requires plain { number_of slot ≡ 0 }
+        ensures { self.new ≡ with_cell self.old place (seen [] slot) }
+    {
+        self.vacate(place);
+        self.slots[place] = slot;
+    }
+
+    /// Puts a REC in the place. There is room for it, since not every slot has one yet.
+    pub(crate) fn put_rec(&mut self, place: usize, rec: Rec)
+        requires { place < length self.old.items }
+        ensures { self.new ≡ with_cell self.old place (spec.Rec rec) }
+    {
+        self.vacate(place);
+        let number = self.recs.len();
+        self.recs.push_reserved(HousedRec { rec, home: place });
+        self.slots[place] = Slot::Rec(number);
+    }
+
+    // The place has no REC any more.
+    #[inline(always)]
+    fn vacate(&mut self, place: usize)
+        requires { place < length self.old.items }
+        ensures { IsVacated self.old self.new place }
+    {
+        if let Slot::Rec(_) = &self.slots[place] {
+            self.remove_rec(place);
+        }
+    }
+
+    // The same, where it has one: the last REC gets the number that is free then.
+    #[cold]
+    #[inline(never)]
+    fn remove_rec(&mut self, place: usize)
+        requires { place < length self.old.items }
+        ensures { IsVacated self.old self.new place }
+    {
+        let Slot::Rec(number) = &self.slots[place] else {
+            return;
+        };
+        let number = *number;
+        let last = self.recs.len() - 1;
+        let home = self.recs[last].home;
+        self.slots[home] = Slot::Rec(number);
+        self.slots[place] = Slot::Undelegated;
+        let _gone = self.recs.swap_remove(number);
+    }
+}
+
+// Puts the slots of so many granules after the others, for which there is room.
+fn push_free(slots: &mut Vec<Slot>, count: usize)
+    requires { vec_len slots.old + count ≤ vec_capacity slots.old }
+    ensures items { slots.new.items ≡ slots.old.items ++ replicate count Undelegated }
+    ensures len { vec_len slots.new ≡ vec_len slots.old + count }
+    ensures capacity { vec_capacity slots.new ≡ vec_capacity slots.old }
+{
+    for _ in 0..count {
+        slots.push_reserved(Slot::Undelegated);
+    }
+}
