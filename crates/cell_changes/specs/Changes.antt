@@ -1,5 +1,5 @@
 -- What a change makes of cells where the table whose entries it changes was found, and what it requires of them.
-use Rattle.std.specs.Prelude.{◌≡◌, ℕ, ◌+◌, ◌-◌, ◌*◌, ◌/◌, ◌%◌, ◌^◌, Bool, true, false, ◌&&◌, ◌==◌, nat_lt, nat_le, IsTrue, List, [], ◌∷◌, Option, Some, None, IfSome, slice_set}
+use Rattle.std.specs.Prelude.{◌≡◌, ℕ, ◌+◌, ◌-◌, ◌*◌, ◌/◌, ◌%◌, ◌^◌, Bool, true, false, ◌&&◌, ◌==◌, nat_lt, nat_le, IsTrue, List, [], ◌∷◌, ◌++◌, Option, Some, None, IfSome, slice_set}
 use Rattle.std.specs.List.{AllByRecursion}
 use Rattle.rmm_spec.specs.declared.change.Change.{Change}
 use Rattle.rmm_spec.specs.declared.change.Change.TheVariants.{Unchanged, Retagged, RealmMade, RealmDestroyed, RecMade, RecDestroyed, RecordsChanged, TableMade, TableDestroyed, EntriesChanged}
@@ -48,6 +48,38 @@ cells_made cells at (TableDestroyed rd level number rtt entry) =
 cells_made cells at (EntriesChanged rd level entries page realm rec) =
     cells_with_entries (cells_with_rec_change (cells_with_realm_change (cells_with_tag_change cells page) realm) rec) (entries_changed entries) at
 
+-- ---- which granules are changed
+
+abbrev pub page_put : Option TagChange → List ℕ
+page_put None = []
+page_put (Some change) = change.granule ∷ []
+
+abbrev pub realm_changed : Option RealmChange → List ℕ
+realm_changed None = []
+realm_changed (Some change) = change.rd ∷ []
+
+abbrev pub rec_changed : Option RecChange → List ℕ
+rec_changed None = []
+rec_changed (Some change) = change.rec ∷ []
+
+abbrev pub table_at : Option ℕ → List ℕ
+table_at None = []
+table_at (Some granule) = granule ∷ []
+
+-- no cell but theirs is changed, or looked at
+abbrev pub granules_changed : Option ℕ → Change → List ℕ
+granules_changed at Unchanged = []
+granules_changed at (Retagged change) = change.granule ∷ []
+granules_changed at (RealmMade rd root width level vmid algo) = rd ∷ root ∷ []
+granules_changed at (RealmDestroyed rd root) = rd ∷ root ∷ []
+granules_changed at (RecMade rd rec mpidr flags aux0 aux1) = rec ∷ aux0 ∷ aux1 ∷ rd ∷ []
+granules_changed at (RecDestroyed rec aux0 aux1) = rec ∷ aux0 ∷ aux1 ∷ []
+granules_changed at (RecordsChanged realm rec) = realm_changed realm ++ rec_changed rec
+granules_changed at (TableMade rd level number rtt entry) = table_at at ++ rtt ∷ []
+granules_changed at (TableDestroyed rd level number rtt entry) = table_at at ++ rtt ∷ []
+granules_changed at (EntriesChanged rd level entries page realm rec) =
+    page_put page ++ (realm_changed realm ++ (rec_changed rec ++ table_at at))
+
 -- ---- what is required
 
 -- a granule that holds nothing
@@ -87,10 +119,6 @@ FitsCells cells (EntriesChanged rd level entries page realm rec) = FitParts cell
 FitsCells cells _ = Unit {0}
 
 -- the granules in which a change puts another cell
-abbrev pub page_put : Option TagChange → List ℕ
-page_put None = []
-page_put (Some change) = change.granule ∷ []
-
 abbrev pub granules_put : Change → List ℕ
 granules_put (Retagged change) = change.granule ∷ []
 granules_put (RealmMade rd root width level vmid algo) = rd ∷ root ∷ []

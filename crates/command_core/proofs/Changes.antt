@@ -1,97 +1,79 @@
 -- What a change makes of what is held is what it makes of each whole that agrees: so what all of them answer is a local step.
-use Rattle.command_core.proofs.Common.{◌&&◌, ◌==◌, ◌∙◌, ◌∷◌, ◌≡◌, Accepted, Bool, Change, Command, Config, Done, Err, HeldCell, Hold, Inside, IsAnswer, IsTrue, List, None, Ok, Option, Outside, Reaches, Rec, Refusal, Result, Some, Unchanged, [], and_parts, ap, call_of, eq-eqb, eqb-true, false, false≢true, flat_state, granules_held, has_tag, if◌then◌else◌, is_granule, is_held, is_some, new_cells, refl, subst, sym, table_placed, tag_number, tag_of, true, ℕ}
+use Rattle.command_core.proofs.Common.{◌&&◌, ◌∙◌, ◌∷◌, ◌≡◌, Accepted, Bool, Change, Command, Config, Done, Err, HeldCell, Hold, Inside, IsAnswer, IsTrue, List, None, Ok, Option, Outside, Reaches, Rec, Refusal, Result, Some, [], and_parts, ap, call_of, false, false≢true, flat_state, granules_held, if◌then◌else◌, is_held, is_some, new_cells, refl, subst, sym, table_placed, true, ℕ}
+use Rattle.std.proofs.Common.{◌-◌, ◌/◌}
 use Rattle.std.specs.Prelude.{Contains}
 use Rattle.std.specs.List.{AllByRecursion}
 use Rattle.std.proofs.lemmas.List.Elements.{All-contains, All-from_recursion}
 use Rattle.rmm_spec.specs.declared.change.RecChange.{RecChange}
 use Rattle.rmm_spec.specs.declared.accepted.Stretch.{Stretch}
-use Rattle.rmm_spec.specs.declared.change.Change.TheVariants.{Retagged, RealmMade, RealmDestroyed, RecMade, RecDestroyed, RecordsChanged, TableMade, TableDestroyed, EntriesChanged}
-use Rattle.rmm_spec.specs.declared.change.RealmUpdate.TheVariants.{RecCounted}
+use Rattle.rmm_spec.specs.declared.change.Change.TheVariants.{RealmDestroyed, RecDestroyed, RecordsChanged, TableMade, TableDestroyed, EntriesChanged}
 use Rattle.rmm_spec.specs.declared.change.RecUpdate.{RecUpdate}
 use Rattle.rmm_spec.specs.declared.change.RecUpdate.TheVariants as update
-use Rattle.rmm_spec.specs.declared.tag.Tag.{Tag}
-use Rattle.rmm_spec.specs.declared.tag.Tag.TheVariants as tag
-use Rattle.rmm_spec.specs.Applicable.{CanApply}
 use Rattle.rmm_spec.specs.Rows.{Row, decided, ok, done, reply_of}
 use Rattle.rmm_spec.specs.Step.{Step, outcome}
-use Rattle.rmm_spec.specs.Cell.{Cell, RecAux, put}
+use Rattle.rmm_spec.specs.Cell.{Cell, put, tables_of}
+use Rattle.rmm_spec.specs.Flat.{table_granule}
+use Rattle.rmm_spec.specs.declared.reply.Reply.{Reply}
 use Rattle.rmm_spec.specs.Shape.{IsWellShaped, CpuPlace}
-use Rattle.rmm_spec.specs.Local.{put_all}
-use Rattle.rmm_laws.proofs.Runs.{done_applies}
+use Rattle.rmm_spec.specs.Local.{LocalStep, put_all}
+use Rattle.rmm_laws.proofs.Entries.{value_there}
 use Rattle.world_laws.proofs.Locals.{unchanged-is_local, step-is_local}
-use Rattle.spec_lemmas.proofs.Maps.{put-other, put-same}
+use Rattle.spec_lemmas.proofs.Maps.{put-same}
 use Rattle.world_laws.proofs.Refusals.{Step-refused}
-use Rattle.shape_laws.specs.Whole.{cells_changed, side_changed, side_without_vmid, side_without_rec, places_changed, places_of_rec, places_with_rec_change, table_changed, cell_with_tag, cell_with_realm, cell_with_rec}
+use Rattle.shape_laws.specs.Whole.{IsShaped, cells_changed, side_changed, side_without_vmid, side_without_rec, places_changed, places_of_rec, places_with_rec_change, table_changed, whole_changed}
+use Rattle.cell_changes.specs.Changes.{cells_made, table_found}
+use Rattle.cell_changes.specs.MadeLaws.{cells_made-changed}
 use Rattle.shape_laws.proofs.Accepted.{done-keeps_shape}
 use Rattle.shape_laws.proofs.Cells.{cell-rec}
-use Rattle.shape_laws.proofs.Ties.{well_shaped-is_sound}
 use Rattle.command_core.specs.Seen.{known_cell}
-use Rattle.command_core.specs.Changed.{place_with_rec, place_with_rec_change, new_place, IsOnCpu, CanChange, CanAnswer, Answers, IsFurthest, given_of}
+use Rattle.command_core.specs.Changed.{place_with_rec, place_with_rec_change, new_place, hold_changed, table_touched, HoldsTables, IsOnCpu, CanChange, CanAnswer, Answers, IsFurthest, given_of}
 use Rattle.world_laws.specs.TableCells.{is_moved, holds_page, holds_realm, holds_rec, holds_change}
 use Rattle.world_laws.proofs.Wholes.{held-contains}
-use Rattle.world_laws.proofs.Steps.{cells-changed as tables-changed}
+use Rattle.world_laws.proofs.Tables.{placed-found}
+use Rattle.command_core.proofs.Stored.{made-put, new-held}
 use Rattle.command_core.proofs.Wholes.{Whole, state, walk_whole, same_at}
-
--- ---- granules with two tags are two
-
-unfolded_tag : (config : Config) (cells : ℕ → Cell) (g : ℕ) (t : Tag)
-    → IsTrue (has_tag (flat_state config cells) g t) → (tag_number (tag_of (cells g)) == tag_number t) ≡ true
-unfolding has_tag flat_state
-unfolded_tag config cells g t has = (and_parts (is_granule config.granules g) (tag_number (tag_of (cells g)) == tag_number t) has).1
-
-tags_apart : (config : Config) (cells : ℕ → Cell) (g h : ℕ) (t u : Tag)
-    → IsTrue (has_tag (flat_state config cells) g t) → IsTrue (has_tag (flat_state config cells) h u)
-    → (tag_number t == tag_number u) ≡ false → g ≡ h → ⊥
-tags_apart config cells g h t u first second apart same =
-    let one = eqb-true (tag_number (tag_of (cells g))) (tag_number t) (unfolded_tag config cells g t first) in
-    let two = eqb-true (tag_number (tag_of (cells h))) (tag_number u) (unfolded_tag config cells h u second) in
-    false≢true (sym apart ∙ eq-eqb (tag_number t) (tag_number u) (sym one ∙ (ap (λ x. tag_number (tag_of (cells x))) same ∙ two)))
 
 -- ---- cells
 
-cells-changed : (config : Config) (cpu : ℕ) (hold : Hold) (w : Whole config cpu hold) (change : Change) → CanApply (state config cpu hold w) change
-    → CanChange cpu hold change → cells_changed config w.cells change ≡ put_all w.cells (new_cells hold.cells change)
-unfolding cells_changed new_cells
-cells-changed config cpu hold w Unchanged can fits = refl
-cells-changed config cpu hold w (Retagged change) can fits =
-    ap (λ c. put w.cells change.granule (cell_with_tag change.tag c)) (same_at config cpu hold w change.granule fits.held.0)
-cells-changed config cpu hold w (RealmMade rd root width level vmid algo) can fits = refl
-cells-changed config cpu hold w (RealmDestroyed rd root) can fits = refl
-cells-changed config cpu hold w (RecMade rd rec mpidr flags aux0 aux1) can fits =
-    let a = tags_apart config w.cells rd rec tag.Rd tag.Delegated can.rd_tag can.rec_tag refl in
-    let b = tags_apart config w.cells rd aux0 tag.Rd tag.Delegated can.rd_tag can.aux0_tag refl in
-    let c = tags_apart config w.cells rd aux1 tag.Rd tag.Delegated can.rd_tag can.aux1_tag refl in
-    let whole = put (put (put w.cells rec (Rec _)) aux0 RecAux) aux1 RecAux in
-    let at_rd : whole rd ≡ known_cell hold.cells rd =
-    put-other (put (put w.cells rec (Rec _)) aux0 RecAux) aux1 RecAux rd c
-    ∙ (put-other (put w.cells rec (Rec _)) aux0 RecAux rd b
-    ∙ (put-other w.cells rec (Rec _) rd a ∙ same_at config cpu hold w rd fits.held.1.1.1.0)) in
-    ap (λ x. put whole rd (cell_with_realm (RecCounted mpidr flags) x)) at_rd
-cells-changed config cpu hold w (RecDestroyed rec aux0 aux1) can fits = refl
-cells-changed config cpu hold w (RecordsChanged None None) can fits = refl
-cells-changed config cpu hold w (RecordsChanged (Some realm) None) can fits =
-    ap (λ c. put w.cells realm.rd (cell_with_realm realm.update c)) (same_at config cpu hold w realm.rd fits.held.0)
-cells-changed config cpu hold w (RecordsChanged None (Some rec)) can fits =
-    ap (λ c. put w.cells rec.rec (cell_with_rec rec.update c)) (same_at config cpu hold w rec.rec fits.held.0)
-cells-changed config cpu hold w (RecordsChanged (Some realm) (Some rec)) can fits =
-    let apart = tags_apart config w.cells rec.rec realm.rd tag.Rec tag.Rd can.1.0 can.0.0 refl in
-    let at_rd = same_at config cpu hold w realm.rd fits.held.0 in
-    let at_rec : put w.cells realm.rd (cell_with_realm realm.update (w.cells realm.rd)) rec.rec ≡ known_cell hold.cells rec.rec =
-    put-other w.cells realm.rd (cell_with_realm realm.update (w.cells realm.rd)) rec.rec apart ∙ same_at config cpu hold w rec.rec fits.held.1.0 in
-    ap (λ c. put (put w.cells realm.rd (cell_with_realm realm.update (w.cells realm.rd))) rec.rec (cell_with_rec rec.update c)) at_rec
-    ∙ ap (λ c. put (put w.cells realm.rd (cell_with_realm realm.update c)) rec.rec (cell_with_rec rec.update (known_cell hold.cells rec.rec))) at_rd
-cells-changed config cpu hold w (TableMade rd level number rtt entry) can fits =
-    tables-changed (walk_whole config cpu hold w) (TableMade rd level number rtt entry) can fits.tables
-cells-changed config cpu hold w (TableDestroyed rd level number rtt entry) can fits =
-    tables-changed (walk_whole config cpu hold w) (TableDestroyed rd level number rtt entry) can fits.tables
-cells-changed config cpu hold w (EntriesChanged rd level entries page realm rec) can fits =
-    tables-changed (walk_whole config cpu hold w) (EntriesChanged rd level entries page realm rec) can fits.tables
+-- the table that is changed lies where the whole has it
+touched-found : (config : Config) (cpu : ℕ) (hold : Hold) (w : Whole config cpu hold) (change : Change) → CanChange cpu hold change
+    → table_found (table_granule config.granules (tables_of w.cells)) change ≡ table_touched hold.cells change
+unfolding holds_change flat_state
+touched-found config cpu hold w change can = by change can.tables
+  where
+    placed : (rd level number : ℕ) → is_some (table_placed hold.cells rd level number) ≡ true
+        → table_granule config.granules (tables_of w.cells) rd level number ≡ table_placed hold.cells rd level number
+    placed rd level number there =
+        let at = value_there (table_placed hold.cells rd level number) there in
+        placed-found (walk_whole config cpu hold w) rd level number at.0 at.1 ∙ sym at.1
+
+    by : (c : Change) → HoldsTables hold.cells c → table_found (table_granule config.granules (tables_of w.cells)) c ≡ table_touched hold.cells c
+    by (TableMade rd level number rtt entry) holds =
+        placed rd (level - 1) (number / 512)
+        (and_parts (is_held rtt hold.cells) (is_some (table_placed hold.cells rd (level - 1) (number / 512))) holds).1
+    by (TableDestroyed rd level number rtt entry) holds =
+        placed rd (level - 1) (number / 512)
+        (and_parts (is_held rtt hold.cells) (is_some (table_placed hold.cells rd (level - 1) (number / 512))) holds).1
+    by (EntriesChanged rd level entries page realm rec) holds =
+        placed rd level (table_changed entries)
+        (and_parts (holds_page hold.cells page && holds_realm hold.cells realm && holds_rec hold.cells rec)
+        (is_some (table_placed hold.cells rd level (table_changed entries))) holds).1
+    by _ holds = refl
+
+cells-changed : (config : Config) (cpu : ℕ) (hold : Hold) (w : Whole config cpu hold) (change : Change) → CanChange cpu hold change
+    → cells_changed config w.cells change ≡ put_all w.cells (new_cells hold.cells change)
+unfolding new_cells
+cells-changed config cpu hold w change can =
+    sym (cells_made-changed config w.cells change)
+    ∙ ap (λ at. cells_made w.cells at change) (touched-found config cpu hold w change can)
+    ∙ made-put (λ g. IsTrue (is_held g hold.cells)) w.cells (known_cell hold.cells) (table_touched hold.cells change) change can.held
+    (λ g has. same_at config cpu hold w g has)
 
 -- ---- beside the cells
 
 side-changed : (config : Config) (cpu : ℕ) (hold : Hold) (w : Whole config cpu hold) (change : Change) → CanChange cpu hold change
     → side_changed w.cells hold.side change ≡ side_changed (known_cell hold.cells) hold.side change
-unfolding side_changed new_cells
+unfolding side_changed
 side-changed config cpu hold w (RealmDestroyed rd root) fits =
     ap (λ c. side_without_vmid hold.side c) (same_at config cpu hold w rd fits.held.0)
 side-changed config cpu hold w (RecDestroyed rec aux0 aux1) fits =
@@ -120,7 +102,7 @@ moved-here cpu place rec _ moved = absurd (false≢true moved)
 
 places-changed : (config : Config) (cpu : ℕ) (hold : Hold) (w : Whole config cpu hold) (change : Change) → CanChange cpu hold change
     → places_changed w.cells w.places change ≡ put w.places cpu (new_place hold.cells hold.place change)
-unfolding places_changed new_place new_cells holds_change
+unfolding places_changed new_place holds_change
 places-changed config cpu hold w (RecordsChanged realm None) fits = same_place config cpu hold w
 places-changed config cpu hold w (RecordsChanged None (Some rec)) fits =
     let same = same_at config cpu hold w rec.rec fits.held.0 in
@@ -169,6 +151,29 @@ all_held hold changes each h has =
     (All-contains (λ (x : HeldCell). IsTrue (is_held x.granule hold.cells)) changes h
     (All-from_recursion (λ (x : HeldCell). IsTrue (is_held x.granule hold.cells)) changes each) has)
 
+-- what every whole that agrees may do, with a change that can be made of what is held, is a local step
+pub change-local : (config : Config) (cpu : ℕ) (command : Command) (given : Reply) (hold : Hold) (change : Change) → CanChange cpu hold change
+    → ((w : Whole config cpu hold)
+    → IsShaped config (whole_changed config (record { cells = w.cells; side = hold.side; places = w.places }) change)
+    × Step (state config cpu hold w) cpu command given (flat_state config (cells_changed config w.cells change)))
+    → LocalStep config cpu command given hold (hold_changed hold change)
+change-local config cpu command given hold change can each =
+    step-is_local config cpu command given hold (new_cells hold.cells change)
+    (side_changed (known_cell hold.cells) hold.side change) (new_place hold.cells hold.place change)
+    (all_held hold (new_cells hold.cells change) (new-held hold.cells change can.held))
+    (λ cells places shaped agrees placed.
+    let w : Whole config cpu hold = record { cells = cells; places = places; shaped = shaped; agrees = agrees; placed = placed } in
+    let kept = each w in
+    let of_cells = cells-changed config cpu hold w change can in (
+      subst (λ whole. Step (flat_state config cells) cpu command given (flat_state config whole)) of_cells kept.1,
+      subst (λ whole. IsWellShaped config (side_changed (known_cell hold.cells) hold.side change)
+          (put places cpu (new_place hold.cells hold.place change)) whole) of_cells
+          (subst (λ p. IsWellShaped config (side_changed (known_cell hold.cells) hold.side change) p (cells_changed config cells change))
+          (places-changed config cpu hold w change can)
+          (subst (λ side. IsWellShaped config side (places_changed cells places change) (cells_changed config cells change))
+          (side-changed config cpu hold w change can) kept.0)),
+    ))
+
 -- what every whole that agrees answers is a local step
 pub answers-local : (config : Config) (cpu : ℕ) (command : Command) (hold : Hold) (answer : Result Accepted Refusal) → CanAnswer cpu hold answer
     → ((w : Whole config cpu hold) → outcome (state config cpu hold w) cpu (call_of command) ≡ answer)
@@ -180,23 +185,8 @@ answers-local config cpu command hold (Err refusal) can each =
     Step-refused (flat_state config cells) cpu command refusal
     (each (record { cells = cells; places = places; shaped = shaped; agrees = agrees; placed = placed })))
 answers-local config cpu command hold (Ok (Done words change)) can each =
-    step-is_local config cpu command (ok words.items) hold (new_cells hold.cells change)
-    (side_changed (known_cell hold.cells) hold.side change) (new_place hold.cells hold.place change)
-    (all_held hold (new_cells hold.cells change) can.held)
-    (λ cells places shaped agrees placed.
-    let w : Whole config cpu hold = record { cells = cells; places = places; shaped = shaped; agrees = agrees; placed = placed } in
-    let s = flat_state config cells in
-    let applies = done_applies s cpu command words.items change (well_shaped-is_sound config hold.side places cells shaped) (each w) in
-    let kept = done-keeps_shape config (record { cells = cells; side = hold.side; places = places }) cpu command words.items change shaped (each w) in
-    let of_cells = cells-changed config cpu hold w change applies can in (
-      subst (λ whole. Step s cpu command (ok words.items) (flat_state config whole)) of_cells kept.1,
-      subst (λ whole. IsWellShaped config (side_changed (known_cell hold.cells) hold.side change)
-          (put places cpu (new_place hold.cells hold.place change)) whole) of_cells
-          (subst (λ p. IsWellShaped config (side_changed (known_cell hold.cells) hold.side change) p (cells_changed config cells change))
-          (places-changed config cpu hold w change can)
-          (subst (λ side. IsWellShaped config side (places_changed cells places change) (cells_changed config cells change))
-          (side-changed config cpu hold w change can) kept.0)),
-    ))
+    change-local config cpu command (ok words.items) hold change can
+    (λ w. done-keeps_shape config (record { cells = w.cells; side = hold.side; places = w.places }) cpu command words.items change w.shaped (each w))
 answers-local config cpu command hold (Ok (Reaches stretch)) can each = absurd can
 
 -- where each whole answers so, none leads to a stretch

@@ -1,5 +1,5 @@
 -- A change that a whole can take is one that can be made of what is held, where its new cells are held.
-use Rattle.command_core.proofs.Common.{◌&&◌, ◌*◌, ◌+◌, ◌<◌, ◌==◌, ◌||◌, ◌∙◌, ◌≡◌, ◌≤◌, Change, Config, HeldCell, Hold, IsTrue, List, None, Option, Rd, RealmRecord, Rec, RecRecord, Some, State, Unchanged, and_from, and_parts, ap, arith, can_make, eq-eqb, false≢true, flat_state, has_tag, hold_of, inl, inr, is_granule, is_held, is_some, length, nat_le, nat_tests, new_cells, realm_at, realm_in, rec_at, refl, subst, sym, table_placed, tag_number, tag_of, true, ℕ}
+use Rattle.command_core.proofs.Common.{◌&&◌, ◌*◌, ◌+◌, ◌<◌, ◌==◌, ◌||◌, ◌∙◌, ◌≡◌, ◌≤◌, Change, Config, HeldCell, Hold, IsTrue, List, None, Option, Rd, RealmRecord, Rec, RecRecord, Some, State, Unchanged, and_from, and_parts, ap, arith, can_make, eq-eqb, false≢true, flat_state, has_tag, hold_of, inl, inr, is_granule, is_held, is_some, length, nat_le, nat_tests, realm_at, realm_in, rec_at, refl, subst, sym, table_placed, tag_number, tag_of, true, ℕ}
 use Rattle.std.proofs.Common.{◌/◌, ◌^◌}
 use Rattle.std.specs.Prelude.{nat_lt, not, ◌%◌}
 use Rattle.std.proofs.lemmas.Bool.{ltb-true}
@@ -156,7 +156,7 @@ parts-held held rd level entries page realm rec holds =
 
 pub applied-fits : (config : Config) (cpu : ℕ) (hold : Hold) (w : Whole config cpu hold) (change : Change) → CanApply (state config cpu hold w) change
     → CanChange cpu hold change → can_make config hold.cells hold.side change ≡ true
-unfolding can_make new_cells
+unfolding can_make
 applied-fits config cpu hold w Unchanged can fits = refl
 applied-fits config cpu hold w (Retagged change) can fits = retag-fits (state config cpu hold w) change can
 applied-fits config cpu hold w (RealmMade rd root width level vmid algo) can fits =

@@ -1,5 +1,5 @@
 -- What is decided without the side table, and borne out by it, is decided with it.
-use Rattle.command_core.proofs.Common.{◌&&◌, ◌∙◌, ◌∷◌, ◌≡◌, ◌≤◌, Accepted, Bool, Call, Change, Command, Config, Done, Err, HeldCell, Hold, Inside, IsAnswer, List, None, Ok, Option, Outside, Reaches, Refusal, Result, Some, State, [], and_parts, ap, are_recs_counted, call_of, can_make, false, false≢true, hold_of, if◌then◌else◌, is_granule, is_none, is_settled, is_some, is_unshaped, is_vmid_listed, misshaped, nat_le, new_cells, not, outside_answer, refl, seen_state, subst, sym, true, ℕ}
+use Rattle.command_core.proofs.Common.{◌&&◌, ◌∙◌, ◌∷◌, ◌≡◌, ◌≤◌, Accepted, Bool, Call, Change, Command, Config, Done, Err, HeldCell, Hold, Inside, IsAnswer, List, None, Ok, Option, Outside, Reaches, Refusal, Result, Some, State, [], and_parts, ap, are_recs_counted, call_of, can_make, false, false≢true, hold_of, if◌then◌else◌, is_granule, is_none, is_settled, is_some, is_unshaped, is_vmid_listed, misshaped, nat_le, not, outside_answer, refl, seen_state, subst, sym, true, ℕ}
 use Rattle.std.proofs.Math.Dec.{leb-zero}
 use Rattle.rmm_spec.specs.HistoryText.{granule_limit}
 use Rattle.rmm_spec.specs.declared.version.Version.TheVariants.{Large}
@@ -30,7 +30,6 @@ settled_answer-makes config cpu c hold few = by (is_unshaped config c hold.place
 -- an answer as a decision
 answer-decision : (config : Config) (cpu : ℕ) (command : Command) (hold : Hold) (answer : Result Accepted Refusal)
     → IsAnswer config cpu command hold answer → CanMakeAnswer hold answer → IsDecision config cpu command hold (given_of answer) (change_of answer)
-unfolding new_cells
 answer-decision config cpu command hold (Err refusal) answered makes = record {
   decides = answered.is_local;
   furthest = answered.is_furthest;

@@ -1,5 +1,5 @@
 -- A command of a CPU inside a REC is answered from that REC and its realm, as they are held, as by every whole that agrees.
-use Rattle.command_core.proofs.Common.{◌&&◌, ◌==◌, ◌||◌, ◌∙◌, ◌∷◌, ◌≡◌, Accepted, Bool, ByHost, Call, Config, Err, HeldCell, Hold, Inside, List, Needed, None, Ok, Rd, RealmRecord, Rec, RecRecord, Some, State, Unchanged, [], and_from, and_parts, ap, cell_in, class_of, eqb-true, false, false≢true, has_tag, has_wrong, if◌then◌else◌, is_granule, is_held, is_none, is_some, named, new_cells, not, realm_at, rec_at, refl, seen_state, subst, sym, tag_of, true, words_of, ℕ}
+use Rattle.command_core.proofs.Common.{◌&&◌, ◌==◌, ◌||◌, ◌∙◌, ◌∷◌, ◌≡◌, Accepted, Bool, ByHost, Call, Config, Err, HeldCell, Hold, Inside, List, Needed, None, Ok, Rd, RealmRecord, Rec, RecRecord, Some, State, Unchanged, [], and_from, and_parts, ap, cell_in, class_of, eqb-true, false, false≢true, has_tag, has_wrong, if◌then◌else◌, is_granule, is_held, is_none, is_some, named, not, realm_at, rec_at, refl, seen_state, subst, sym, tag_of, true, words_of, ℕ}
 use Rattle.std.proofs.Common.{nat_lt}
 use Rattle.std.proofs.lemmas.Bool.{or_parts, not-false}
 use Rattle.rmm_spec.specs.declared.call.Call.TheVariants as call
@@ -153,7 +153,7 @@ settled-inside config c rec rd held ByExit fits settled =
 
 can-call : (cpu : ℕ) (hold : Hold) (s : State) (rec : ℕ) (c : Call) → is_held rec hold.cells ≡ true
     → is_held (rec_at s rec).owner hold.cells ≡ true → CanAnswer cpu hold (answer_to_realm s rec c)
-unfolding answer_to_realm new_cells commands
+unfolding answer_to_realm commands
 can-call cpu hold s rec (call.MeasurementRead index) held owner =
     can-done cpu hold Unchanged _ (with_front s (call.MeasurementRead index) _) (record { held = tt; tables = tt; here = tt })
 can-call cpu hold s rec (call.MeasurementExtend index size values) held owner =
@@ -179,7 +179,7 @@ can-call cpu hold s rec _ held owner = tt
 
 can-exit : (cpu : ℕ) (hold : Hold) (s : State) (rec rd : ℕ)
     → hold.place ≡ Inside rec rd → is_held rec hold.cells ≡ true → CanAnswer cpu hold (rec_exit s rec)
-unfolding rec_exit new_cells
+unfolding rec_exit
 can-exit cpu hold s rec rd place held =
     can-done cpu hold (rec_change rec rec_update.Exited) _ (with_front s call.Exit _) (record { held = (held, tt); tables = tt; here = (rd, place) })
 

@@ -1,5 +1,5 @@
 -- A host's command of which all is held that its rows look up is answered from what is held as by every whole that agrees.
-use Rattle.command_core.proofs.Common.{◌&&◌, ◌||◌, ◌∙◌, ◌∷◌, ◌≡◌, Accepted, ByHost, Call, Config, Err, HeldCell, Hold, List, Needed, None, Option, Rd, RealmRecord, Rec, RecRecord, Refusal, Result, Some, State, [], and_parts, ap, are_recs_counted, cell_in, class_of, false, false≢true, flat_state, has_tag, is_granule, is_held, is_none, is_some, is_vmid_listed, list_all, named, new_cells, outside_answer, realm_at, realm_in, rec_at, refl, seen_state, subst, suc, sym, true, way_of, words_fit, words_of, zero, ℕ}
+use Rattle.command_core.proofs.Common.{◌&&◌, ◌||◌, ◌∙◌, ◌∷◌, ◌≡◌, Accepted, ByHost, Call, Config, Err, HeldCell, Hold, List, Needed, None, Option, Rd, RealmRecord, Rec, RecRecord, Refusal, Result, Some, State, [], and_parts, ap, are_recs_counted, cell_in, class_of, false, false≢true, flat_state, has_tag, is_granule, is_held, is_none, is_some, is_vmid_listed, list_all, named, outside_answer, realm_at, realm_in, rec_at, refl, seen_state, subst, suc, sym, true, way_of, words_fit, words_of, zero, ℕ}
 use Rattle.std.specs.Prelude.{IfSome, slice_get}
 use Rattle.rmm_spec.specs.declared.call.Call.TheVariants as call
 use Rattle.rmm_spec.specs.declared.change.Change.TheVariants.{RealmDestroyed, RecDestroyed}
@@ -122,7 +122,7 @@ root-linked config cpu hold w rd realm found held =
 realm_destroy-told : (config : Config) (cpu : ℕ) (hold : Hold) (rd : ℕ)
     → is_granule config.granules rd ≡ true → (o : Option Cell) → cell_in rd hold.cells ≡ o
     → is_root_held o hold.cells ≡ true → IsToldOutside config cpu hold (call.RealmDestroy rd)
-unfolding outside_answer new_cells way_of named holds_all entered rooted
+unfolding outside_answer way_of named holds_all entered rooted
 realm_destroy-told config cpu hold rd granule (Some (Rd realm)) found root = record {
   can = can-done cpu hold (RealmDestroyed rd (realm_at (seen_state config hold.cells) rd).root) _
       (with_front (seen_state config hold.cells) (call.RealmDestroy rd) _)
@@ -153,7 +153,7 @@ rec_destroy-running s rec tag running = rw (tag, running) refl
 
 rec_destroy-can : (cpu : ℕ) (hold : Hold) (s : State) (rec : ℕ) → is_held rec hold.cells ≡ true → is_held (rec_at s rec).aux0 hold.cells ≡ true
     → is_held (rec_at s rec).aux1 hold.cells ≡ true → CanAnswer cpu hold (rec_destroy s rec)
-unfolding rec_destroy new_cells
+unfolding rec_destroy
 rec_destroy-can cpu hold s rec held aux0 aux1 =
     can-done cpu hold (RecDestroyed rec (rec_at s rec).aux0 (rec_at s rec).aux1) _
     (with_front s (call.RecDestroy rec) _) (record { held = (held, (aux0, (aux1, tt))); tables = tt; here = tt })
@@ -195,7 +195,7 @@ realm-held None is = absurd (false≢true is)
 rec_enter-told : (config : Config) (cpu : ℕ) (hold : Hold) (rec : ℕ)
     → is_granule config.granules rec ≡ true → (o : Option Cell) → cell_in rec hold.cells ≡ o
     → is_owner_held o hold.cells ≡ true → IsToldOutside config cpu hold (call.RecEnter rec)
-unfolding outside_answer answer_of class_of rec_enter new_cells way_of named holds_all entered rooted
+unfolding outside_answer answer_of class_of rec_enter way_of named holds_all entered rooted
 rec_enter-told config cpu hold rec granule (Some (Rec it)) found owner = record {
   can = can-done cpu hold (rec_change rec (Entered cpu)) _ (with_front (seen_state config hold.cells) (call.RecEnter rec) _)
       (record { held = (held, tt); tables = tt; here = refl });
@@ -233,7 +233,7 @@ named-told config cpu hold c walks all no_owner no_root can = record {
 
 pub complete-told : (config : Config) (cpu : ℕ) (hold : Hold) (c : Call) → way_of c ≡ None → class_of c ≡ ByHost → words_fit config c ≡ true
     → is_complete c hold.cells ≡ true → IsToldOutside config cpu hold c
-unfolding way_of class_of is_complete outside_answer answer_of new_cells named entered rooted commands
+unfolding way_of class_of is_complete outside_answer answer_of named entered rooted commands
 complete-told config cpu hold (call.RealmDestroy rd) walks host fits complete =
     realm_destroy-told config cpu hold rd (realm_destroy-granule config rd fits) (cell_in rd hold.cells) refl complete
 complete-told config cpu hold (call.RecDestroy rec) walks host fits complete =

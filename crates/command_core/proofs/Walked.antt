@@ -1,34 +1,39 @@
 -- A host's command whose walk is over is answered from what is held as by every whole that agrees, and its change can be made of that.
-use Rattle.command_core.proofs.Common.{◌&&◌, ◌+◌, ◌||◌, ◌∙◌, ◌∷◌, ◌≡◌, ◌≤◌, Accepted, Bool, Call, Change, Command, Config, Done, Err, Hold, IsAnswer, Needed, None, Ok, Option, Outside, Reaches, Refusal, Result, Some, State, Unchanged, [], and_parts, ap, are_recs_counted, call_of, can_make, class_of, false, false≢true, flat_state, if◌then◌else◌, inl, inr, is_granule, is_none, is_some, is_vmid_listed, list_all, misshaped, named, new_cells, none-some, outside_answer, refl, seen_state, subst, sym, table_placed, true, way_of, way_taken, words_fit, words_of, ℕ}
-use Rattle.std.proofs.Common.{◌⊎◌}
+use Rattle.command_core.proofs.Common.{◌&&◌, ◌+◌, ◌||◌, ◌∙◌, ◌∷◌, ◌≡◌, ◌≤◌, Accepted, Bool, Call, Change, Command, Config, Done, Err, HeldCell, Hold, IsAnswer, IsTrue, List, Needed, None, Ok, Option, Outside, Reaches, Refusal, Result, Some, State, Unchanged, [], and_parts, ap, are_recs_counted, call_of, can_make, class_of, false, false≢true, flat_state, if◌then◌else◌, inl, inr, is_granule, is_held, is_none, is_some, is_vmid_listed, list_all, misshaped, named, none-some, outside_answer, refl, seen_state, subst, sym, table_placed, true, way_of, way_taken, words_fit, words_of, ℕ}
+use Rattle.std.proofs.Common.{◌++◌, ◌-◌, ◌/◌, ◌⊎◌}
+use Rattle.std.specs.List.{AllByRecursion}
+use Rattle.rmm_spec.specs.declared.change.RealmChange.{RealmChange}
+use Rattle.rmm_spec.specs.declared.change.RecChange.{RecChange}
+use Rattle.rmm_spec.specs.declared.change.TagChange.{TagChange}
 use Rattle.std.proofs.lemmas.Bool.{or_cases}
 use Rattle.rmm_spec.specs.declared.accepted.Stretch.{Stretch}
-use Rattle.rmm_spec.specs.declared.accepted.StretchUse.{StretchUse}
-use Rattle.rmm_spec.specs.declared.accepted.StretchUse.TheVariants.{Init, Requested}
 use Rattle.rmm_spec.specs.declared.call.Call.TheVariants as call
 use Rattle.rmm_spec.specs.declared.change.Change.TheVariants.{TableMade, TableDestroyed, EntriesChanged}
 use Rattle.rmm_spec.specs.Rows.{ok, done, all_allowed}
 use Rattle.rmm_spec.specs.Walk.{entry_size, table_number}
 use Rattle.rmm_spec.specs.Step.{answer_of, outcome}
-use Rattle.rmm_spec.specs.Step.Ripas.{IsReached, stretch_change, reached_change}
+use Rattle.rmm_spec.specs.Step.Ripas.{IsReached, reached_change}
 use Rattle.rmm_spec.specs.Local.{LocalStep}
 use Rattle.rmm_laws.proofs.Entries.{value_there}
 use Rattle.rmm_laws.proofs.Runs.{reached_applies}
 use Rattle.world_laws.proofs.Refusals.{outcome-host}
-use Rattle.shape_laws.specs.Whole.{side_changed}
+use Rattle.shape_laws.specs.Whole.{table_changed}
+use Rattle.shape_laws.proofs.Accepted.{reached-keeps_shape}
+use Rattle.cell_changes.specs.Changes.{page_put, realm_changed, rec_changed, table_at}
 use Rattle.shape_laws.proofs.Ties.{well_shaped-is_sound}
 use Rattle.command_rows.specs.Answers.{IsOwned}
-use Rattle.world_laws.specs.TableCells.{holds_change, tables_changed}
+use Rattle.world_laws.specs.TableCells.{holds_change, holds_page, holds_realm, holds_rec, is_moved}
 use Rattle.world_laws.specs.Walking.{Way, keeps_realm, are_told, is_table_error, is_refused_early, seen_answer, is_way_settled}
 use Rattle.world_laws.proofs.AcceptedWalks.{accepted-held}
 use Rattle.world_laws.proofs.Settled.{IsHosts, hosts, stretch-placed, first-reached, reached-told, reached-seen, early-error}
-use Rattle.world_laws.proofs.Steps.{cells-held, reached-local}
+use Rattle.world_laws.proofs.Found.{placed-holds}
+use Rattle.world_laws.proofs.Wholes.{table-is_held}
 use Rattle.world_laws.proofs.ToldWalks.{walk-told, early-told}
-use Rattle.command_core.specs.Changed.{new_place, hold_changed, CanChange, IsFurthest}
+use Rattle.command_core.specs.Changed.{hold_changed, AreHeld, CanChange, IsFurthest}
 use Rattle.command_core.specs.Decided.{made_answer}
 use Rattle.command_core.specs.Furthest.{furthest}
 use Rattle.command_core.specs.Walks.{spare, is_walk_over}
-use Rattle.command_core.proofs.Changes.{is_answer}
+use Rattle.command_core.proofs.Changes.{change-local, is_answer}
 use Rattle.command_core.proofs.Fits.{applied-fits}
 use Rattle.command_core.proofs.Made.{no_whole, made-answered}
 use Rattle.command_core.proofs.Outside.{told_outside}
@@ -55,28 +60,64 @@ untaken-way config c fits none =
 
 -- ---- what is changed
 
--- what a command that walks changes is held, and no CPU enters or leaves a REC
+-- what holds of the granules of two lists holds of those of both
+both-held : (held : List HeldCell) (xs ys : List ℕ) → AllByRecursion (λ g. IsTrue (is_held g held)) xs
+    → AllByRecursion (λ g. IsTrue (is_held g held)) ys → AllByRecursion (λ g. IsTrue (is_held g held)) (xs ++ ys)
+both-held held [] ys first second = second
+both-held held (x ∷ xs) ys first second = (first.0, both-held held xs ys first.1 second)
+
+-- a table that is found among held cells is held
+placed-held : (held : List HeldCell) (rd level number : ℕ) (o : Option ℕ) → table_placed held rd level number ≡ o
+    → AllByRecursion (λ g. IsTrue (is_held g held)) (table_at o)
+placed-held held rd level number None is = tt
+placed-held held rd level number (Some g) is =
+    let holds = placed-holds held rd level number g is in (table-is_held held g holds.table holds.is_held, tt)
+
+-- what a command that walks changes is held
+walk-held : (held : List HeldCell) (change : Change) → holds_change held change ≡ true → AreHeld held change
+unfolding holds_change
+walk-held held Unchanged holds = tt
+walk-held held (TableMade rd level number rtt entry) holds =
+    let parts = and_parts (is_held rtt held) (is_some (table_placed held rd (level - 1) (number / 512))) holds in
+    both-held held (table_at (table_placed held rd (level - 1) (number / 512))) (rtt ∷ [])
+    (placed-held held rd (level - 1) (number / 512) (table_placed held rd (level - 1) (number / 512)) refl) (parts.0, tt)
+walk-held held (TableDestroyed rd level number rtt entry) holds =
+    let parts = and_parts (is_held rtt held) (is_some (table_placed held rd (level - 1) (number / 512))) holds in
+    both-held held (table_at (table_placed held rd (level - 1) (number / 512))) (rtt ∷ [])
+    (placed-held held rd (level - 1) (number / 512) (table_placed held rd (level - 1) (number / 512)) refl) (parts.0, tt)
+walk-held held (EntriesChanged rd level entries page realm rec) holds =
+    let table : Option ℕ = table_placed held rd level (table_changed entries) in
+    let all = and_parts (holds_page held page && holds_realm held realm && holds_rec held rec) (is_some table) holds in
+    let parts = and_parts (holds_page held page && holds_realm held realm) (holds_rec held rec) all.0 in
+    let both = and_parts (holds_page held page) (holds_realm held realm) parts.0 in
+    both-held held (page_put page) (realm_changed realm ++ (rec_changed rec ++ table_at table)) (of_page page both.0)
+    (both-held held (realm_changed realm) (rec_changed rec ++ table_at table) (of_realm realm both.1)
+    (both-held held (rec_changed rec) (table_at table) (of_rec rec parts.1) (placed-held held rd level (table_changed entries) table refl)))
+  where
+    of_page : (o : Option TagChange) → holds_page held o ≡ true → AllByRecursion (λ g. IsTrue (is_held g held)) (page_put o)
+    of_page None has = tt
+    of_page (Some change) has = (has, tt)
+
+    of_realm : (o : Option RealmChange) → holds_realm held o ≡ true → AllByRecursion (λ g. IsTrue (is_held g held)) (realm_changed o)
+    of_realm None has = tt
+    of_realm (Some change) has = (has, tt)
+
+    of_rec : (o : Option RecChange) → holds_rec held o ≡ true → AllByRecursion (λ g. IsTrue (is_held g held)) (rec_changed o)
+    of_rec None has = tt
+    of_rec (Some change) has = ((and_parts (is_held change.rec held) (is_moved change.update) has).0, tt)
+walk-held held _ holds = absurd (false≢true holds)
+
+-- and no CPU enters or leaves a REC
 can-holds : (cpu : ℕ) (hold : Hold) (change : Change) → holds_change hold.cells change ≡ true → CanChange cpu hold change
-unfolding new_cells holds_change
+unfolding holds_change
 can-holds cpu hold Unchanged holds = record { held = tt; tables = tt; here = tt }
 can-holds cpu hold (TableMade rd level number rtt entry) holds =
-    record { held = cells-held hold.cells (TableMade rd level number rtt entry) holds; tables = holds; here = tt }
+    record { held = walk-held hold.cells (TableMade rd level number rtt entry) holds; tables = holds; here = tt }
 can-holds cpu hold (TableDestroyed rd level number rtt entry) holds =
-    record { held = cells-held hold.cells (TableDestroyed rd level number rtt entry) holds; tables = holds; here = tt }
+    record { held = walk-held hold.cells (TableDestroyed rd level number rtt entry) holds; tables = holds; here = tt }
 can-holds cpu hold (EntriesChanged rd level entries page realm rec) holds =
-    record { held = cells-held hold.cells (EntriesChanged rd level entries page realm rec) holds; tables = holds; here = tt }
+    record { held = walk-held hold.cells (EntriesChanged rd level entries page realm rec) holds; tables = holds; here = tt }
 can-holds cpu hold _ holds = absurd (false≢true holds)
-
-stretch-changed : (hold : Hold) (u : StretchUse) (rd level base first last top : ℕ)
-    → tables_changed hold (stretch_change u rd level base first last top) ≡ hold_changed hold (stretch_change u rd level base first last top)
-unfolding new_cells new_place side_changed
-stretch-changed hold Init rd level base first last top = refl
-stretch-changed hold (Requested rec ripas) rd level base first last top = refl
-
-reached-changed : (hold : Hold) (stretch : Stretch) (top : ℕ)
-    → tables_changed hold (reached_change stretch top) ≡ hold_changed hold (reached_change stretch top)
-unfolding reached_change
-reached-changed hold stretch top = stretch-changed hold stretch.purpose stretch.rd stretch.level stretch.base _ _ top
 
 -- ---- where the walk's end is held
 
@@ -127,16 +168,16 @@ ends-answered config cpu command hold (Ok (Reaches stretch)) told settled is eac
           (top, refl, reached-furthest t stretch end seen);
     }
 
-    step : LocalStep config cpu command (ok (top ∷ [])) hold (tables_changed hold change)
-    step = reached-local config cpu command stretch top hold holds (λ cells places shaped agrees placed.
-        let w : Whole config cpu hold = record { cells = cells; places = places; shaped = shaped; agrees = agrees; placed = placed } in
-        (each w, whole w))
+    step : LocalStep config cpu command (ok (top ∷ [])) hold (hold_changed hold change)
+    step = change-local config cpu command (ok (top ∷ [])) hold change (can-holds cpu hold change holds) (λ w.
+        reached-keeps_shape config (record { cells = w.cells; side = hold.side; places = w.places }) cpu command stretch top
+        w.shaped (each w) (whole w))
 
     by : (b : Bool) → can_make config hold.cells hold.side change ≡ b
         → IsAnswer config cpu command hold (if b then Ok (done (top ∷ []) change) else Err misshaped)
     by true fits = record {
       can = can-holds cpu hold change holds;
-      is_local = subst (λ (new : Hold). LocalStep config cpu command (ok (top ∷ [])) hold new) (reached-changed hold stretch top) step;
+      is_local = step;
       is_furthest = furthest_end;
     }
     by false unfit = no_whole config cpu command hold (λ w.

@@ -1,6 +1,6 @@
 -- What a change makes of what one CPU holds: its cells, the side table and its place. It is what the same change makes of a
 -- whole, on the cells that are held. This project's own.
-use Rattle.std.specs.Prelude.{◌≡◌, ℕ, ◌*◌, ◌^◌, ◌≤◌, Bool, true, false, not, ◌&&◌, ◌==◌, nat_lt, nat_le, IsTrue, List, [], ◌∷◌, ◌++◌, length, Option, Some, None, is_some, Result, Ok, Err}
+use Rattle.std.specs.Prelude.{◌≡◌, ℕ, ◌*◌, ◌^◌, ◌≤◌, Bool, true, false, not, ◌&&◌, ◌==◌, nat_lt, nat_le, IsTrue, List, [], ◌∷◌, length, map, Option, Some, None, is_some, Result, Ok, Err}
 use Rattle.std.specs.List.{AllByRecursion}
 use Rattle.rmm_spec.specs.HistoryText.{Config, granule_limit}
 use Rattle.rmm_spec.specs.declared.version.Version.TheVariants.{Large}
@@ -8,11 +8,10 @@ use Rattle.rmm_spec.specs.declared.accepted.Accepted.{Accepted}
 use Rattle.rmm_spec.specs.declared.accepted.Accepted.TheVariants.{Done, Reaches}
 use Rattle.rmm_spec.specs.declared.accepted.Stretch.{Stretch}
 use Rattle.rmm_spec.specs.declared.change.Change.{Change}
-use Rattle.rmm_spec.specs.declared.change.Change.TheVariants.{Unchanged, Retagged, RealmMade, RealmDestroyed, RecMade, RecDestroyed, RecordsChanged, TableMade, TableDestroyed, EntriesChanged}
+use Rattle.rmm_spec.specs.declared.change.Change.TheVariants.{Unchanged, Retagged, RealmMade, RecMade, RecordsChanged, TableMade, TableDestroyed, EntriesChanged}
 use Rattle.rmm_spec.specs.declared.change.RealmChange.{RealmChange}
 use Rattle.rmm_spec.specs.declared.change.RealmUpdate.{RealmUpdate}
 use Rattle.rmm_spec.specs.declared.change.RealmUpdate.TheVariants as realm_update
-use Rattle.rmm_spec.specs.declared.change.RealmUpdate.TheVariants.{RecCounted}
 use Rattle.rmm_spec.specs.declared.change.RecChange.{RecChange}
 use Rattle.rmm_spec.specs.declared.change.RecUpdate.{RecUpdate}
 use Rattle.rmm_spec.specs.declared.change.RecUpdate.TheVariants.{Entered, Exited, RequestMoved}
@@ -21,7 +20,6 @@ use Rattle.rmm_spec.specs.declared.refusal.Refusal.{Refusal}
 use Rattle.rmm_spec.specs.declared.reply.Reply.{Reply}
 use Rattle.rmm_spec.specs.declared.reply.Reply.TheVariants as reply
 use Rattle.rmm_spec.specs.Call.{call_of}
-use Rattle.rmm_spec.specs.Change.{new_realm, new_rec}
 use Rattle.rmm_spec.specs.Flat.{flat_state}
 use Rattle.rmm_spec.specs.Rows.{ok, reply_of}
 use Rattle.rmm_spec.specs.Step.{outcome}
@@ -31,30 +29,30 @@ use Rattle.rmm_spec.specs.Lookup.{is_granule, is_hash}
 use Rattle.rmm_spec.specs.declared.change.TagChange.{TagChange}
 use Rattle.rmm_spec.specs.Step.Terms.{is_space}
 use Rattle.rmm_spec.specs.Walk.{table_size}
-use Rattle.world_laws.specs.TableCells.{realm_cells, rec_cells, table_cells, holds_change}
-use Rattle.rmm_spec.specs.Cell.{Cell, Delegated, Rd, Rec, RecAux, Rtt}
+use Rattle.world_laws.specs.SeenState.{table_placed}
+use Rattle.world_laws.specs.TableCells.{holds_change}
+use Rattle.rmm_spec.specs.Cell.{Cell, Rd, Rec}
 use Rattle.rmm_spec.specs.Shape.{Side, CpuPlace, Outside, Inside, IsWellShaped}
 use Rattle.rmm_spec.specs.Local.{HeldCell, Hold, Agrees, LocalStep}
 use Rattle.world_laws.specs.Replaced.{held_at, replaced_all}
-use Rattle.shape_laws.specs.Whole.{cell_with_tag, cell_with_realm, root_table, side_changed}
-use Rattle.cell_changes.specs.Changes.{fits_entries, is_plain}
+use Rattle.shape_laws.specs.Whole.{side_changed}
+use Rattle.cell_changes.specs.Changes.{cells_made, fits_entries, granules_changed, is_plain, table_found}
 use Rattle.command_core.specs.Seen.{is_held, known_cell}
 
 -- ---- cells
 
--- the cells that a change puts in, each in the place of the one that is held at its granule
+-- the granule of the table whose entries the change changes, where it is held
+abbrev pub table_touched : List HeldCell → Change → Option ℕ
+table_touched held change = table_found (table_placed held) change
+
+-- the granules whose cells the change changes
+abbrev pub granules_touched : List HeldCell → Change → List ℕ
+granules_touched held change = granules_changed (table_touched held change) change
+
+-- the cells that it puts in, each in the place of the one that is held at its granule
 unfoldable pub new_cells : List HeldCell → Change → List HeldCell
-new_cells held Unchanged = []
-new_cells held (Retagged change) = held_at change.granule (cell_with_tag change.tag (known_cell held change.granule)) ∷ []
-new_cells held (RealmMade rd root width level vmid algo) =
-    held_at rd (Rd (new_realm root width level vmid algo)) ∷ held_at root (Rtt (root_table rd width level)) ∷ []
-new_cells held (RealmDestroyed rd root) = held_at rd Delegated ∷ held_at root Delegated ∷ []
-new_cells held (RecMade rd rec mpidr flags aux0 aux1) =
-    held_at rec (Rec (new_rec rd mpidr flags aux0 aux1)) ∷ held_at aux0 RecAux ∷ held_at aux1 RecAux
-    ∷ held_at rd (cell_with_realm (RecCounted mpidr flags) (known_cell held rd)) ∷ []
-new_cells held (RecDestroyed rec aux0 aux1) = held_at rec Delegated ∷ held_at aux0 Delegated ∷ held_at aux1 Delegated ∷ []
-new_cells held (RecordsChanged realm rec) = realm_cells held realm ++ rec_cells held rec
-new_cells held change = table_cells held change
+new_cells held change =
+    map (λ g. held_at g (cells_made (known_cell held) (table_touched held change) change g)) (granules_touched held change)
 
 -- ---- the place
 
@@ -104,12 +102,9 @@ HoldsTables held (TableDestroyed rd level number rtt entry) = IsTrue (holds_chan
 HoldsTables held (EntriesChanged rd level entries page realm rec) = IsTrue (holds_change held (EntriesChanged rd level entries page realm rec))
 HoldsTables held _ = Unit {0}
 
--- each cell that is put in has its place
-abbrev pub AreAllHeld : List HeldCell → List HeldCell → Type 0
-AreAllHeld held changes = AllByRecursion (λ (h : HeldCell). IsTrue (is_held h.granule held)) changes
-
+-- each granule whose cell is changed is held
 abbrev pub AreHeld : List HeldCell → Change → Type 0
-AreHeld held change = AreAllHeld held (new_cells held change)
+AreHeld held change = AllByRecursion (λ g. IsTrue (is_held g held)) (granules_touched held change)
 
 -- and the REC that is entered or left is this CPU's
 pub record CanChange (cpu : ℕ) (hold : Hold) (change : Change) : Type 0 where

@@ -13,5 +13,4 @@ pub mod Decided
 pub mod Foreseen
 pub mod Next
 pub mod Rooms
-pub mod NewCells
 pub mod Pairs

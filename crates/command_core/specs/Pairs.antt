@@ -1,5 +1,5 @@
 -- Granules beside their cells, as held cells.
-use Rattle.std.proofs.Common.{◌≡◌, ℕ, ◌≤◌, List, [], ◌∷◌, length, refl, sym, ap, subst, arith}
+use Rattle.std.proofs.Common.{◌≡◌, ℕ, List, [], ◌∷◌, length, refl, sym, ap, subst, arith}
 use Rattle.std.specs.Prelude.{◌==◌, not, IsTrue}
 use Rattle.std.specs.List.{filter}
 use Rattle.rmm_spec.specs.Local.{HeldCell, granules_held}
@@ -14,7 +14,7 @@ paired [] cells = []
 paired (g ∷ granules) [] = []
 paired (g ∷ granules) (c ∷ cells) = held_at g (cell_of c) ∷ paired granules cells
 
-abbrev pub pair_cells : HeldPairs → List HeldCell
+unfoldable pub pair_cells : HeldPairs → List HeldCell
 pair_cells pairs = paired pairs.granules.items pairs.cells.items
 
 -- what is held but at one granule, in the same order
@@ -31,9 +31,7 @@ length-paired [] cells same = refl
 length-paired (g ∷ granules) [] same = absurd (omega (arith, same))
 length-paired (g ∷ granules) (c ∷ cells) same = omega (arith, length-paired granules cells (omega (arith, same)))
 
-pub pairs-few : (p : HeldPairs) → length (pair_cells p) ≤ 6
-pairs-few p = omega (arith, length-paired p.granules.items p.cells.items p.same_count, p.few)
-
 pub pairs-distinct : (p : HeldPairs) → IsTrue (are_distinct (granules_held (pair_cells p)))
+unfolding pair_cells
 pairs-distinct p =
     subst (λ granules. IsTrue (are_distinct granules)) (sym (granules_held-paired p.granules.items p.cells.items p.same_count)) p.distinct

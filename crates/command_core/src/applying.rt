@@ -8,52 +8,62 @@ ghost use Rattle.rmm_spec.specs.declared.version.Version.TheVariants.{Large};
 ghost use Rattle.rmm_spec.specs.HistoryText.{granule_limit};
 ghost use Rattle.command_core.specs.Changed as spec;
 ghost use Rattle.command_core.specs.Changed.{hold_of, new_cells, AreHeld, CanMake, can_count};
+ghost use Rattle.command_core.specs.Pairs.{pair_cells};
 ghost use Rattle.command_core.specs.Rooms.{IsRoomFor};
 ghost use Rattle.command_core.specs.Seen.{cell_of, place_of, known_cell};
 ghost use Rattle.command_core.specs.Sides.{side_of};
 
-use crate::held::Held;
-use crate::put_cells::put_cells;
-use cell_changes::Room;
+use crate::held_pairs::HeldPairs;
+use crate::held_tables::placed;
+use cell_changes::{Room, table_changed};
 use granule_cells::{Cell, CpuPlace, Side};
 use memory_map::Pa;
 use rmm_spec::{Change, RecChange, RecUpdate};
 
 /// Makes the change, with the room that was taken for it. The records are updated as the definitions say; no memory is taken.
-pub fn apply<H: Held>(
-    held: &mut H,
+pub fn apply(
+    held: &mut HeldPairs,
     side: &mut Side,
     place: &mut CpuPlace,
     change: Change,
     room: Room,
 )
-    requires held { AreHeld (H.cells held.old) change }
-    requires makes { CanMake (hold_of (H.cells held.old) (side_of side.old) (place_of place.old)) change }
+    requires held { AreHeld (pair_cells held.old) change }
+    requires makes { CanMake (hold_of (pair_cells held.old) (side_of side.old) (place_of place.old)) change }
     requires room { IsRoomFor change room }
-    ensures cells { H.cells held.new ≡ replaced_all (H.cells held.old) (new_cells (H.cells held.old) change) }
-    ensures side { side_of side.new ≡ side_changed (known_cell (H.cells held.old)) (side_of side.old) change }
-    ensures place { place_of place.new ≡ spec.new_place (H.cells held.old) (place_of place.old) change }
+    ensures cells { pair_cells held.new ≡ replaced_all (pair_cells held.old) (new_cells (pair_cells held.old) change) }
+    ensures side { side_of side.new ≡ side_changed (known_cell (pair_cells held.old)) (side_of side.old) change }
+    ensures place { place_of place.new ≡ spec.new_place (pair_cells held.old) (place_of place.old) change }
 {
     apply_aside(held, side, &change);
     apply_held(held, place, &change, room);
 }
 
 /// Makes the change of what is held and of the CPU's place, and leaves the side table to `apply_aside`, which comes first.
-pub fn apply_held<H: Held>(held: &mut H, place: &mut CpuPlace, change: &Change, room: Room)
-    requires held { AreHeld (H.cells held.old) change.now }
-    requires fits { IsTrue (spec.fits_cells (H.cells held.old) change.now) }
+pub fn apply_held(held: &mut HeldPairs, place: &mut CpuPlace, change: &Change, room: Room)
+    requires held { AreHeld (pair_cells held.old) change.now }
+    requires fits { IsTrue (spec.fits_cells (pair_cells held.old) change.now) }
     requires room { IsRoomFor change.now room }
-    ensures cells { H.cells held.new ≡ replaced_all (H.cells held.old) (new_cells (H.cells held.old) change.now) }
-    ensures place { place_of place.new ≡ spec.new_place (H.cells held.old) (place_of place.old) change.now }
+    ensures cells { pair_cells held.new ≡ replaced_all (pair_cells held.old) (new_cells (pair_cells held.old) change.now) }
+    ensures place { place_of place.new ≡ spec.new_place (pair_cells held.old) (place_of place.old) change.now }
 {
     *place = place_after(held, *place, change);
-    put_cells(held, change, room);
+    let at = table_touched(held, change);
+    cell_changes::apply(held, change, at, room);
+}
+
+// The granule of the table whose entries the change changes, where it is held.
+fn table_touched(held: &HeldPairs, change: &Change) -> Option<u64>
+    ensures { result ≡ spec.table_touched (pair_cells held.now) change.now }
+{
+    let place = table_changed(change)?;
+    placed(held, place.rd, place.level, place.number)
 }
 
 // Where the CPU is after the change.
 #[tactic(auto, unfolding(crate::specs::Changed::new_place))]
-fn place_after<H: Held>(held: &H, place: CpuPlace, change: &Change) -> CpuPlace
-    ensures { place_of result ≡ spec.new_place (H.cells held.now) (place_of place) change.now }
+fn place_after(held: &HeldPairs, place: CpuPlace, change: &Change) -> CpuPlace
+    ensures { place_of result ≡ spec.new_place (pair_cells held.now) (place_of place) change.now }
 {
     match change {
         Change::RecordsChanged {
@@ -86,9 +96,9 @@ fn place_with_rec(cell: Option<&Cell>, place: CpuPlace, change: &RecChange) -> C
 
 /// Makes the change of the side table: of the VMIDs where a realm is made or destroyed, of the counts where a REC is.
 #[tactic(auto, unfolding(shape_laws::specs::Whole::side_changed, realm_desc::specs::View::realm_record, realm_desc::specs::View::rec_record))]
-pub fn apply_aside<H: Held>(held: &H, side: &mut Side, change: &Change)
+pub fn apply_aside(held: &HeldPairs, side: &mut Side, change: &Change)
     requires { IsTrue (can_count (granule_limit Large) (side_of side.old) change.now) }
-    ensures { side_of side.new ≡ side_changed (known_cell (H.cells held.now)) (side_of side.old) change.now }
+    ensures { side_of side.new ≡ side_changed (known_cell (pair_cells held.now)) (side_of side.old) change.now }
 {
     match *change {
         Change::RealmMade { rd, vmid, .. } => side.set_vmid(vmid, Some(Pa::new(rd))),

@@ -4,7 +4,6 @@ ghost use Rattle.std.specs.Prelude.{◌≡◌, ◌≤◌, ◌^◌};
 ghost use Rattle.rmm_spec.specs.Walk as walk;
 ghost use Rattle.command_core.specs.Furthest as spec;
 
-use crate::held::Held;
 use crate::held_sight::HeldSight;
 use crate::misfits::table_size;
 use memory_map::{can_be_set, entry_number, table_number};
@@ -33,15 +32,16 @@ fn most_set(stretch: &Stretch) -> u64
     entry_number(stretch.level, end.saturating_sub(stretch.base))
 }
 
-impl<'a, H: Held> HeldSight<'a, H> {
+impl<'a> HeldSight<'a> {
     ghost use Rattle.std.specs.Prelude.{◌≡◌, ◌≤◌, ◌<◌, ◌^◌};
     ghost use Rattle.world_laws.specs.SeenState.{seen_state};
     ghost use Rattle.command_core.specs.Furthest as spec;
+    ghost use Rattle.command_core.specs.Pairs.{pair_cells};
 
     // Whether the RIPAS of the entry so many behind the first may be set.
     fn may_set(&self, stretch: &Stretch, behind: u64) -> bool
         requires { behind < 2 ^ 52 }
-        ensures { result ≡ spec.may_set (seen_state self.now.config.now (H.cells self.now.held.now)) stretch.now behind }
+        ensures { result ≡ spec.may_set (seen_state self.now.config.now (pair_cells self.now.held.now)) stretch.now behind }
     {
         let number = entry_number(stretch.level, stretch.base) + behind;
         can_be_set(
@@ -53,7 +53,7 @@ impl<'a, H: Held> HeldSight<'a, H> {
     // How many of the first entries may be set.
     fn leading(&self, stretch: &Stretch, most: u64) -> u64
         requires { most ≤ 2 ^ 52 }
-        ensures { result ≡ spec.leading most (spec.may_set (seen_state self.now.config.now (H.cells self.now.held.now)) stretch.now) }
+        ensures { result ≡ spec.leading most (spec.may_set (seen_state self.now.config.now (pair_cells self.now.held.now)) stretch.now) }
     {
         for behind in 0..most {
             if !self.may_set(stretch, behind) {
@@ -66,7 +66,7 @@ impl<'a, H: Held> HeldSight<'a, H> {
     /// The greatest end up to which the stretch may be set.
     #[tactic(auto, unfolding(crate::specs::Furthest::furthest))]
     pub(crate) fn furthest(&self, stretch: &Stretch) -> u64
-        ensures { result ≡ spec.furthest (seen_state self.now.config.now (H.cells self.now.held.now)) stretch.now }
+        ensures { result ≡ spec.furthest (seen_state self.now.config.now (pair_cells self.now.held.now)) stretch.now }
     {
         stretch.base + self.leading(stretch, most_set(stretch)) * entry_size(stretch.level)
     }

@@ -3,29 +3,30 @@
 ghost use Rattle.std.specs.Prelude.{◌≡◌, ◌≤◌, length, IsTrue};
 ghost use Rattle.command_core.specs.Seen.{are_distinct};
 
-use crate::held::Held;
 use arrayvec::ArrayVec;
 use granule_cells::Cell;
 use memory_map::Pa;
 use std::mem::replace;
 
-/// Up to six cells with their granules, in the order in which they were taken.
+/// Up to six cells, each of a granule of its own, in the order in which they were taken. None is copied.
 #[derive(Drop)]
 pub struct HeldPairs {
     granules: ArrayVec<Pa, 6>,
-    cells: ArrayVec<Cell, 6>,
+    pub(crate) cells: ArrayVec<Cell, 6>,
     ghost same_count: { length cells.items ≡ length granules.items },
     ghost few: { length granules.items ≤ 6 },
     ghost distinct: { IsTrue (are_distinct granules.items) },
 }
 
 impl HeldPairs {
-    ghost use Rattle.std.specs.Prelude.{◌≡◌, ◌++◌, ◌∷◌, [], ◌<◌, ◌==◌, false, Some, length, position};
-    ghost use Rattle.world_laws.specs.Replaced.{held_at};
+    ghost use Rattle.std.specs.Prelude.{◌≡◌, ◌++◌, ◌∷◌, [], ◌<◌, ◌==◌, false, Some, length, option_copied, option_map, position};
+    ghost use Rattle.rmm_spec.specs.Local.{granules_held};
+    ghost use Rattle.world_laws.specs.Replaced.{held_at, replaced_cells};
     ghost use Rattle.command_core.specs.Pairs.{pair_cells, paired, without_cell};
     ghost use Rattle.command_core.specs.Seen.{cell_of, cell_in, is_held};
 
     /// No cells.
+    #[tactic(auto, unfolding(crate::specs::Pairs::pair_cells))]
     pub fn new() -> HeldPairs
         ensures { pair_cells result ≡ [] }
     {
@@ -33,6 +34,31 @@ impl HeldPairs {
             granules: ArrayVec::new(),
             cells: ArrayVec::new(),
         }
+    }
+
+    /// Their granules.
+    pub fn held(&self) -> &[Pa]
+        ensures { result.now ≡ granules_held (pair_cells self.now) }
+    {
+        &self.granules
+    }
+
+    /// The cell of a granule, where it is held.
+    pub fn cell(&self, pa: Pa) -> Option<&Cell>
+        ensures { option_map cell_of (option_copied result) ≡ cell_in pa (pair_cells self.now) }
+    {
+        let place = self.find(pa)?;
+        Some(&self.cells[place])
+    }
+
+    /// Puts another cell in the place of one that is held, and returns that.
+    pub fn swap(&mut self, pa: Pa, cell: Cell) -> Cell
+        requires { IsTrue (is_held pa (pair_cells self.old)) }
+        ensures cells { pair_cells self.new ≡ replaced_cells (pair_cells self.old) pa (cell_of cell) }
+        ensures given { cell_in pa (pair_cells self.old) ≡ Some (cell_of result) }
+    {
+        let place = self.place_of(pa);
+        replace(&mut self.cells[place], cell)
     }
 
     /// One cell more, of a granule that isn't held yet.
@@ -57,6 +83,7 @@ impl HeldPairs {
     }
 
     /// The granules, and the cells in the same order.
+    #[tactic(auto, unfolding(crate::specs::Pairs::pair_cells))]
     pub fn into_parts(self) -> (ArrayVec<Pa, 6>, ArrayVec<Cell, 6>)
         ensures pairs { paired result.0.items result.1.items ≡ pair_cells self }
         ensures same_count { length result.1.items ≡ length result.0.items }
@@ -77,33 +104,9 @@ impl HeldPairs {
     }
 
     // Where a granule stands, if it is held.
-    fn find(&self, pa: Pa) -> Option<usize>
+    pub(crate) fn find(&self, pa: Pa) -> Option<usize>
         ensures { result ≡ position (λ granule. granule == pa) self.now.granules.items }
     {
         self.granules.iter().position(|granule| *granule == pa)
-    }
-}
-
-impl Held for HeldPairs {
-    ghost use Rattle.command_core.specs.Pairs.{pair_cells, pairs-few, pairs-distinct};
-
-    ghost cells = { pair_cells };
-
-    ghost few = { pairs-few };
-
-    ghost distinct = { pairs-distinct };
-
-    fn held(&self) -> &[Pa] {
-        &self.granules
-    }
-
-    fn cell(&self, pa: Pa) -> Option<&Cell> {
-        let place = self.find(pa)?;
-        Some(&self.cells[place])
-    }
-
-    fn swap(&mut self, pa: Pa, cell: Cell) -> Cell {
-        let place = self.place_of(pa);
-        replace(&mut self.cells[place], cell)
     }
 }

@@ -2,7 +2,7 @@
 
 ghost use Rattle.std.specs.Prelude.{◌≡◌};
 
-use crate::held::Held;
+use crate::held_pairs::HeldPairs;
 use crate::held_tables::start_of;
 use crate::taking::is_granule;
 use command_rows::Sight;
@@ -15,22 +15,24 @@ use rmm_spec::{Entry, EntryTest, Tag, Version, Walked};
 /// Held cells with the side table, on a machine of some size. It stands for the one state that the cells tell of. Who plans what to
 /// take has no side table.
 #[derive(Drop)]
-pub(crate) struct HeldSight<'a, H: Held> {
+pub(crate) struct HeldSight<'a> {
     pub(crate) config: &'a Config,
-    pub(crate) held: &'a H,
+    pub(crate) held: &'a HeldPairs,
     pub(crate) side: Option<&'a Side>,
 }
 
-impl<'a, H: Held> HeldSight<'a, H> {
+impl<'a> HeldSight<'a> {
     ghost use Rattle.std.specs.Prelude.{◌≡◌};
     ghost use Rattle.rmm_spec.specs.Cell as whole;
     ghost use Rattle.world_laws.specs.Held.{cell_in};
     ghost use Rattle.world_laws.specs.SeenState as spec;
+    ghost use Rattle.command_core.specs.Pairs.{pair_cells};
 
     // The state of a granule. That of a realm whose table is held is known.
     fn tag(&self, granule: u64) -> Tag
         ensures { result
-            ≡ whole.tag_of (spec.cell_or (cell_in granule (H.cells self.now.held.now)) (spec.realm_behind (H.cells self.now.held.now) granule)) }
+            ≡ whole.tag_of (spec.cell_or (cell_in granule (pair_cells self.now.held.now))
+            (spec.realm_behind (pair_cells self.now.held.now) granule)) }
     {
         match self.held.cell(Pa::new(granule)) {
             Some(cell) => cell.tag(),
@@ -41,7 +43,7 @@ impl<'a, H: Held> HeldSight<'a, H> {
 
     // The realm of which a table is held, with its address space alone.
     fn realm_behind(&self, rd: u64) -> Option<Realm>
-        ensures { result ≡ spec.realm_behind (H.cells self.now.held.now) rd }
+        ensures { result ≡ spec.realm_behind (pair_cells self.now.held.now) rd }
     {
         match self.width(rd) {
             Some(width) => Some(Realm::from_words(0, width, start_of(width), 0, 0)),
@@ -52,7 +54,8 @@ impl<'a, H: Held> HeldSight<'a, H> {
     // The realm in a granule.
     fn realm_in(&self, granule: u64) -> Option<Realm>
         ensures { result
-            ≡ whole.realm_in (spec.cell_or (cell_in granule (H.cells self.now.held.now)) (spec.realm_behind (H.cells self.now.held.now) granule)) }
+            ≡ whole.realm_in (spec.cell_or (cell_in granule (pair_cells self.now.held.now))
+            (spec.realm_behind (pair_cells self.now.held.now) granule)) }
     {
         match self.held.cell(Pa::new(granule)) {
             Some(Cell::Rd(descriptor)) => Some(*descriptor.realm()),
@@ -64,7 +67,8 @@ impl<'a, H: Held> HeldSight<'a, H> {
     // The REC in a granule.
     fn rec_in(&self, granule: u64) -> Option<Rec>
         ensures { result
-            ≡ whole.rec_in (spec.cell_or (cell_in granule (H.cells self.now.held.now)) (spec.realm_behind (H.cells self.now.held.now) granule)) }
+            ≡ whole.rec_in (spec.cell_or (cell_in granule (pair_cells self.now.held.now))
+            (spec.realm_behind (pair_cells self.now.held.now) granule)) }
     {
         match self.held.cell(Pa::new(granule)) {
             Some(Cell::Rec(rec)) => Some(*rec),
@@ -74,12 +78,13 @@ impl<'a, H: Held> HeldSight<'a, H> {
 }
 
 #[tactic(auto, unfolding(world_laws::specs::SeenState::seen_state, rmm_spec::specs::Lookup::has_tag))]
-impl<'a, H: Held> Sight for HeldSight<'a, H> {
+impl<'a> Sight for HeldSight<'a> {
     ghost use Rattle.world_laws.specs.SeenState.{seen_state};
     ghost use Rattle.std.specs.Prelude.{option_map, option_copied};
+    ghost use Rattle.command_core.specs.Pairs.{pair_cells};
     ghost use Rattle.command_core.specs.Sides.{side_of, are_vmids_told, are_recs_told};
 
-    ghost state = { λ s. seen_state s.config.now (H.cells s.held.now) };
+    ghost state = { λ s. seen_state s.config.now (pair_cells s.held.now) };
 
     ghost uses_vmid = { λ s. are_vmids_told (option_map side_of (option_copied s.side)) };
 

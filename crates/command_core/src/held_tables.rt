@@ -9,9 +9,10 @@ ghost use Rattle.rmm_spec.specs.Table.{place_number};
 ghost use Rattle.rmm_spec.specs.Update.{is_same_entry};
 ghost use Rattle.rmm_spec.specs.Walk.{is_table};
 ghost use Rattle.world_laws.specs.SeenState as spec;
+ghost use Rattle.command_core.specs.Pairs.{pair_cells};
 ghost use Rattle.command_core.specs.Standing as standing;
 
-use crate::held::Held;
+use crate::held_pairs::HeldPairs;
 use crate::held_sight::HeldSight;
 use command_words::is_space;
 use granule_cells::Cell;
@@ -75,8 +76,8 @@ fn known_width(width: u8) -> Option<u8>
 }
 
 /// The table that is held in a granule.
-pub(crate) fn table_in<H: Held>(held: &H, granule: Pa) -> Option<&Table>
-    ensures { option_copied result ≡ spec.table_held (H.cells held.now) granule }
+pub(crate) fn table_in(held: &HeldPairs, granule: Pa) -> Option<&Table>
+    ensures { option_copied result ≡ spec.table_held (pair_cells held.now) granule }
 {
     match held.cell(granule) {
         Some(Cell::Rtt(table)) => Some(table),
@@ -85,8 +86,8 @@ pub(crate) fn table_in<H: Held>(held: &H, granule: Pa) -> Option<&Table>
 }
 
 // Whether the table of that place is held in a granule.
-fn is_placed<H: Held>(held: &H, granule: Pa, rd: u64, level: u8, number: u64) -> bool
-    ensures { result ≡ is_table_of rd level number (spec.table_held (H.cells held.now) granule) }
+fn is_placed(held: &HeldPairs, granule: Pa, rd: u64, level: u8, number: u64) -> bool
+    ensures { result ≡ is_table_of rd level number (spec.table_held (pair_cells held.now) granule) }
 {
     match table_in(held, granule) {
         Some(table) => is_at(&table.place(), rd, level, number),
@@ -105,8 +106,8 @@ fn is_at_under(place: &Place, rd: u64, level: u8, number: u64) -> bool
 }
 
 // Whether one that is held in a granule is.
-fn is_under<H: Held>(held: &H, granule: Pa, rd: u64, level: u8, number: u64) -> bool
-    ensures { result ≡ standing.is_under rd level number (spec.table_held (H.cells held.now) granule) }
+fn is_under(held: &HeldPairs, granule: Pa, rd: u64, level: u8, number: u64) -> bool
+    ensures { result ≡ standing.is_under rd level number (spec.table_held (pair_cells held.now) granule) }
 {
     match table_in(held, granule) {
         Some(table) => is_at_under(&table.place(), rd, level, number),
@@ -115,9 +116,10 @@ fn is_under<H: Held>(held: &H, granule: Pa, rd: u64, level: u8, number: u64) -> 
 }
 
 // Whether one that is held in some granule is.
-fn holds_under<H: Held>(held: &H, rd: u64, level: u8, number: u64) -> bool
+fn holds_under(held: &HeldPairs, rd: u64, level: u8, number: u64) -> bool
     ensures { result
-        ≡ list_any (λ granule. standing.is_under rd level number (spec.table_held (H.cells held.now) granule)) (granules_held (H.cells held.now)) }
+        ≡ list_any (λ granule. standing.is_under rd level number (spec.table_held (pair_cells held.now) granule))
+        (granules_held (pair_cells held.now)) }
 {
     held.held()
         .iter()
@@ -125,8 +127,8 @@ fn holds_under<H: Held>(held: &H, rd: u64, level: u8, number: u64) -> bool
 }
 
 // The table that is held in a granule, with all its entries.
-fn whole_table_in<H: Held>(held: &H, granule: Pa) -> Option<&Table>
-    ensures held { option_copied result ≡ spec.table_held (H.cells held.now) granule }
+fn whole_table_in(held: &HeldPairs, granule: Pa) -> Option<&Table>
+    ensures held { option_copied result ≡ spec.table_held (pair_cells held.now) granule }
     ensures whole { IfSome (option_copied result) (λ t. length t.entries ≡ 512) }
 {
     match table_in(held, granule) {
@@ -147,8 +149,8 @@ fn has_dead_link(table: &Table, level: u8) -> bool
 
 /// The granule of the first held table of that place.
 #[tactic(auto, unfolding(world_laws::specs::SeenState::table_placed))]
-pub(crate) fn placed<H: Held>(held: &H, rd: u64, level: u8, number: u64) -> Option<u64>
-    ensures { result ≡ spec.table_placed (H.cells held.now) rd level number }
+pub(crate) fn placed(held: &HeldPairs, rd: u64, level: u8, number: u64) -> Option<u64>
+    ensures { result ≡ spec.table_placed (pair_cells held.now) rd level number }
 {
     held.held().iter().fold(
         None,
@@ -160,7 +162,7 @@ pub(crate) fn placed<H: Held>(held: &H, rd: u64, level: u8, number: u64) -> Opti
     )
 }
 
-impl<'a, H: Held> HeldSight<'a, H> {
+impl<'a> HeldSight<'a> {
     ghost use Rattle.std.specs.Prelude.{◌≡◌, ◌<◌, ◌≤◌, ◌^◌, ◌+◌, ◌||◌, nat_lt, None, if◌then◌else◌, option_copied, option_map, IfSome, IsTrue};
     ghost use Rattle.rmm_spec.specs.Step.Terms.{is_space};
     ghost use Rattle.std.specs.Option.{option_and_then};
@@ -171,11 +173,12 @@ impl<'a, H: Held> HeldSight<'a, H> {
     ghost use Rattle.rmm_spec.specs.declared.tag.Ripas.TheVariants.{Empty};
     ghost use Rattle.world_laws.specs.SeenState as spec;
     ghost use Rattle.world_laws.specs.SeenState.{seen_state};
+    ghost use Rattle.command_core.specs.Pairs.{pair_cells};
     ghost use Rattle.command_core.specs.Standing.{IsHeldTable, is_above_held};
 
     // Whether a table of the realm is held in a granule.
     fn is_of_realm(&self, granule: Pa, rd: u64) -> bool
-        ensures { result ≡ spec.is_of_realm rd (spec.table_held (H.cells self.now.held.now) granule) }
+        ensures { result ≡ spec.is_of_realm rd (spec.table_held (pair_cells self.now.held.now) granule) }
     {
         match table_in(self.held, granule) {
             Some(table) => table.place().rd == rd,
@@ -186,7 +189,7 @@ impl<'a, H: Held> HeldSight<'a, H> {
     /// The granule of the first held table of the realm.
     #[tactic(auto, unfolding(world_laws::specs::SeenState::table_behind))]
     pub(crate) fn behind(&self, rd: u64) -> Option<u64>
-        ensures { result ≡ spec.table_behind (H.cells self.now.held.now) rd }
+        ensures { result ≡ spec.table_behind (pair_cells self.now.held.now) rd }
     {
         self.held.held().iter().fold(
             None,
@@ -197,7 +200,7 @@ impl<'a, H: Held> HeldSight<'a, H> {
     // The width of the table that is held in a granule.
     fn width_in(&self, granule: u64) -> Option<u8>
         ensures known { option_map spec.blank_realm result
-            ≡ option_and_then (λ (t : TableRecord). spec.realm_of_width t.place.width) (spec.table_held (H.cells self.now.held.now) granule) }
+            ≡ option_and_then (λ (t : TableRecord). spec.realm_of_width t.place.width) (spec.table_held (pair_cells self.now.held.now) granule) }
         ensures space { IfSome result (λ w. IsTrue (is_space w (spec.start_of w))) }
     {
         match table_in(self.held, Pa::new(granule)) {
@@ -209,7 +212,7 @@ impl<'a, H: Held> HeldSight<'a, H> {
     /// The width of a realm's address space, where a held table of it tells that.
     #[tactic(auto, unfolding(world_laws::specs::SeenState::realm_behind))]
     pub(crate) fn width(&self, rd: u64) -> Option<u8>
-        ensures known { option_map spec.blank_realm result ≡ spec.realm_behind (H.cells self.now.held.now) rd }
+        ensures known { option_map spec.blank_realm result ≡ spec.realm_behind (pair_cells self.now.held.now) rd }
         ensures space { IfSome result (λ w. IsTrue (is_space w (spec.start_of w))) }
     {
         match self.behind(rd) {
@@ -221,7 +224,7 @@ impl<'a, H: Held> HeldSight<'a, H> {
     // The entry at a place of the table that is held in a granule.
     fn entry_in(&self, granule: Pa, place: usize) -> Option<Entry>
         requires { place < 512 }
-        ensures { result ≡ spec.entry_in place (spec.table_held (H.cells self.now.held.now) granule) }
+        ensures { result ≡ spec.entry_in place (spec.table_held (pair_cells self.now.held.now) granule) }
     {
         match table_in(self.held, granule) {
             Some(table) => Some(table.entry(place)),
@@ -232,7 +235,7 @@ impl<'a, H: Held> HeldSight<'a, H> {
     // The entry of that number, where its table is held.
     #[tactic(auto, unfolding(world_laws::specs::SeenState::entry_held))]
     fn entry_held(&self, rd: u64, level: u8, number: u64) -> Option<Entry>
-        ensures { result ≡ spec.entry_held (H.cells self.now.held.now) rd level number }
+        ensures { result ≡ spec.entry_held (pair_cells self.now.held.now) rd level number }
     {
         match placed(self.held, rd, level, number / ENTRIES) {
             Some(granule) => self.entry_in(Pa::new(granule), (number % ENTRIES) as usize),
@@ -243,7 +246,7 @@ impl<'a, H: Held> HeldSight<'a, H> {
     /// The granule of the table of that place: what the entry above links to, or where that isn't held, that of a held one.
     #[tactic(auto, unfolding(world_laws::specs::SeenState::table_seen))]
     pub(crate) fn table(&self, rd: u64, level: u8, number: u64) -> Option<u64>
-        ensures { result ≡ spec.table_seen (H.cells self.now.held.now) rd level number }
+        ensures { result ≡ spec.table_seen (pair_cells self.now.held.now) rd level number }
     {
         if level == 0 {
             return placed(self.held, rd, level, number);
@@ -257,7 +260,7 @@ impl<'a, H: Held> HeldSight<'a, H> {
     // The leaf of that number, where its table is held.
     #[tactic(auto, unfolding(world_laws::specs::SeenState::leaf_seen))]
     fn leaf(&self, rd: u64, level: u8, number: u64) -> Option<Entry>
-        ensures { result ≡ spec.leaf_seen (H.cells self.now.held.now) rd level number }
+        ensures { result ≡ spec.leaf_seen (pair_cells self.now.held.now) rd level number }
     {
         match self.entry_held(rd, level, number) {
             Some(entry) if !is_table(entry) => Some(entry),
@@ -267,7 +270,7 @@ impl<'a, H: Held> HeldSight<'a, H> {
 
     // The granule of the table below an entry.
     fn below(&self, rd: u64, level: u8, number: u64) -> Option<u64>
-        ensures { result ≡ (if nat_lt level 3 then spec.table_seen (H.cells self.now.held.now) rd (level + 1) number else None) }
+        ensures { result ≡ (if nat_lt level 3 then spec.table_seen (pair_cells self.now.held.now) rd (level + 1) number else None) }
     {
         if level < 3 {
             self.table(rd, level + 1, number)
@@ -279,7 +282,7 @@ impl<'a, H: Held> HeldSight<'a, H> {
     /// The entry of that number at the level.
     #[tactic(auto, unfolding(world_laws::specs::SeenState::seen_state, rmm_spec::specs::Walk::entry_at))]
     pub(crate) fn entry(&self, rd: u64, level: u8, number: u64) -> Entry
-        ensures { result ≡ walks.entry_at (seen_state self.now.config.now (H.cells self.now.held.now)) rd level number }
+        ensures { result ≡ walks.entry_at (seen_state self.now.config.now (pair_cells self.now.held.now)) rd level number }
     {
         linked(self.below(rd, level, number), self.leaf(rd, level, number))
     }
@@ -287,7 +290,7 @@ impl<'a, H: Held> HeldSight<'a, H> {
     /// The deepest level up to `max` at which a table covers the address.
     #[tactic(auto, unfolding(world_laws::specs::SeenState::seen_state))]
     pub(crate) fn reach(&self, rd: u64, ipa: u64, max: u8) -> u8
-        ensures level { result ≡ walks.reach (seen_state self.now.config.now (H.cells self.now.held.now)) rd ipa max }
+        ensures level { result ≡ walks.reach (seen_state self.now.config.now (pair_cells self.now.held.now)) rd ipa max }
         ensures within { result ≤ max }
     {
         if max == 0 {
@@ -301,7 +304,7 @@ impl<'a, H: Held> HeldSight<'a, H> {
 
     // The held table of that number at the level.
     fn table_here(&self, rd: u64, level: u8, number: u64) -> Option<&Table>
-        ensures { IsHeldTable (H.cells self.now.held.now) rd level number (option_copied result) }
+        ensures { IsHeldTable (pair_cells self.now.held.now) rd level number (option_copied result) }
     {
         match placed(self.held, rd, level, number) {
             Some(granule) => whole_table_in(self.held, Pa::new(granule)),
@@ -312,7 +315,7 @@ impl<'a, H: Held> HeldSight<'a, H> {
     // Whether a held table stands under the table of that number.
     #[tactic(auto, unfolding(crate::specs::Standing::is_above_held))]
     fn has_under(&self, rd: u64, level: u8, number: u64) -> bool
-        ensures { result ≡ is_above_held (H.cells self.now.held.now) rd level number }
+        ensures { result ≡ is_above_held (pair_cells self.now.held.now) rd level number }
     {
         if level < 3 {
             holds_under(self.held, rd, level + 1, number)
@@ -323,7 +326,7 @@ impl<'a, H: Held> HeldSight<'a, H> {
 
     // Whether an entry of that table is one that is looked for, where the table isn't held: its entries have nothing, or link to a held one.
     fn finds_unheld(&self, rd: u64, level: u8, number: u64, test: EntryTest) -> bool
-        ensures { result ≡ (walks.passes test (Unassigned Empty) || is_above_held (H.cells self.now.held.now) rd level number) }
+        ensures { result ≡ (walks.passes test (Unassigned Empty) || is_above_held (pair_cells self.now.held.now) rd level number) }
     {
         passes(test, Entry::Unassigned(Ripas::Empty)) || self.has_under(rd, level, number)
     }
@@ -332,7 +335,7 @@ impl<'a, H: Held> HeldSight<'a, H> {
     #[tactic(auto, unfolding(rmm_spec::specs::Walk::has_entry))]
     fn finds_each(&self, rd: u64, level: u8, number: u64, test: EntryTest) -> bool
         requires { number < 2 ^ 52 }
-        ensures { result ≡ walks.has_entry (seen_state self.now.config.now (H.cells self.now.held.now)) rd level number test }
+        ensures { result ≡ walks.has_entry (seen_state self.now.config.now (pair_cells self.now.held.now)) rd level number test }
     {
         for place in 0..ENTRIES {
             if passes(test, self.entry(rd, level, ENTRIES * number + place)) {
@@ -345,7 +348,7 @@ impl<'a, H: Held> HeldSight<'a, H> {
     /// Whether the table of that number has an entry that is looked for.
     pub(crate) fn finds(&self, rd: u64, level: u8, number: u64, test: EntryTest) -> bool
         requires { number < 2 ^ 52 }
-        ensures { result ≡ walks.has_entry (seen_state self.now.config.now (H.cells self.now.held.now)) rd level number test }
+        ensures { result ≡ walks.has_entry (seen_state self.now.config.now (pair_cells self.now.held.now)) rd level number test }
     {
         match self.table_here(rd, level, number) {
             Some(table) => {

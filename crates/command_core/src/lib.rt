@@ -9,18 +9,15 @@ mod applying;
 mod bearing_out;
 mod deciding;
 mod furthest;
-mod held;
 mod held_pairs;
 mod held_sight;
+mod held_store;
 mod held_tables;
 mod laws;
 mod making;
 mod misfits;
-mod new_cells;
 mod next;
 mod planning;
-mod put_cells;
-mod put_tables;
 mod rooms;
 mod settling;
 mod taking;
@@ -33,7 +30,6 @@ pub use bearing_out::bears_out;
 pub use cell_changes::{Room, room_for};
 pub use deciding::{answer, decide, foresee};
 pub use granule_cells::{Cell, CpuPlace, Descriptor, Side};
-pub use held::Held;
 pub use held_pairs::HeldPairs;
 pub use laws::{
     answers_are_local, applied_decisions_are_local, settled_commands_are_ready, tested_takes_rise,

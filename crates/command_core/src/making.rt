@@ -9,11 +9,12 @@ ghost use Rattle.world_laws.specs.TableCells as tables;
 ghost use Rattle.cell_changes.specs.Changes as changes;
 ghost use Rattle.command_core.specs.Changed as spec;
 ghost use Rattle.command_core.specs.Foreseen.{side_or_unlisted};
+ghost use Rattle.command_core.specs.Pairs.{pair_cells};
 ghost use Rattle.command_core.specs.Seen as seen;
 ghost use Rattle.command_core.specs.Seen.{cell_of};
 ghost use Rattle.command_core.specs.Sides.{side_of};
 
-use crate::held::Held;
+use crate::held_pairs::HeldPairs;
 use crate::held_tables::placed;
 use crate::misfits::table_size;
 use crate::taking::{is_granule, is_held};
@@ -84,8 +85,8 @@ fn is_realm_update(update: &RealmUpdate) -> bool
     }
 }
 
-fn fits_realm<H: Held>(held: &H, change: &Option<RealmChange>) -> bool
-    ensures { result ≡ spec.fits_realm_change (H.cells held.now) change.now }
+fn fits_realm(held: &HeldPairs, change: &Option<RealmChange>) -> bool
+    ensures { result ≡ spec.fits_realm_change (pair_cells held.now) change.now }
 {
     match change {
         Some(change) => match held.cell(Pa::new(change.rd)) {
@@ -112,8 +113,8 @@ fn is_rec_update(rec: &Rec, update: &RecUpdate) -> bool
     }
 }
 
-fn fits_rec<H: Held>(held: &H, change: &Option<RecChange>) -> bool
-    ensures { result ≡ spec.fits_rec_change (H.cells held.now) change.now }
+fn fits_rec(held: &HeldPairs, change: &Option<RecChange>) -> bool
+    ensures { result ≡ spec.fits_rec_change (pair_cells held.now) change.now }
 {
     match change {
         Some(change) => match held.cell(Pa::new(change.rec)) {
@@ -125,14 +126,14 @@ fn fits_rec<H: Held>(held: &H, change: &Option<RecChange>) -> bool
 }
 
 // Whether a table that is made or destroyed is held, and the one above.
-fn holds_two<H: Held>(held: &H, rd: u64, level: u8, number: u64, rtt: u64) -> bool
-    ensures { result ≡ (seen.is_held rtt (H.cells held.now) && is_some (table_placed (H.cells held.now) rd (level - 1) (number / 512))) }
+fn holds_two(held: &HeldPairs, rd: u64, level: u8, number: u64, rtt: u64) -> bool
+    ensures { result ≡ (seen.is_held rtt (pair_cells held.now) && is_some (table_placed (pair_cells held.now) rd (level - 1) (number / 512))) }
 {
     is_held(held, Pa::new(rtt)) && placed(held, rd, level.saturating_sub(1), number / 512).is_some()
 }
 
-fn holds_page<H: Held>(held: &H, change: &Option<TagChange>) -> bool
-    ensures { result ≡ tables.holds_page (H.cells held.now) change.now }
+fn holds_page(held: &HeldPairs, change: &Option<TagChange>) -> bool
+    ensures { result ≡ tables.holds_page (pair_cells held.now) change.now }
 {
     match change {
         Some(change) => is_held(held, Pa::new(change.granule)),
@@ -140,8 +141,8 @@ fn holds_page<H: Held>(held: &H, change: &Option<TagChange>) -> bool
     }
 }
 
-fn holds_realm<H: Held>(held: &H, change: &Option<RealmChange>) -> bool
-    ensures { result ≡ tables.holds_realm (H.cells held.now) change.now }
+fn holds_realm(held: &HeldPairs, change: &Option<RealmChange>) -> bool
+    ensures { result ≡ tables.holds_realm (pair_cells held.now) change.now }
 {
     match change {
         Some(change) => is_held(held, Pa::new(change.rd)),
@@ -150,8 +151,8 @@ fn holds_realm<H: Held>(held: &H, change: &Option<RealmChange>) -> bool
 }
 
 // A REC's request is moved on: it neither enters nor leaves.
-fn holds_rec<H: Held>(held: &H, change: &Option<RecChange>) -> bool
-    ensures { result ≡ tables.holds_rec (H.cells held.now) change.now }
+fn holds_rec(held: &HeldPairs, change: &Option<RecChange>) -> bool
+    ensures { result ≡ tables.holds_rec (pair_cells held.now) change.now }
 {
     match change {
         Some(change) => {
@@ -191,9 +192,9 @@ fn fits_entries(change: &EntryChange) -> bool
 
 // Whether the records that are held are what the change updates. What it makes has the shape that its type keeps.
 #[tactic(auto, unfolding(world_laws::specs::TableCells::holds_change))]
-fn fits_cells<H: Held>(held: &H, change: &Change) -> bool
+fn fits_cells(held: &HeldPairs, change: &Change) -> bool
     requires { spec.HasOwnShape change.now }
-    ensures { result ≡ spec.fits_cells (H.cells held.now) change.now }
+    ensures { result ≡ spec.fits_cells (pair_cells held.now) change.now }
 {
     match change {
         Change::Retagged(change) => is_plain(change.tag),
@@ -263,16 +264,16 @@ fn can_count(config: &Config, granules: u64, side: Option<&Side>, change: &Chang
 
 /// Whether the change can be made of what is held, on a machine of so many granules.
 #[tactic(auto, unfolding(crate::specs::Changed::can_make))]
-pub(crate) fn can_make<H: Held>(
+pub(crate) fn can_make(
     config: &Config,
     granules: u64,
-    held: &H,
+    held: &HeldPairs,
     side: Option<&Side>,
     change: &Change,
 ) -> bool
     requires granules { granules ≡ config.now.granules }
     requires shaped { spec.HasOwnShape change.now }
-    ensures { result ≡ spec.can_make config.now (H.cells held.now) (side_or_unlisted (option_map side_of (option_copied side.entry))) change.now }
+    ensures { result ≡ spec.can_make config.now (pair_cells held.now) (side_or_unlisted (option_map side_of (option_copied side.entry))) change.now }
 {
     fits_cells(held, change) && can_count(config, granules, side, change)
 }

@@ -5,7 +5,6 @@ ghost use Rattle.rmm_spec.specs.Walk as walk;
 ghost use Rattle.world_laws.specs.Misfits as spec;
 ghost use Rattle.command_core.specs.Seen.{cell_of};
 
-use crate::held::Held;
 use crate::held_sight::HeldSight;
 use crate::held_tables::table_in;
 use crate::taking::is_granule;
@@ -59,19 +58,21 @@ fn is_other_page(cell: Option<&Cell>) -> bool
     }
 }
 
-impl<'a, H: Held> HeldSight<'a, H> {
+impl<'a> HeldSight<'a> {
     ghost use Rattle.std.specs.Prelude.{◌≡◌, ◌<◌, slice_get};
     ghost use Rattle.std.specs.List.{list_any};
     ghost use Rattle.rmm_spec.specs.Local.{granules_held};
     ghost use Rattle.world_laws.specs.Held.{cell_in};
     ghost use Rattle.world_laws.specs.SeenState.{table_held};
     ghost use Rattle.world_laws.specs.Misfits as spec;
+    ghost use Rattle.command_core.specs.Pairs.{pair_cells};
 
     // Whether what an entry of a table names can't be: no granule, or held as something else.
     #[tactic(auto, unfolding(rmm_spec::specs::Table::place_number))]
     fn is_misfit_part(&self, table: &Table, index: usize) -> bool
         requires { index < 512 }
-        ensures { result ≡ spec.is_misfit_part self.now.config.now (H.cells self.now.held.now) table.now index (slice_get table.now.entries index) }
+        ensures { result
+            ≡ spec.is_misfit_part self.now.config.now (pair_cells self.now.held.now) table.now index (slice_get table.now.entries index) }
     {
         let place = table.place();
         match table.entry(index) {
@@ -95,7 +96,8 @@ impl<'a, H: Held> HeldSight<'a, H> {
 
     // Whether the entry of a held table for the address names such.
     fn is_misfit_table(&self, granule: Pa, ipa: u64) -> bool
-        ensures { result ≡ spec.is_misfit_table self.now.config.now (H.cells self.now.held.now) ipa (table_held (H.cells self.now.held.now) granule) }
+        ensures { result
+            ≡ spec.is_misfit_table self.now.config.now (pair_cells self.now.held.now) ipa (table_held (pair_cells self.now.held.now) granule) }
     {
         match table_in(self.held, granule) {
             Some(table) => self.is_misfit_part(table, index_of(table.place().level, Ipa::new(ipa))),
@@ -106,7 +108,7 @@ impl<'a, H: Held> HeldSight<'a, H> {
     /// Whether the root of a realm that is held can't be.
     #[tactic(auto, unfolding(realm_desc::specs::View::realm_record))]
     pub(crate) fn is_misfit_root(&self, rd: u64) -> bool
-        ensures { result ≡ spec.is_misfit_root self.now.config.now (H.cells self.now.held.now) rd (cell_in rd (H.cells self.now.held.now)) }
+        ensures { result ≡ spec.is_misfit_root self.now.config.now (pair_cells self.now.held.now) rd (cell_in rd (pair_cells self.now.held.now)) }
     {
         match self.held.cell(Pa::new(rd)) {
             Some(Cell::Rd(descriptor)) => {
@@ -127,8 +129,8 @@ impl<'a, H: Held> HeldSight<'a, H> {
 
     // Whether an entry of some held table for the address names such.
     fn has_misfit_table(&self, ipa: u64) -> bool
-        ensures { result ≡ list_any (λ granule. spec.is_misfit_table self.now.config.now (H.cells self.now.held.now) ipa
-            (table_held (H.cells self.now.held.now) granule)) (granules_held (H.cells self.now.held.now)) }
+        ensures { result ≡ list_any (λ granule. spec.is_misfit_table self.now.config.now (pair_cells self.now.held.now) ipa
+            (table_held (pair_cells self.now.held.now) granule)) (granules_held (pair_cells self.now.held.now)) }
     {
         self.held
             .held()
@@ -139,7 +141,7 @@ impl<'a, H: Held> HeldSight<'a, H> {
     /// Whether a walk in the tables of the realm for the address meets such.
     #[tactic(auto, unfolding(world_laws::specs::Misfits::is_misfit_walk))]
     pub(crate) fn is_misfit_walk(&self, rd: u64, ipa: u64) -> bool
-        ensures { result ≡ spec.is_misfit_walk self.now.config.now (H.cells self.now.held.now) rd ipa }
+        ensures { result ≡ spec.is_misfit_walk self.now.config.now (pair_cells self.now.held.now) rd ipa }
     {
         self.is_misfit_root(rd) || self.has_misfit_table(ipa)
     }

@@ -7,6 +7,7 @@ ghost use Rattle.command_core.specs.Seen.{cell_in, place_of};
 ghost use Rattle.command_core.specs.Settled.{is_settled};
 ghost use Rattle.command_core.specs.Plan.{IsPlanned, IsStep, is_ready};
 ghost use Rattle.command_core.specs.Next as spec;
+ghost use Rattle.command_core.specs.Pairs.{pair_cells};
 ghost use Rattle.command_core.specs.Walks as walks;
 ghost use Rattle.rmm_spec.specs.Rows.{all_allowed};
 ghost use Rattle.rmm_spec.specs.Step.Terms as terms;
@@ -14,7 +15,7 @@ ghost use Rattle.rmi_view.specs.Callers.{class_from};
 ghost use Rattle.command_words.specs.Names.{names_of};
 ghost use Rattle.command_words.specs.Ways.{way_seen};
 
-use crate::held::Held;
+use crate::held_pairs::HeldPairs;
 use crate::held_sight::HeldSight;
 use crate::next::Next;
 use crate::settling::is_settled;
@@ -27,8 +28,8 @@ use realm_desc::Rec;
 use rmm_spec::{Call, Command, Tag};
 
 // The granule is taken where that may be; else the last that was taken is freed. Where nothing is held, none can be freed.
-fn taken<H: Held>(next: Pa, may_take: bool, held: &H) -> Next
-    ensures { result ≡ spec.taken next may_take (spec.last_taken (H.cells held.now)) }
+fn taken(next: Pa, may_take: bool, held: &HeldPairs) -> Next
+    ensures { result ≡ spec.taken next may_take (spec.last_taken (pair_cells held.now)) }
 {
     if may_take {
         return Next::Take(next);
@@ -39,40 +40,40 @@ fn taken<H: Held>(next: Pa, may_take: bool, held: &H) -> Next
     }
 }
 
-fn take_named<H: Held>(config: &Config, names: &[Name], held: &H, next: u64) -> Next
-    ensures { result ≡ spec.take_named config.now names.now (H.cells held.now) next }
+fn take_named(config: &Config, names: &[Name], held: &HeldPairs, next: u64) -> Next
+    ensures { result ≡ spec.take_named config.now names.now (pair_cells held.now) next }
 {
     let may_take = is_upward(config, names, held, next);
     taken(Pa::new(next), may_take, held)
 }
 
 // The least that is named and missing is taken. Where none is, another stands for it, which can't be taken then.
-fn take_least<H: Held>(sight: &HeldSight<'_, H>, keeps: bool, names: &[Name], other: u64) -> Next
-    ensures { result ≡ spec.take_least sight.now.config.now keeps names.now (H.cells sight.now.held.now) other }
+fn take_least(sight: &HeldSight<'_>, keeps: bool, names: &[Name], other: u64) -> Next
+    ensures { result ≡ spec.take_least sight.now.config.now keeps names.now (pair_cells sight.now.held.now) other }
 {
     let next = least_missing(sight, keeps, names).unwrap_or(other);
     take_named(sight.config, names, sight.held, next)
 }
 
-fn take_part<H: Held>(
+fn take_part(
     config: &Config,
     names: &[Name],
-    held: &H,
+    held: &HeldPairs,
     above: Pa,
     index: usize,
     next: Pa,
 ) -> Next
     requires { index < 512 }
-    ensures { result ≡ spec.take_part config.now names.now (H.cells held.now) above index next }
+    ensures { result ≡ spec.take_part config.now names.now (pair_cells held.now) above index next }
 {
     let may_take = is_downward(config, names, held, above, index, next);
     taken(next, may_take, held)
 }
 
 // The part that a walk wants is taken. Where there is none, the realm stands for it, which can't be taken then.
-fn take_wanted<H: Held>(sight: &HeldSight<'_, H>, call: &Call, way: &Way, names: &[Name]) -> Next
-    ensures { result ≡ spec.take_wanted sight.now.config.now names.now (H.cells sight.now.held.now) way.now.rd
-        (walks.wanted sight.now.config.now call.now (H.cells sight.now.held.now) (way_seen way.now)) }
+fn take_wanted(sight: &HeldSight<'_>, call: &Call, way: &Way, names: &[Name]) -> Next
+    ensures { result ≡ spec.take_wanted sight.now.config.now names.now (pair_cells sight.now.held.now) way.now.rd
+        (walks.wanted sight.now.config.now call.now (pair_cells sight.now.held.now) (way_seen way.now)) }
 {
     match sight.wanted(call, way) {
         None => taken(Pa::new(way.rd), false, sight.held),
@@ -88,16 +89,10 @@ fn take_wanted<H: Held>(sight: &HeldSight<'_, H>, call: &Call, way: &Way, names:
 }
 
 // What the plan frees goes before what the walk wants.
-fn free_or_take<H: Held>(
-    sight: &HeldSight<'_, H>,
-    call: &Call,
-    way: &Way,
-    names: &[Name],
-    keeps: bool,
-) -> Next
-    ensures { result ≡ spec.free_or_take sight.now.config.now names.now (H.cells sight.now.held.now) way.now.rd
-        (walks.spare sight.now.config.now keeps (H.cells sight.now.held.now) (way_seen way.now))
-        (walks.wanted sight.now.config.now call.now (H.cells sight.now.held.now) (way_seen way.now)) }
+fn free_or_take(sight: &HeldSight<'_>, call: &Call, way: &Way, names: &[Name], keeps: bool) -> Next
+    ensures { result ≡ spec.free_or_take sight.now.config.now names.now (pair_cells sight.now.held.now) way.now.rd
+        (walks.spare sight.now.config.now keeps (pair_cells sight.now.held.now) (way_seen way.now))
+        (walks.wanted sight.now.config.now call.now (pair_cells sight.now.held.now) (way_seen way.now)) }
 {
     match sight.spare(keeps, way) {
         Some(granule) => Next::Free(Pa::new(granule), None),
@@ -107,8 +102,8 @@ fn free_or_take<H: Held>(
 
 // A realm, and then its root.
 #[tactic(auto, unfolding(realm_desc::specs::View::realm_record))]
-fn take_root<H: Held>(config: &Config, names: &[Name], held: &H, rd: Pa) -> Next
-    ensures { result ≡ spec.take_root config.now names.now (H.cells held.now) rd (cell_in rd (H.cells held.now)) }
+fn take_root(config: &Config, names: &[Name], held: &HeldPairs, rd: Pa) -> Next
+    ensures { result ≡ spec.take_root config.now names.now (pair_cells held.now) rd (cell_in rd (pair_cells held.now)) }
 {
     match held.cell(rd) {
         Some(Cell::Rd(descriptor)) => take_part(
@@ -125,8 +120,8 @@ fn take_root<H: Held>(config: &Config, names: &[Name], held: &H, rd: Pa) -> Next
 
 // Which of the REC's two others comes next.
 #[tactic(auto, unfolding(realm_desc::specs::View::rec_record))]
-fn next_aux<H: Held>(rec: &Rec, held: &H) -> Pa
-    ensures { result ≡ spec.next_aux rec.now (H.cells held.now) }
+fn next_aux(rec: &Rec, held: &HeldPairs) -> Pa
+    ensures { result ≡ spec.next_aux rec.now (pair_cells held.now) }
 {
     if is_held(held, rec.aux0) {
         rec.aux1
@@ -136,8 +131,8 @@ fn next_aux<H: Held>(rec: &Rec, held: &H) -> Pa
 }
 
 // A REC, and then its two others.
-fn take_auxes<H: Held>(config: &Config, names: &[Name], held: &H, rec: Pa) -> Next
-    ensures { result ≡ spec.take_auxes config.now names.now (H.cells held.now) rec (cell_in rec (H.cells held.now)) }
+fn take_auxes(config: &Config, names: &[Name], held: &HeldPairs, rec: Pa) -> Next
+    ensures { result ≡ spec.take_auxes config.now names.now (pair_cells held.now) rec (cell_in rec (pair_cells held.now)) }
 {
     match held.cell(rec) {
         Some(Cell::Rec(it)) => {
@@ -150,8 +145,8 @@ fn take_auxes<H: Held>(config: &Config, names: &[Name], held: &H, rec: Pa) -> Ne
 
 // An Enter takes its REC, and frees it as it learns the realm.
 #[tactic(auto, unfolding(rmm_spec::specs::Step::Terms::named, realm_desc::specs::View::rec_record))]
-fn learn_realm<H: Held>(config: &Config, held: &H, rec: Pa) -> Next
-    ensures { result ≡ spec.learn_realm config.now (H.cells held.now) rec (cell_in rec (H.cells held.now)) }
+fn learn_realm(config: &Config, held: &HeldPairs, rec: Pa) -> Next
+    ensures { result ≡ spec.learn_realm config.now (pair_cells held.now) rec (cell_in rec (pair_cells held.now)) }
 {
     let names = one(needed(rec.address(), Tag::Rec));
     match held.cell(rec) {
@@ -162,8 +157,8 @@ fn learn_realm<H: Held>(config: &Config, held: &H, rec: Pa) -> Next
 
 // With a realm learnt it takes the two by address, and begins anew where the REC is another realm's by now.
 #[tactic(auto, unfolding(rmm_spec::specs::Step::Terms::named, realm_desc::specs::View::rec_record))]
-fn take_realm<H: Held>(sight: &HeldSight<'_, H>, rec: Pa, rd: Pa) -> Next
-    ensures { result ≡ spec.take_realm sight.now.config.now (H.cells sight.now.held.now) rec rd (cell_in rec (H.cells sight.now.held.now)) }
+fn take_realm(sight: &HeldSight<'_>, rec: Pa, rd: Pa) -> Next
+    ensures { result ≡ spec.take_realm sight.now.config.now (pair_cells sight.now.held.now) rec rd (cell_in rec (pair_cells sight.now.held.now)) }
 {
     let names = two(
         needed(rd.address(), Tag::Rd),
@@ -179,8 +174,9 @@ fn take_realm<H: Held>(sight: &HeldSight<'_, H>, rec: Pa, rd: Pa) -> Next
     }
 }
 
-fn next_to_enter<H: Held>(sight: &HeldSight<'_, H>, rec: Pa, learnt: Option<Pa>) -> Next
-    ensures { result ≡ spec.next_to_enter sight.now.config.now rec (cell_in rec (H.cells sight.now.held.now)) (H.cells sight.now.held.now) learnt }
+fn next_to_enter(sight: &HeldSight<'_>, rec: Pa, learnt: Option<Pa>) -> Next
+    ensures { result
+        ≡ spec.next_to_enter sight.now.config.now rec (cell_in rec (pair_cells sight.now.held.now)) (pair_cells sight.now.held.now) learnt }
 {
     match learnt {
         None => learn_realm(sight.config, sight.held, rec),
@@ -199,14 +195,9 @@ fn first_named(names: &[Name]) -> u64
 
 // A command that walks no table takes what it names, and then its parts.
 #[tactic(auto, unfolding(crate::specs::Next::next_with_parts))]
-fn next_with_parts<H: Held>(
-    sight: &HeldSight<'_, H>,
-    call: &Call,
-    names: &[Name],
-    learnt: Option<Pa>,
-) -> Next
+fn next_with_parts(sight: &HeldSight<'_>, call: &Call, names: &[Name], learnt: Option<Pa>) -> Next
     requires { names.now ≡ terms.named call.now }
-    ensures { result ≡ spec.next_with_parts sight.now.config.now call.now learnt (H.cells sight.now.held.now) }
+    ensures { result ≡ spec.next_with_parts sight.now.config.now call.now learnt (pair_cells sight.now.held.now) }
 {
     match *call {
         Call::RealmDestroy { rd } => take_root(sight.config, names, sight.held, Pa::new(rd)),
@@ -217,9 +208,9 @@ fn next_with_parts<H: Held>(
 }
 
 // A walk begins once all that is named is told.
-fn next_to_walk<H: Held>(sight: &HeldSight<'_, H>, call: &Call, names: &[Name], way: &Way) -> Next
+fn next_to_walk(sight: &HeldSight<'_>, call: &Call, names: &[Name], way: &Way) -> Next
     requires { names.now ≡ terms.named call.now }
-    ensures { result ≡ spec.next_to_walk sight.now.config.now call.now (H.cells sight.now.held.now) (way_seen way.now) }
+    ensures { result ≡ spec.next_to_walk sight.now.config.now call.now (pair_cells sight.now.held.now) (way_seen way.now) }
 {
     let keeps = keeps_realm(call);
     if sight.are_told(call) {
@@ -229,15 +220,10 @@ fn next_to_walk<H: Held>(sight: &HeldSight<'_, H>, call: &Call, names: &[Name], 
     }
 }
 
-fn next_outside<H: Held>(
-    sight: &HeldSight<'_, H>,
-    call: &Call,
-    said: &Terms,
-    learnt: Option<Pa>,
-) -> Next
+fn next_outside(sight: &HeldSight<'_>, call: &Call, said: &Terms, learnt: Option<Pa>) -> Next
     requires allowed { said.now.allowed ≡ all_allowed (terms.words_of call.now) }
     requires names { names_of said.now.names ≡ terms.named call.now }
-    ensures { result ≡ spec.next_outside sight.now.config.now call.now learnt (H.cells sight.now.held.now) }
+    ensures { result ≡ spec.next_outside sight.now.config.now call.now learnt (pair_cells sight.now.held.now) }
 {
     let names = said.names.as_slice();
     match way_given(call, said.allowed) {
@@ -247,16 +233,10 @@ fn next_outside<H: Held>(
 }
 
 // A realm's call takes the REC and its realm, and then the tables that it walks.
-fn next_to_read<H: Held>(
-    sight: &HeldSight<'_, H>,
-    call: &Call,
-    rec: Pa,
-    rd: Pa,
-    names: &[Name],
-) -> Next
+fn next_to_read(sight: &HeldSight<'_>, call: &Call, rec: Pa, rd: Pa, names: &[Name]) -> Next
     requires { names.now ≡ spec.place_names rec rd }
-    ensures { result ≡ spec.next_to_read sight.now.config.now call.now rec rd (H.cells sight.now.held.now)
-        (walks.way_inside call.now rec rd (H.cells sight.now.held.now)) }
+    ensures { result ≡ spec.next_to_read sight.now.config.now call.now rec rd (pair_cells sight.now.held.now)
+        (walks.way_inside call.now rec rd (pair_cells sight.now.held.now)) }
 {
     match sight.way_inside(call, rec, rd) {
         None => take_least(sight, true, names, rec.address()),
@@ -265,15 +245,9 @@ fn next_to_read<H: Held>(
 }
 
 // An exit takes the REC alone.
-fn next_inside<H: Held>(
-    sight: &HeldSight<'_, H>,
-    call: &Call,
-    caller: Caller,
-    rec: Pa,
-    rd: Pa,
-) -> Next
+fn next_inside(sight: &HeldSight<'_>, call: &Call, caller: Caller, rec: Pa, rd: Pa) -> Next
     requires { class_from caller ≡ class_of call.now }
-    ensures { result ≡ spec.next_inside (class_of call.now) sight.now.config.now call.now rec rd (H.cells sight.now.held.now) }
+    ensures { result ≡ spec.next_inside (class_of call.now) sight.now.config.now call.now rec rd (pair_cells sight.now.held.now) }
 {
     let names = two(
         needed(rec.address(), Tag::Rec),
@@ -288,13 +262,8 @@ fn next_inside<H: Held>(
 }
 
 #[tactic(auto, unfolding(crate::specs::Next::next))]
-fn next_for<H: Held>(
-    sight: &HeldSight<'_, H>,
-    call: &Call,
-    place: &CpuPlace,
-    learnt: Option<Pa>,
-) -> Next
-    ensures { result ≡ spec.next sight.now.config.now call.now (place_of place.now) learnt (H.cells sight.now.held.now) }
+fn next_for(sight: &HeldSight<'_>, call: &Call, place: &CpuPlace, learnt: Option<Pa>) -> Next
+    ensures { result ≡ spec.next sight.now.config.now call.now (place_of place.now) learnt (pair_cells sight.now.held.now) }
 {
     let said = terms_of(call);
     if is_settled(sight.config, call, &said, place, sight.held) {
@@ -308,17 +277,17 @@ fn next_for<H: Held>(
 
 /// What a CPU at this place does next for a command's call, whatever it holds. What it has learnt is what the last free of this call
 /// learnt, and nothing before the first.
-pub fn next_step<'a, H: Held>(
+pub fn next_step<'a>(
     config: &'a Config,
     call: &Call,
     place: &CpuPlace,
     learnt: Option<Pa>,
-    held: &'a H,
+    held: &'a HeldPairs,
 ) -> Next
-    ensures exact { result ≡ spec.next config.now call.now (place_of place.now) learnt (H.cells held.now) }
-    ensures settled { is_settled config.now call.now (place_of place.now) (H.cells held.now) ≡ is_ready result }
+    ensures exact { result ≡ spec.next config.now call.now (place_of place.now) learnt (pair_cells held.now) }
+    ensures settled { is_settled config.now call.now (place_of place.now) (pair_cells held.now) ≡ is_ready result }
     ensures step { is_ready result ≡ false
-        → IsStep config.now call.now (place_of place.now) (needs (place_of place.now) learnt call.now) (H.cells held.now) result }
+        → IsStep config.now call.now (place_of place.now) (needs (place_of place.now) learnt call.now) (pair_cells held.now) result }
 {
     let sight = HeldSight {
         config,
@@ -329,16 +298,16 @@ pub fn next_step<'a, H: Held>(
 }
 
 /// The same for a command, whose call is read off it.
-pub fn next_lock<H: Held>(
+pub fn next_lock(
     config: &Config,
     command: &Command,
     place: &CpuPlace,
     learnt: Option<Pa>,
-    held: &H,
+    held: &HeldPairs,
 ) -> Next
-    ensures exact { result ≡ spec.next config.now (call_of command.now) (place_of place.now) learnt (H.cells held.now) }
-    ensures settled { is_settled config.now (call_of command.now) (place_of place.now) (H.cells held.now) ≡ is_ready result }
-    ensures planned { IsPlanned config.now command.now (place_of place.now) learnt (H.cells held.now) result }
+    ensures exact { result ≡ spec.next config.now (call_of command.now) (place_of place.now) learnt (pair_cells held.now) }
+    ensures settled { is_settled config.now (call_of command.now) (place_of place.now) (pair_cells held.now) ≡ is_ready result }
+    ensures planned { IsPlanned config.now command.now (place_of place.now) learnt (pair_cells held.now) result }
 {
     next_step(config, &command.call(), place, learnt, held)
 }

@@ -6,6 +6,7 @@ ghost use Rattle.rmm_spec.specs.Call.{class_of};
 ghost use Rattle.rmm_spec.specs.Lookup.{is_granule};
 ghost use Rattle.rmm_spec.specs.Rows.{Needed, all_allowed};
 ghost use Rattle.command_core.specs.Named as named;
+ghost use Rattle.command_core.specs.Pairs.{pair_cells};
 ghost use Rattle.command_core.specs.Seen.{cell_of, cell_in, place_of};
 ghost use Rattle.command_core.specs.Settled as spec;
 ghost use Rattle.command_core.specs.Unshaped.{is_unshaped_outside};
@@ -14,7 +15,7 @@ ghost use Rattle.rmm_spec.specs.Step.Terms as step_named;
 ghost use Rattle.rmi_view.specs.Callers.{class_from};
 ghost use Rattle.command_words.specs.Names.{names_of};
 
-use crate::held::Held;
+use crate::held_pairs::HeldPairs;
 use crate::held_sight::HeldSight;
 use crate::taking::{has_wrong, holds_all, is_granule, is_held};
 use crate::unshaped::{self, is_misfit};
@@ -32,8 +33,8 @@ fn are_granules(config: &Config, names: &[Name]) -> bool
 }
 
 #[tactic(auto, unfolding(realm_desc::specs::View::realm_record))]
-fn is_root_held<H: Held>(rd: Pa, held: &H) -> bool
-    ensures { result ≡ spec.is_root_held (cell_in rd (H.cells held.now)) (H.cells held.now) }
+fn is_root_held(rd: Pa, held: &HeldPairs) -> bool
+    ensures { result ≡ spec.is_root_held (cell_in rd (pair_cells held.now)) (pair_cells held.now) }
 {
     match held.cell(rd) {
         Some(Cell::Rd(descriptor)) => is_held(held, descriptor.realm().root),
@@ -43,8 +44,8 @@ fn is_root_held<H: Held>(rd: Pa, held: &H) -> bool
 
 // A REC that runs isn't destroyed, whatever its parts are.
 #[tactic(auto, unfolding(realm_desc::specs::View::rec_record))]
-fn are_auxes_held<H: Held>(rec: Pa, held: &H) -> bool
-    ensures { result ≡ spec.are_auxes_held (cell_in rec (H.cells held.now)) (H.cells held.now) }
+fn are_auxes_held(rec: Pa, held: &HeldPairs) -> bool
+    ensures { result ≡ spec.are_auxes_held (cell_in rec (pair_cells held.now)) (pair_cells held.now) }
 {
     match held.cell(rec) {
         Some(Cell::Rec(it)) => {
@@ -61,8 +62,8 @@ fn is_realm_in(cell: Option<&Cell>) -> bool
 }
 
 #[tactic(auto, unfolding(realm_desc::specs::View::rec_record))]
-fn is_owner_held<H: Held>(rec: Pa, held: &H) -> bool
-    ensures { result ≡ spec.is_owner_held (cell_in rec (H.cells held.now)) (H.cells held.now) }
+fn is_owner_held(rec: Pa, held: &HeldPairs) -> bool
+    ensures { result ≡ spec.is_owner_held (cell_in rec (pair_cells held.now)) (pair_cells held.now) }
 {
     match held.cell(rec) {
         Some(Cell::Rec(it)) => is_realm_in(held.cell(it.owner)),
@@ -72,9 +73,9 @@ fn is_owner_held<H: Held>(rec: Pa, held: &H) -> bool
 
 // Whether all is held that the rows behind the command's words and tags read.
 #[tactic(auto, unfolding(crate::specs::Settled::is_complete))]
-fn is_complete<H: Held>(call: &Call, names: &[Name], held: &H) -> bool
+fn is_complete(call: &Call, names: &[Name], held: &HeldPairs) -> bool
     requires { names.now ≡ step_named.named call.now }
-    ensures { result ≡ spec.is_complete call.now (H.cells held.now) }
+    ensures { result ≡ spec.is_complete call.now (pair_cells held.now) }
 {
     match *call {
         Call::RealmDestroy { rd } => is_root_held(Pa::new(rd), held),
@@ -85,15 +86,10 @@ fn is_complete<H: Held>(call: &Call, names: &[Name], held: &H) -> bool
 }
 
 // Whether all is held that the rows read, and its walk is over where it walks.
-fn is_all_held<H: Held>(
-    sight: &HeldSight<'_, H>,
-    call: &Call,
-    allowed: bool,
-    names: &[Name],
-) -> bool
+fn is_all_held(sight: &HeldSight<'_>, call: &Call, allowed: bool, names: &[Name]) -> bool
     requires allowed { allowed ≡ all_allowed (step_named.words_of call.now) }
     requires names { names.now ≡ step_named.named call.now }
-    ensures { result ≡ spec.is_all_held sight.now.config.now call.now (H.cells sight.now.held.now) (way_taken call.now) }
+    ensures { result ≡ spec.is_all_held sight.now.config.now call.now (pair_cells sight.now.held.now) (way_taken call.now) }
 {
     match way_given(call, allowed) {
         None => is_complete(call, names, sight.held),
@@ -102,12 +98,12 @@ fn is_all_held<H: Held>(
 }
 
 // What settles a host's command but its words.
-fn is_met<H: Held>(sight: &HeldSight<'_, H>, call: &Call, allowed: bool, names: &[Name]) -> bool
+fn is_met(sight: &HeldSight<'_>, call: &Call, allowed: bool, names: &[Name]) -> bool
     requires allowed { allowed ≡ all_allowed (step_named.words_of call.now) }
     requires names { names.now ≡ step_named.named call.now }
-    ensures { result ≡ (named.has_wrong (step_named.named call.now) (H.cells sight.now.held.now)
-        || is_unshaped_outside sight.now.config.now call.now (H.cells sight.now.held.now)
-        || spec.is_all_held sight.now.config.now call.now (H.cells sight.now.held.now) (way_taken call.now)) }
+    ensures { result ≡ (named.has_wrong (step_named.named call.now) (pair_cells sight.now.held.now)
+        || is_unshaped_outside sight.now.config.now call.now (pair_cells sight.now.held.now)
+        || spec.is_all_held sight.now.config.now call.now (pair_cells sight.now.held.now) (way_taken call.now)) }
 {
     has_wrong(names, sight.held)
         || unshaped::is_unshaped_outside(sight, call)
@@ -115,11 +111,11 @@ fn is_met<H: Held>(sight: &HeldSight<'_, H>, call: &Call, allowed: bool, names: 
 }
 
 #[tactic(auto, unfolding(crate::specs::Named::words_fit))]
-fn is_settled_outside<H: Held>(sight: &HeldSight<'_, H>, call: &Call, terms: &Terms) -> bool
+fn is_settled_outside(sight: &HeldSight<'_>, call: &Call, terms: &Terms) -> bool
     requires caller { class_from terms.now.caller ≡ class_of call.now }
     requires allowed { terms.now.allowed ≡ all_allowed (step_named.words_of call.now) }
     requires names { names_of terms.now.names ≡ step_named.named call.now }
-    ensures { result ≡ spec.is_settled_outside (class_of call.now) sight.now.config.now call.now (H.cells sight.now.held.now) }
+    ensures { result ≡ spec.is_settled_outside (class_of call.now) sight.now.config.now call.now (pair_cells sight.now.held.now) }
 {
     match terms.caller {
         Caller::Host => {
@@ -132,8 +128,9 @@ fn is_settled_outside<H: Held>(sight: &HeldSight<'_, H>, call: &Call, terms: &Te
 }
 
 // Whether the walk of a realm's call, if it walks, is over.
-fn is_read_over<H: Held>(sight: &HeldSight<'_, H>, call: &Call, rec: Pa, rd: Pa) -> bool
-    ensures { result ≡ spec.is_read_over sight.now.config.now (H.cells sight.now.held.now) (way_inside call.now rec rd (H.cells sight.now.held.now)) }
+fn is_read_over(sight: &HeldSight<'_>, call: &Call, rec: Pa, rd: Pa) -> bool
+    ensures { result
+        ≡ spec.is_read_over sight.now.config.now (pair_cells sight.now.held.now) (way_inside call.now rec rd (pair_cells sight.now.held.now)) }
 {
     match sight.way_inside(call, rec, rd) {
         None => true,
@@ -141,15 +138,9 @@ fn is_read_over<H: Held>(sight: &HeldSight<'_, H>, call: &Call, rec: Pa, rd: Pa)
     }
 }
 
-fn is_settled_inside<H: Held>(
-    sight: &HeldSight<'_, H>,
-    call: &Call,
-    caller: Caller,
-    rec: Pa,
-    rd: Pa,
-) -> bool
+fn is_settled_inside(sight: &HeldSight<'_>, call: &Call, caller: Caller, rec: Pa, rd: Pa) -> bool
     requires { class_from caller ≡ class_of call.now }
-    ensures { result ≡ spec.is_settled_inside (class_of call.now) sight.now.config.now call.now rec rd (H.cells sight.now.held.now) }
+    ensures { result ≡ spec.is_settled_inside (class_of call.now) sight.now.config.now call.now rec rd (pair_cells sight.now.held.now) }
 {
     match caller {
         Caller::Host => true,
@@ -165,17 +156,17 @@ fn is_settled_inside<H: Held>(
 
 /// Whether what is held settles a command.
 #[tactic(auto, unfolding(crate::specs::Settled::is_settled))]
-pub(crate) fn is_settled<'a, H: Held>(
+pub(crate) fn is_settled<'a>(
     config: &'a Config,
     call: &Call,
     terms: &Terms,
     place: &CpuPlace,
-    held: &'a H,
+    held: &'a HeldPairs,
 ) -> bool
     requires caller { class_from terms.now.caller ≡ class_of call.now }
     requires allowed { terms.now.allowed ≡ all_allowed (step_named.words_of call.now) }
     requires names { names_of terms.now.names ≡ step_named.named call.now }
-    ensures { result ≡ spec.is_settled config.now call.now (place_of place.now) (H.cells held.now) }
+    ensures { result ≡ spec.is_settled config.now call.now (place_of place.now) (pair_cells held.now) }
 {
     let sight = HeldSight {
         config,

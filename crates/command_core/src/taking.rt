@@ -7,8 +7,9 @@ ghost use Rattle.rmm_spec.specs.Cell as whole;
 ghost use Rattle.command_core.specs.Seen as seen;
 ghost use Rattle.command_core.specs.Seen.{cell_of};
 ghost use Rattle.command_core.specs.Named as spec;
+ghost use Rattle.command_core.specs.Pairs.{pair_cells};
 
-use crate::held::Held;
+use crate::held_pairs::HeldPairs;
 use crate::held_sight::HeldSight;
 use command_words::{Name, is_tag};
 use granule_cells::Cell;
@@ -23,8 +24,8 @@ pub(crate) fn is_granule(config: &Config, address: u64) -> bool
 }
 
 /// Whether a granule is held.
-pub(crate) fn is_held<H: Held>(held: &H, pa: Pa) -> bool
-    ensures { result ≡ seen.is_held pa (H.cells held.now) }
+pub(crate) fn is_held(held: &HeldPairs, pa: Pa) -> bool
+    ensures { result ≡ seen.is_held pa (pair_cells held.now) }
 {
     held.cell(pa).is_some()
 }
@@ -47,8 +48,8 @@ fn is_wrong_for(cell: &Cell, granule: u64, names: &[Name]) -> bool
 }
 
 // Whether what is held at a granule has another tag than is needed there.
-fn is_wrong<H: Held>(held: &H, pa: Pa, names: &[Name]) -> bool
-    ensures { result ≡ spec.is_wrong (seen.cell_in pa (H.cells held.now)) pa names.now }
+fn is_wrong(held: &HeldPairs, pa: Pa, names: &[Name]) -> bool
+    ensures { result ≡ spec.is_wrong (seen.cell_in pa (pair_cells held.now)) pa names.now }
 {
     match held.cell(pa) {
         None => false,
@@ -58,16 +59,16 @@ fn is_wrong<H: Held>(held: &H, pa: Pa, names: &[Name]) -> bool
 
 /// Whether a granule that is held and named has another tag than is needed there.
 #[tactic(auto, unfolding(crate::specs::Named::has_wrong))]
-pub(crate) fn has_wrong<H: Held>(names: &[Name], held: &H) -> bool
-    ensures { result ≡ spec.has_wrong names.now (H.cells held.now) }
+pub(crate) fn has_wrong(names: &[Name], held: &HeldPairs) -> bool
+    ensures { result ≡ spec.has_wrong names.now (pair_cells held.now) }
 {
     held.held().iter().any(|pa| is_wrong(held, *pa, names))
 }
 
 /// Whether all granules that are named are held.
 #[tactic(auto, unfolding(crate::specs::Named::holds_all))]
-pub(crate) fn holds_all<H: Held>(names: &[Name], held: &H) -> bool
-    ensures { result ≡ spec.holds_all names.now (H.cells held.now) }
+pub(crate) fn holds_all(names: &[Name], held: &HeldPairs) -> bool
+    ensures { result ≡ spec.holds_all names.now (pair_cells held.now) }
 {
     names
         .iter()
@@ -75,8 +76,8 @@ pub(crate) fn holds_all<H: Held>(names: &[Name], held: &H) -> bool
 }
 
 // Whether what is held at a granule is named, as it has to be, and below the one that is to be taken.
-fn fits_below<H: Held>(names: &[Name], next: u64, held: &H, pa: Pa) -> bool
-    ensures { result ≡ spec.fits_below names.now next pa (seen.cell_in pa (H.cells held.now)) }
+fn fits_below(names: &[Name], next: u64, held: &HeldPairs, pa: Pa) -> bool
+    ensures { result ≡ spec.fits_below names.now next pa (seen.cell_in pa (pair_cells held.now)) }
 {
     let granule = pa.address();
     match held.cell(pa) {
@@ -97,8 +98,8 @@ fn is_data(cell: &Cell) -> bool
 }
 
 // Whether each granule that is held is named, as it has to be, and below the one that is to be taken.
-fn are_below<H: Held>(names: &[Name], next: u64, held: &H) -> bool
-    ensures { result ≡ spec.are_below names.now next (H.cells held.now) }
+fn are_below(names: &[Name], next: u64, held: &HeldPairs) -> bool
+    ensures { result ≡ spec.are_below names.now next (pair_cells held.now) }
 {
     held.held()
         .iter()
@@ -107,8 +108,8 @@ fn are_below<H: Held>(names: &[Name], next: u64, held: &H) -> bool
 
 /// Whether a named granule may be taken: it is above all that are held, and those are named.
 #[tactic(auto, unfolding(crate::specs::Named::is_upward))]
-pub(crate) fn is_upward<H: Held>(config: &Config, names: &[Name], held: &H, next: u64) -> bool
-    ensures { result ≡ spec.is_upward config.now names.now (H.cells held.now) next }
+pub(crate) fn is_upward(config: &Config, names: &[Name], held: &HeldPairs, next: u64) -> bool
+    ensures { result ≡ spec.is_upward config.now names.now (pair_cells held.now) next }
 {
     is_granule(config, next)
         && is_named(names, next)
@@ -172,8 +173,8 @@ fn depth_in(cell: Option<&Cell>) -> u64
 
 // Whether what is held at a granule is named, as it has to be, or a table no deeper than the one above, or an auxiliary granule of
 // the REC above.
-fn fits_beside<H: Held>(names: &[Name], above: Pa, held: &H, pa: Pa) -> bool
-    ensures { result ≡ spec.fits_beside names.now (seen.cell_in above (H.cells held.now)) pa (seen.cell_in pa (H.cells held.now)) }
+fn fits_beside(names: &[Name], above: Pa, held: &HeldPairs, pa: Pa) -> bool
+    ensures { result ≡ spec.fits_beside names.now (seen.cell_in above (pair_cells held.now)) pa (seen.cell_in pa (pair_cells held.now)) }
 {
     let granule = pa.address();
     match held.cell(pa) {
@@ -187,8 +188,8 @@ fn fits_beside<H: Held>(names: &[Name], above: Pa, held: &H, pa: Pa) -> bool
     }
 }
 
-fn are_beside<H: Held>(names: &[Name], above: Pa, held: &H) -> bool
-    ensures { result ≡ spec.are_beside names.now above (H.cells held.now) }
+fn are_beside(names: &[Name], above: Pa, held: &HeldPairs) -> bool
+    ensures { result ≡ spec.are_beside names.now above (pair_cells held.now) }
 {
     held.held()
         .iter()
@@ -197,16 +198,16 @@ fn are_beside<H: Held>(names: &[Name], above: Pa, held: &H) -> bool
 
 /// Whether a part of the realm, REC or table above may be taken: no deeper table is held.
 #[tactic(auto, unfolding(crate::specs::Named::is_downward))]
-pub(crate) fn is_downward<H: Held>(
+pub(crate) fn is_downward(
     config: &Config,
     names: &[Name],
-    held: &H,
+    held: &HeldPairs,
     above: Pa,
     index: usize,
     next: Pa,
 ) -> bool
     requires { index < 512 }
-    ensures { result ≡ spec.is_downward config.now names.now (H.cells held.now) above index next }
+    ensures { result ≡ spec.is_downward config.now names.now (pair_cells held.now) above index next }
 {
     is_granule(config, next.address())
         && !is_held(held, next)
@@ -216,13 +217,8 @@ pub(crate) fn is_downward<H: Held>(
 }
 
 // The lesser of the two, where the named granule is one that may be taken: its tag isn't told yet.
-fn lesser<H: Held>(
-    sight: &HeldSight<'_, H>,
-    keeps: bool,
-    best: Option<u64>,
-    name: &Name,
-) -> Option<u64>
-    ensures { result ≡ spec.lesser sight.now.config.now keeps (H.cells sight.now.held.now) best name.now }
+fn lesser(sight: &HeldSight<'_>, keeps: bool, best: Option<u64>, name: &Name) -> Option<u64>
+    ensures { result ≡ spec.lesser sight.now.config.now keeps (pair_cells sight.now.held.now) best name.now }
 {
     let granule = name.granule;
     if is_granule(sight.config, granule) && !sight.is_told(keeps, name) && is_less(granule, best) {
@@ -243,12 +239,8 @@ fn is_less(granule: u64, best: Option<u64>) -> bool
 
 /// The least granule that is named and isn't told.
 #[tactic(auto, unfolding(crate::specs::Named::least_missing))]
-pub(crate) fn least_missing<H: Held>(
-    sight: &HeldSight<'_, H>,
-    keeps: bool,
-    names: &[Name],
-) -> Option<u64>
-    ensures { result ≡ spec.least_missing sight.now.config.now keeps names.now (H.cells sight.now.held.now) }
+pub(crate) fn least_missing(sight: &HeldSight<'_>, keeps: bool, names: &[Name]) -> Option<u64>
+    ensures { result ≡ spec.least_missing sight.now.config.now keeps names.now (pair_cells sight.now.held.now) }
 {
     names
         .iter()

@@ -1,11 +1,12 @@
 //! Whether the cells that are held are ones that no shaped whole has.
 
 ghost use Rattle.std.specs.Prelude.{◌≡◌, option_map, option_copied};
+ghost use Rattle.command_core.specs.Pairs.{pair_cells};
 ghost use Rattle.command_core.specs.Seen.{cell_of, cell_in, place_of};
 ghost use Rattle.command_core.specs.Unshaped as spec;
 ghost use Rattle.command_words.specs.Ways.{way_seen};
 
-use crate::held::Held;
+use crate::held_pairs::HeldPairs;
 use crate::held_sight::HeldSight;
 use crate::taking::{has_wrong, is_granule, is_held};
 use crate::ways::way_taken;
@@ -24,16 +25,16 @@ fn is_other_aux(cell: Option<&Cell>) -> bool
     }
 }
 
-fn is_bad_aux<H: Held>(config: &Config, aux: Pa, held: &H) -> bool
-    ensures { result ≡ spec.is_bad_aux config.now aux (H.cells held.now) }
+fn is_bad_aux(config: &Config, aux: Pa, held: &HeldPairs) -> bool
+    ensures { result ≡ spec.is_bad_aux config.now aux (pair_cells held.now) }
 {
     !is_granule(config, aux.address()) || is_other_aux(held.cell(aux))
 }
 
 // The second is looked at once the first is held.
 #[tactic(auto, unfolding(realm_desc::specs::View::rec_record))]
-fn are_bad_auxes<H: Held>(config: &Config, rec: &Rec, held: &H) -> bool
-    ensures { result ≡ spec.are_bad_auxes config.now rec.now (H.cells held.now) }
+fn are_bad_auxes(config: &Config, rec: &Rec, held: &HeldPairs) -> bool
+    ensures { result ≡ spec.are_bad_auxes config.now rec.now (pair_cells held.now) }
 {
     is_bad_aux(config, rec.aux0, held)
         || (is_held(held, rec.aux0) && is_bad_aux(config, rec.aux1, held))
@@ -41,8 +42,8 @@ fn are_bad_auxes<H: Held>(config: &Config, rec: &Rec, held: &H) -> bool
 
 // A REC that runs isn't destroyed, whatever its parts are.
 #[tactic(auto, unfolding(realm_desc::specs::View::rec_record))]
-fn has_bad_aux<H: Held>(config: &Config, rec: Pa, held: &H) -> bool
-    ensures { result ≡ spec.has_bad_aux config.now (cell_in rec (H.cells held.now)) (H.cells held.now) }
+fn has_bad_aux(config: &Config, rec: Pa, held: &HeldPairs) -> bool
+    ensures { result ≡ spec.has_bad_aux config.now (cell_in rec (pair_cells held.now)) (pair_cells held.now) }
 {
     match held.cell(rec) {
         Some(Cell::Rec(it)) => it.cpu.is_none() && are_bad_auxes(config, it, held),
@@ -58,8 +59,8 @@ fn can_learn(config: &Config, rec: Pa, owner: Pa) -> bool
 }
 
 #[tactic(auto, unfolding(realm_desc::specs::View::rec_record))]
-fn has_bad_owner<H: Held>(config: &Config, rec: Pa, held: &H) -> bool
-    ensures { result ≡ spec.has_bad_owner config.now rec (cell_in rec (H.cells held.now)) }
+fn has_bad_owner(config: &Config, rec: Pa, held: &HeldPairs) -> bool
+    ensures { result ≡ spec.has_bad_owner config.now rec (cell_in rec (pair_cells held.now)) }
 {
     match held.cell(rec) {
         Some(Cell::Rec(it)) => !can_learn(config, rec, it.owner),
@@ -79,8 +80,8 @@ fn has_other_owner(rd: Pa, cell: Option<&Cell>) -> bool
 
 // Whether the REC and realm of a CPU's place can't be what the place says.
 #[tactic(auto, unfolding(crate::specs::Unshaped::is_misplaced))]
-fn is_misplaced<H: Held>(config: &Config, rec: Pa, rd: Pa, held: &H) -> bool
-    ensures { result ≡ spec.is_misplaced config.now rec rd (H.cells held.now) }
+fn is_misplaced(config: &Config, rec: Pa, rd: Pa, held: &HeldPairs) -> bool
+    ensures { result ≡ spec.is_misplaced config.now rec rd (pair_cells held.now) }
 {
     let names = two(
         needed(rec.address(), Tag::Rec),
@@ -94,8 +95,8 @@ fn is_misplaced<H: Held>(config: &Config, rec: Pa, rd: Pa, held: &H) -> bool
 }
 
 // Whether the tables of a walk, if there is one, can't be.
-fn is_misfit_way<H: Held>(sight: &HeldSight<'_, H>, way: &Option<Way>) -> bool
-    ensures { result ≡ spec.is_misfit_way sight.now.config.now (H.cells sight.now.held.now) (option_map way_seen way.now) }
+fn is_misfit_way(sight: &HeldSight<'_>, way: &Option<Way>) -> bool
+    ensures { result ≡ spec.is_misfit_way sight.now.config.now (pair_cells sight.now.held.now) (option_map way_seen way.now) }
 {
     match way {
         None => false,
@@ -104,8 +105,8 @@ fn is_misfit_way<H: Held>(sight: &HeldSight<'_, H>, way: &Option<Way>) -> bool
 }
 
 /// Whether the REC and realm of a CPU's place, or the tables of its call's walk, can't be.
-pub(crate) fn is_misfit<H: Held>(sight: &HeldSight<'_, H>, call: &Call, rec: Pa, rd: Pa) -> bool
-    ensures { result ≡ spec.is_misfit sight.now.config.now call.now rec rd (H.cells sight.now.held.now) }
+pub(crate) fn is_misfit(sight: &HeldSight<'_>, call: &Call, rec: Pa, rd: Pa) -> bool
+    ensures { result ≡ spec.is_misfit sight.now.config.now call.now rec rd (pair_cells sight.now.held.now) }
 {
     is_misplaced(sight.config, rec, rd, sight.held)
         || is_misfit_way(sight, &sight.way_inside(call, rec, rd))
@@ -113,8 +114,8 @@ pub(crate) fn is_misfit<H: Held>(sight: &HeldSight<'_, H>, call: &Call, rec: Pa,
 
 // Whether a part of a realm or REC that is named can't be.
 #[tactic(auto, unfolding(crate::specs::Unshaped::has_misfit_part))]
-fn has_misfit_part<H: Held>(sight: &HeldSight<'_, H>, call: &Call) -> bool
-    ensures { result ≡ spec.has_misfit_part sight.now.config.now call.now (H.cells sight.now.held.now) }
+fn has_misfit_part(sight: &HeldSight<'_>, call: &Call) -> bool
+    ensures { result ≡ spec.has_misfit_part sight.now.config.now call.now (pair_cells sight.now.held.now) }
 {
     match *call {
         Call::RealmDestroy { rd } => sight.is_misfit_root(rd),
@@ -125,16 +126,16 @@ fn has_misfit_part<H: Held>(sight: &HeldSight<'_, H>, call: &Call) -> bool
 }
 
 /// Whether a host's command meets cells that no shaped whole has.
-pub(crate) fn is_unshaped_outside<H: Held>(sight: &HeldSight<'_, H>, call: &Call) -> bool
-    ensures { result ≡ spec.is_unshaped_outside sight.now.config.now call.now (H.cells sight.now.held.now) }
+pub(crate) fn is_unshaped_outside(sight: &HeldSight<'_>, call: &Call) -> bool
+    ensures { result ≡ spec.is_unshaped_outside sight.now.config.now call.now (pair_cells sight.now.held.now) }
 {
     has_misfit_part(sight, call) || is_misfit_way(sight, &way_taken(call))
 }
 
 /// Whether a command meets cells that no shaped whole has.
 #[tactic(auto, unfolding(crate::specs::Unshaped::is_unshaped))]
-pub(crate) fn is_unshaped<H: Held>(sight: &HeldSight<'_, H>, call: &Call, place: &CpuPlace) -> bool
-    ensures { result ≡ spec.is_unshaped sight.now.config.now call.now (place_of place.now) (H.cells sight.now.held.now) }
+pub(crate) fn is_unshaped(sight: &HeldSight<'_>, call: &Call, place: &CpuPlace) -> bool
+    ensures { result ≡ spec.is_unshaped sight.now.config.now call.now (place_of place.now) (pair_cells sight.now.held.now) }
 {
     match *place {
         CpuPlace::Outside => is_unshaped_outside(sight, call),

@@ -5,7 +5,6 @@ ghost use Rattle.world_laws.specs.Walking as walking;
 ghost use Rattle.command_core.specs.Walks as spec;
 ghost use Rattle.command_core.specs.Ways.{part_seen};
 
-use crate::held::Held;
 use crate::held_sight::HeldSight;
 use crate::held_tables::{found_or, placed, table_in};
 use crate::ways::{keeps_realm, part_below};
@@ -23,25 +22,26 @@ pub(crate) struct Part {
     pub(crate) next: u64,
 }
 
-impl<'a, H: Held> HeldSight<'a, H> {
+impl<'a> HeldSight<'a> {
     ghost use Rattle.std.specs.Prelude.{◌≡◌, ◌<◌, ◌&&◌, Some, IfSome, IsTrue, is_some, is_none, option_map};
     ghost use Rattle.world_laws.specs.Held.{cell_in};
     ghost use Rattle.world_laws.specs.Walking as walking;
     ghost use Rattle.world_laws.specs.SeenState as seen;
+    ghost use Rattle.command_core.specs.Pairs.{pair_cells};
     ghost use Rattle.command_core.specs.Walks as spec;
     ghost use Rattle.command_words.specs.Ways.{way_seen};
     ghost use Rattle.command_core.specs.Ways.{part_seen};
 
     // The level at which the walk ends.
     fn end_level(&self, way: &Way) -> u8
-        ensures { result ≡ spec.end_level self.now.config.now (H.cells self.now.held.now) (way_seen way.now) }
+        ensures { result ≡ spec.end_level self.now.config.now (pair_cells self.now.held.now) (way_seen way.now) }
     {
         self.reach(way.rd, way.ipa, way.max)
     }
 
     // The granule of the table there, where it is held.
     fn end_table(&self, way: &Way) -> Option<u64>
-        ensures { result ≡ spec.end_table self.now.config.now (H.cells self.now.held.now) (way_seen way.now) }
+        ensures { result ≡ spec.end_table self.now.config.now (pair_cells self.now.held.now) (way_seen way.now) }
     {
         let level = self.end_level(way);
         placed(self.held, way.rd, level, table_number(level, way.ipa))
@@ -49,7 +49,7 @@ impl<'a, H: Held> HeldSight<'a, H> {
 
     // The entry at which it ends.
     fn end_entry(&self, way: &Way) -> Entry
-        ensures { result ≡ walking.end_entry self.now.config.now (H.cells self.now.held.now) (way_seen way.now) }
+        ensures { result ≡ walking.end_entry self.now.config.now (pair_cells self.now.held.now) (way_seen way.now) }
     {
         let level = self.end_level(way);
         self.entry(way.rd, level, entry_number(level, way.ipa))
@@ -58,7 +58,7 @@ impl<'a, H: Held> HeldSight<'a, H> {
     /// Whether the walk ends at a table that is held: at the last level that is asked for, or at an entry that is no link.
     #[tactic(auto, unfolding(world_laws::specs::Walking::is_walk_held))]
     pub(crate) fn is_walk_held(&self, way: &Way) -> bool
-        ensures { result ≡ walking.is_walk_held self.now.config.now (H.cells self.now.held.now) (way_seen way.now) }
+        ensures { result ≡ walking.is_walk_held self.now.config.now (pair_cells self.now.held.now) (way_seen way.now) }
     {
         self.end_table(way).is_some()
             && (self.end_level(way) == way.max || !is_table(self.end_entry(way)))
@@ -67,7 +67,7 @@ impl<'a, H: Held> HeldSight<'a, H> {
     // The level of the deepest table of the walk that is held.
     #[tactic(auto, unfolding(crate::specs::Walks::come_to))]
     fn come_to(&self, way: &Way) -> u8
-        ensures { result ≡ spec.come_to self.now.config.now (H.cells self.now.held.now) (way_seen way.now) }
+        ensures { result ≡ spec.come_to self.now.config.now (pair_cells self.now.held.now) (way_seen way.now) }
     {
         let level = self.end_level(way);
         if self.end_table(way).is_some() {
@@ -80,7 +80,7 @@ impl<'a, H: Held> HeldSight<'a, H> {
     // Whether the part below that the command takes out, if it does, is held.
     fn is_part_held(&self, call: &Call, way: &Way) -> bool
         ensures { result ≡ walking.is_part_held (walking.part_below call.now
-            (walking.end_entry self.now.config.now (H.cells self.now.held.now) (way_seen way.now))) (H.cells self.now.held.now) }
+            (walking.end_entry self.now.config.now (pair_cells self.now.held.now) (way_seen way.now))) (pair_cells self.now.held.now) }
     {
         match part_below(call, self.end_entry(way)) {
             Some(part) => self.held.cell(Pa::new(part)).is_some(),
@@ -91,7 +91,7 @@ impl<'a, H: Held> HeldSight<'a, H> {
     // Whether the rows before the walk refuse.
     fn is_refused_early(&self, call: &Call) -> bool
         requires { IsTrue (is_some (walking.way_of call.now)) }
-        ensures { result ≡ walking.is_refused_early (walking.seen_answer self.now.config.now call.now (H.cells self.now.held.now)) }
+        ensures { result ≡ walking.is_refused_early (walking.seen_answer self.now.config.now call.now (pair_cells self.now.held.now)) }
     {
         match answer_outside(self, 0, call) {
             Ok(_) => false,
@@ -101,7 +101,7 @@ impl<'a, H: Held> HeldSight<'a, H> {
 
     /// Whether a granule's tag is told: it is held, or it is the realm of a table that is held.
     pub(crate) fn is_told(&self, keeps: bool, name: &Name) -> bool
-        ensures { result ≡ walking.is_told keeps (H.cells self.now.held.now) name.now }
+        ensures { result ≡ walking.is_told keeps (pair_cells self.now.held.now) name.now }
     {
         self.held.cell(Pa::new(name.granule)).is_some()
             || (!keeps && is_tag(name.tag, Tag::Rd) && self.behind(name.granule).is_some())
@@ -110,7 +110,7 @@ impl<'a, H: Held> HeldSight<'a, H> {
     /// Whether the tags of all granules that are named are told.
     #[tactic(auto, unfolding(world_laws::specs::Walking::are_told))]
     pub(crate) fn are_told(&self, call: &Call) -> bool
-        ensures { result ≡ walking.are_told call.now (H.cells self.now.held.now) }
+        ensures { result ≡ walking.are_told call.now (pair_cells self.now.held.now) }
     {
         let keeps = keeps_realm(call);
         let names = named(call);
@@ -122,8 +122,8 @@ impl<'a, H: Held> HeldSight<'a, H> {
 
     /// Whether the walk has come to its end, and nothing is held that the plan frees.
     pub(crate) fn is_at_end(&self, keeps: bool, way: &Way) -> bool
-        ensures { result ≡ (walking.is_walk_held self.now.config.now (H.cells self.now.held.now) (way_seen way.now)
-            && is_none (spec.spare self.now.config.now keeps (H.cells self.now.held.now) (way_seen way.now))) }
+        ensures { result ≡ (walking.is_walk_held self.now.config.now (pair_cells self.now.held.now) (way_seen way.now)
+            && is_none (spec.spare self.now.config.now keeps (pair_cells self.now.held.now) (way_seen way.now))) }
     {
         self.is_walk_held(way) && self.spare(keeps, way).is_none()
     }
@@ -132,7 +132,7 @@ impl<'a, H: Held> HeldSight<'a, H> {
     #[tactic(auto, unfolding(crate::specs::Walks::is_walk_over))]
     pub(crate) fn is_walk_over(&self, call: &Call, way: &Way) -> bool
         requires { walking.way_of call.now ≡ Some (way_seen way.now) }
-        ensures { result ≡ spec.is_walk_over self.now.config.now call.now (H.cells self.now.held.now) (way_seen way.now) }
+        ensures { result ≡ spec.is_walk_over self.now.config.now call.now (pair_cells self.now.held.now) (way_seen way.now) }
     {
         self.are_told(call)
             && (self.is_refused_early(call)
@@ -143,7 +143,7 @@ impl<'a, H: Held> HeldSight<'a, H> {
 
     // Whether a table of the realm above the level is held in a granule.
     fn is_above(&self, granule: Pa, rd: u64, level: u8) -> bool
-        ensures { result ≡ spec.is_above rd level (seen.table_held (H.cells self.now.held.now) granule) }
+        ensures { result ≡ spec.is_above rd level (seen.table_held (pair_cells self.now.held.now) granule) }
     {
         match table_in(self.held, granule) {
             Some(table) => table.place().rd == rd && table.place().level < level,
@@ -153,7 +153,7 @@ impl<'a, H: Held> HeldSight<'a, H> {
 
     // Whether the realm is held that the command doesn't keep, once a table of it is held.
     fn is_realm_spare(&self, keeps: bool, rd: u64) -> bool
-        ensures { result ≡ spec.is_realm_spare keeps (H.cells self.now.held.now) rd }
+        ensures { result ≡ spec.is_realm_spare keeps (pair_cells self.now.held.now) rd }
     {
         !keeps && self.held.cell(Pa::new(rd)).is_some() && self.behind(rd).is_some()
     }
@@ -161,7 +161,7 @@ impl<'a, H: Held> HeldSight<'a, H> {
     /// What the plan frees before it goes on: the realm, or a table above the one that the walk has come to.
     #[tactic(auto, unfolding(crate::specs::Walks::spare))]
     pub(crate) fn spare(&self, keeps: bool, way: &Way) -> Option<u64>
-        ensures { result ≡ spec.spare self.now.config.now keeps (H.cells self.now.held.now) (way_seen way.now) }
+        ensures { result ≡ spec.spare self.now.config.now keeps (pair_cells self.now.held.now) (way_seen way.now) }
     {
         if self.is_realm_spare(keeps, way.rd) {
             return Some(way.rd);
@@ -176,7 +176,7 @@ impl<'a, H: Held> HeldSight<'a, H> {
     // The root of a realm that is held.
     #[tactic(auto, unfolding(realm_desc::specs::View::realm_record))]
     fn root_part(&self, rd: u64) -> Option<Part>
-        ensures part { option_map part_seen result ≡ spec.root_part rd (cell_in rd (H.cells self.now.held.now)) }
+        ensures part { option_map part_seen result ≡ spec.root_part rd (cell_in rd (pair_cells self.now.held.now)) }
         ensures within { IfSome result (λ part. part.index < 512) }
     {
         match self.held.cell(Pa::new(rd)) {
@@ -192,7 +192,7 @@ impl<'a, H: Held> HeldSight<'a, H> {
     // The table at the walk's end, below the link to it, or the root.
     #[tactic(auto, unfolding(crate::specs::Walks::link_part))]
     fn link_part(&self, way: &Way) -> Option<Part>
-        ensures part { option_map part_seen result ≡ spec.link_part self.now.config.now (H.cells self.now.held.now) (way_seen way.now) }
+        ensures part { option_map part_seen result ≡ spec.link_part self.now.config.now (pair_cells self.now.held.now) (way_seen way.now) }
         ensures within { IfSome result (λ part. part.index < 512) }
     {
         if self.behind(way.rd).is_none() {
@@ -207,7 +207,7 @@ impl<'a, H: Held> HeldSight<'a, H> {
     /// Where a realm's call walks: with good words, from a REC that doesn't wait to leave.
     #[tactic(auto, unfolding(crate::specs::Walks::way_inside, realm_desc::specs::View::rec_record))]
     pub(crate) fn way_inside(&self, call: &Call, rec: Pa, rd: Pa) -> Option<Way>
-        ensures { option_map way_seen result ≡ spec.way_inside call.now rec rd (H.cells self.now.held.now) }
+        ensures { option_map way_seen result ≡ spec.way_inside call.now rec rd (pair_cells self.now.held.now) }
     {
         match (call, self.held.cell(rec), self.held.cell(rd)) {
             (Call::IpaStateGet { ipa }, Some(Cell::Rec(it)), Some(Cell::Rd(descriptor)))
@@ -223,7 +223,7 @@ impl<'a, H: Held> HeldSight<'a, H> {
     /// The part that the walk wants: below the table at its end what the command takes out, else that table.
     #[tactic(auto, unfolding(crate::specs::Walks::wanted))]
     pub(crate) fn wanted(&self, call: &Call, way: &Way) -> Option<Part>
-        ensures part { option_map part_seen result ≡ spec.wanted self.now.config.now call.now (H.cells self.now.held.now) (way_seen way.now) }
+        ensures part { option_map part_seen result ≡ spec.wanted self.now.config.now call.now (pair_cells self.now.held.now) (way_seen way.now) }
         ensures within { IfSome result (λ part. part.index < 512) }
     {
         let end = self.end_table(way);

@@ -78,7 +78,7 @@ impl Draft {
         ensures token { token.new ≡ record token.old { room = token.new.room } }
         ensures room { token.old.room ≤ token.new.room }
     {
-        self.answer = foresee(config, command, token.cpu, &token.place, hold);
+        self.answer = foresee(config, command, token.cpu, &token.place, hold.pairs());
         self.room = room_of(alloc, &self.answer).ok();
         let _ = token.mine.reserve();
     }

@@ -92,7 +92,7 @@ fn change_aside(hold: &Hold, side: &mut Side, answer: &Result<Accepted, Refusal>
     requires { IsTrue (can_count (granule_limit Large) (side_of side.old) (spec.change_of answer.now)) }
     ensures { side_of side.new ≡ side_changed (known_cell (hold_cells hold.now)) (side_of side.old) (spec.change_of answer.now) }
 {
-    apply_aside(hold, side, change_of(answer));
+    apply_aside(hold.pairs(), side, change_of(answer));
 }
 
 // Leaves a draft that the side table bears out as it is, and decides any other anew.
@@ -140,7 +140,7 @@ fn decided<S: Site>(
         command,
         token.cpu,
         &token.place,
-        hold,
+        hold.pairs(),
         &journal.side,
     );
     let room = room_of(alloc, &answer)?;

@@ -12,7 +12,6 @@ ghost use Rattle.commit_tickets.specs.Drafts.{IsEnteredOn};
 use crate::draft::{Draft, change_of};
 use crate::site::Site;
 use crate::token::CpuToken;
-use command_core::apply_held;
 use granule_lock::Hold;
 use rmm_spec::Reply;
 
@@ -32,7 +31,7 @@ pub(crate) fn settle<S: Site>(draft: &mut Draft, token: &mut CpuToken<S>, hold: 
     let Some(room) = draft.room.take() else {
         unreachable!()
     };
-    apply_held(hold, &mut token.place, change_of(&draft.answer), room);
+    hold.apply(&mut token.place, change_of(&draft.answer), room);
     draft.entered = None;
     draft.reply().to_reply()
 }

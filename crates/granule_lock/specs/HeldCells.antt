@@ -1,7 +1,7 @@
 -- What contracts see of the granules of a machine and of what a CPU holds. This project's own.
-use Rattle.std.specs.Prelude.{◌≡◌, ℕ, ◌-◌, ◌≤◌, List, [], length, slice_get, IsTrue, Option, Some, None}
+use Rattle.std.specs.Prelude.{◌≡◌, ℕ, ◌-◌, List, [], length, slice_get, IsTrue, Option, Some, None}
 use Rattle.rmm_spec.specs.Local.{HeldCell, granules_held}
-use Rattle.command_core.specs.Pairs.{pair_cells, pairs-few, pairs-distinct}
+use Rattle.command_core.specs.Pairs.{pair_cells, pairs-distinct}
 use Rattle.command_core.specs.Seen.{are_distinct}
 use Rattle.granule_lock.specs.declared.hold.Freed.{Freed}
 use Rattle.granule_lock.specs.declared.hold.Hold.{Hold}
@@ -27,9 +27,6 @@ freed_cells hold = cells_freed hold.freed
 -- the granule is the last that was taken of those that are held
 abbrev pub IsLastHeld : ℕ → List HeldCell → Type 0
 IsLastHeld granule held = slice_get (granules_held held) (length (granules_held held) - 1) ≡ Some granule
-
-pub hold-few : (h : Hold) → length (hold_cells h) ≤ 6
-hold-few h = pairs-few h.pairs
 
 pub hold-distinct : (h : Hold) → IsTrue (are_distinct (granules_held (hold_cells h)))
 hold-distinct h = pairs-distinct h.pairs

@@ -2,8 +2,9 @@
 
 ghost use Rattle.std.specs.Prelude.{◌≡◌, Some};
 
-use command_core::{Cell, Held, HeldPairs};
+use command_core::{Cell, CpuPlace, HeldPairs, Room, apply_held};
 use memory_map::Pa;
+use rmm_spec::Change;
 use std::snapshot::Snapshot;
 
 /// A cell on its way between its granule and a hold. It has no `Drop`: it is put among those that are held, or it goes home.
@@ -47,19 +48,20 @@ impl Freed {
 }
 
 /// Up to six cells with their granules, in the order in which they were taken. Only a take adds one. It has no `Drop`, so that
-/// each granule gets a cell home before it ends: the one that was taken, or the one that was last put in its place, for which
-/// `swap` gives the earlier one out.
+/// each granule gets a cell home before it ends: the one that was taken, or the one that a change put in its place.
 pub struct Hold {
-    pairs: HeldPairs,
+    pub(crate) pairs: HeldPairs,
     // set by `begin_freeing` alone
     freed: Option<Freed>,
 }
 
 impl Hold {
     ghost use Rattle.std.specs.Prelude.{◌≡◌, ◌++◌, ◌∷◌, [], ◌<◌, false, Some, length, IsTrue};
-    ghost use Rattle.world_laws.specs.Replaced.{held_at};
-    ghost use Rattle.command_core.specs.Pairs.{without_cell};
-    ghost use Rattle.command_core.specs.Seen.{cell_of, cell_in, is_held};
+    ghost use Rattle.world_laws.specs.Replaced.{held_at, replaced_all};
+    ghost use Rattle.command_core.specs.Changed.{fits_cells, new_cells, new_place, AreHeld};
+    ghost use Rattle.command_core.specs.Pairs.{pair_cells, without_cell};
+    ghost use Rattle.command_core.specs.Rooms.{IsRoomFor};
+    ghost use Rattle.command_core.specs.Seen.{cell_of, cell_in, is_held, place_of};
     ghost use Rattle.granule_lock.specs.HeldCells.{freed_cells, hold_cells, IsLastHeld};
 
     /// No cells.
@@ -70,6 +72,24 @@ impl Hold {
             pairs: HeldPairs::new(),
             freed: None,
         }
+    }
+
+    /// The cells beside their granules.
+    pub fn pairs(&self) -> &HeldPairs
+        ensures { result.now ≡ self.now.pairs }
+    {
+        &self.pairs
+    }
+
+    /// Makes a change of what is held and of the CPU's place, with the room that was taken for it.
+    pub fn apply(&mut self, place: &mut CpuPlace, change: &Change, room: Room)
+        requires held { AreHeld (hold_cells self.old) change.now }
+        requires fits { IsTrue (fits_cells (hold_cells self.old) change.now) }
+        requires room { IsRoomFor change.now room }
+        ensures cells { hold_cells self.new ≡ replaced_all (hold_cells self.old) (new_cells (hold_cells self.old) change.now) }
+        ensures place { place_of place.new ≡ new_place (hold_cells self.old) (place_of place.old) change.now }
+    {
+        apply_held(&mut self.pairs, place, change, room);
     }
 
     /// Ends a hold of no cells.
@@ -109,27 +129,5 @@ impl Hold {
         Away {
             cell: self.pairs.remove(pa),
         }
-    }
-}
-
-impl Held for Hold {
-    ghost use Rattle.granule_lock.specs.HeldCells.{hold_cells, hold-few, hold-distinct};
-
-    ghost cells = { hold_cells };
-
-    ghost few = { hold-few };
-
-    ghost distinct = { hold-distinct };
-
-    fn held(&self) -> &[Pa] {
-        self.pairs.held()
-    }
-
-    fn cell(&self, pa: Pa) -> Option<&Cell> {
-        self.pairs.cell(pa)
-    }
-
-    fn swap(&mut self, pa: Pa, cell: Cell) -> Cell {
-        self.pairs.swap(pa, cell)
     }
 }

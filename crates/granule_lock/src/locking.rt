@@ -10,7 +10,7 @@ ghost use Rattle.granule_lock.specs.Locked.{AreGranules, IsPlannedStep, IsReache
 
 use crate::granules::Granules;
 use crate::hold::Hold;
-use command_core::{CpuPlace, Held, Next, next_step};
+use command_core::{CpuPlace, Next, next_step};
 use memory_map::{Config, Pa};
 use rmm_spec::{Call, Command};
 use std::sync::Wait;
@@ -59,7 +59,7 @@ fn goes_on<R: Wait>(
     ensures planned { IsTrue result → IsPlannedStep config.now call.now (place_of place.now)
         (locking (hold_cells hold.old) learnt.old) (locking (hold_cells hold.new) learnt.new) }
 {
-    match next_step(config, call, place, *learnt, hold) {
+    match next_step(config, call, place, *learnt, &hold.pairs) {
         Next::Take(pa) => granules.take(rt, hold, pa),
         Next::Free(pa, owner) => {
             granules.give(rt, hold, pa);
@@ -88,5 +88,5 @@ fn last_held(hold: &Hold) -> Option<Pa>
     ensures some { IfSome result (λ last. IsTrue (is_held last (hold_cells hold.now))) }
     ensures none { IfNone result (hold_cells hold.now ≡ []) }
 {
-    hold.held().last().copied()
+    hold.pairs.held().last().copied()
 }

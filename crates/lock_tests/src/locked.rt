@@ -8,10 +8,10 @@ ghost use Rattle.command_core.specs.Seen.{cell_of};
 ghost use Rattle.granule_cells.specs.declared.cell.Cell.{Cell};
 ghost use Rattle.granule_lock.specs.HeldCells.{hold_cells};
 
-use command_core::{Cell, Held};
+use command_core::{Change, CpuPlace, room_for};
 use granule_lock::{Granules, Hold};
 use memory_map::{Config, Pa};
-use rmm_spec::Tag;
+use rmm_spec::{Tag, TagChange};
 use std::alloc::Global;
 use std::sync::Wait;
 use std::sync::atomic::{AtomicU64, Ordering};
@@ -43,8 +43,8 @@ fn hold_of<R: Wait>(rt: &R, granules: &Granules, pa: Pa) -> Hold
     hold
 }
 
-fn tag_of<H: Held>(held: &H, pa: Pa) -> Option<Tag> {
-    Some(held.cell(pa)?.tag())
+fn tag_of(hold: &Hold, pa: Pa) -> Option<Tag> {
+    Some(hold.pairs().cell(pa)?.tag())
 }
 
 /// Gives home all that is held.
@@ -56,24 +56,32 @@ fn give_home<R: Wait>(rt: &R, granules: &Granules, mut hold: Hold, pa: Pa)
     hold.end();
 }
 
-/// Puts a delegated granule in the place of what is held, and gives it home.
-fn give_delegated<R: Wait>(rt: &R, granules: &Granules, mut hold: Hold, pa: Pa)
+/// Delegates the granule that is held, and gives it home.
+#[tactic(auto, unfolding(command_core::specs::Changed::new_cells))]
+fn give_delegated<R: Wait>(rt: &R, alloc: Global, granules: &Granules, mut hold: Hold, pa: Pa)
     requires granule { IsTrue (is_granule granules.now.granules pa) }
-    requires held { (cell : Cell) × (hold_cells hold ≡ held_at pa (cell_of cell) ∷ []) }
+    requires held { (cell : whole.Cell) × (hold_cells hold ≡ held_at pa cell ∷ []) }
 {
-    hold.swap(pa, Cell::Delegated);
+    let change = Change::Retagged(TagChange {
+        granule: pa.address(),
+        tag: Tag::Delegated,
+    });
+    let Ok(room) = room_for(alloc, &change) else {
+        unreachable!()
+    };
+    hold.apply(&mut CpuPlace::Outside, &change, room);
     give_home(rt, granules, hold, pa);
 }
 
 /// Whether a granule is found as it was given home, while another one is held.
-fn comes_back<R: Wait>(rt: &R, granules: &Granules, low: Pa, high: Pa) -> bool
+fn comes_back<R: Wait>(rt: &R, alloc: Global, granules: &Granules, low: Pa, high: Pa) -> bool
     requires low { IsTrue (is_granule granules.now.granules low) }
     requires high { IsTrue (is_granule granules.now.granules high) }
 {
     let below = hold_of(rt, granules, low);
     let hold = hold_of(rt, granules, high);
     let tags = (tag_of(&below, low), tag_of(&hold, high));
-    give_delegated(rt, granules, hold, high);
+    give_delegated(rt, alloc, granules, hold, high);
     let hold = hold_of(rt, granules, high);
     let found = (tag_of(&hold, low), tag_of(&hold, high));
     give_home(rt, granules, hold, high);
@@ -85,7 +93,7 @@ fn comes_back<R: Wait>(rt: &R, granules: &Granules, low: Pa, high: Pa) -> bool
 #[test]
 fn given_cells_come_back(rt: HostRuntime) -> Result<(), Fail> {
     let (granules, low, high) = four_granules(rt.alloc())?;
-    assert!(rt; comes_back(&rt, &granules, low, high));
+    assert!(rt; comes_back(&rt, rt.alloc(), &granules, low, high));
     Ok(())
 }
 
@@ -93,6 +101,7 @@ fn given_cells_come_back(rt: HostRuntime) -> Result<(), Fail> {
 /// was 0 at each look.
 fn hold_long<R: Wait>(
     rt: &R,
+    alloc: Global,
     granules: &Granules,
     pa: Pa,
     held: &AtomicU64,
@@ -103,7 +112,7 @@ fn hold_long<R: Wait>(
     let hold = hold_of(rt, granules, pa);
     held.store(1, Ordering::SeqCst);
     let stayed = (0..LOOKS).all(|_| taken.load(Ordering::SeqCst) == 0);
-    give_delegated(rt, granules, hold, pa);
+    give_delegated(rt, alloc, granules, hold, pa);
     stayed
 }
 
@@ -131,7 +140,12 @@ fn take_counted<R: Wait>(
 }
 
 /// One thread takes what another holds.
-fn take_beside<R: Threads + Wait + Sync>(rt: &R, granules: &Granules, pa: Pa) -> (Option<Tag>, bool)
+fn take_beside<R: Threads + Wait + Sync>(
+    rt: &R,
+    alloc: Global,
+    granules: &Granules,
+    pa: Pa,
+) -> (Option<Tag>, bool)
     requires { IsTrue (is_granule granules.now.granules pa) }
 {
     let held = AtomicU64::new(0);
@@ -143,14 +157,14 @@ fn take_beside<R: Threads + Wait + Sync>(rt: &R, granules: &Granules, pa: Pa) ->
         { take_counted(rt, granules, pa, &held, &taken) },
         || -> bool
             requires { IsTrue (is_granule granules.now.granules pa) }
-        { hold_long(rt, granules, pa, &held, &taken) },
+        { hold_long(rt, alloc, granules, pa, &held, &taken) },
     )
 }
 
 #[test]
 fn holder_keeps_others_out(rt: HostRuntime) -> Result<(), Fail> {
     let (granules, pa, _) = four_granules(rt.alloc())?;
-    let (found, stayed) = take_beside(&rt, &granules, pa);
+    let (found, stayed) = take_beside(&rt, rt.alloc(), &granules, pa);
     assert!(rt; found == Some(Tag::Delegated) && stayed);
     Ok(())
 }

@@ -6,7 +6,7 @@ ghost use Rattle.granule_lock.specs.HeldCells.{hold_cells};
 ghost use Rattle.granule_lock.specs.Locked.{AreGranules};
 
 use arrayvec::ArrayVec;
-use command_core::{CpuPlace, Held, Next, next_lock};
+use command_core::{CpuPlace, Next, next_lock};
 use command_log::CommandLog;
 use commit_tickets::{CommitFault, CpuToken, Done, Journal, Site, commit};
 use granule_lock::{Granules, Hold, free_all, lock_for};
@@ -87,7 +87,7 @@ fn delegate_on<S: Site>(
     ensures { AreGranules S.config.granules (hold_cells hold.new) }
 {
     let command = delegate(address);
-    match next_lock(config, &command, &token.place(), None, hold) {
+    match next_lock(config, &command, &token.place(), None, hold.pairs()) {
         Next::Ready => Some(commit(alloc, journal, token, hold, &command)),
         _ => None,
     }
@@ -125,7 +125,7 @@ fn disagrees_elsewhere<S: Site, R: Wait>(
 }
 
 fn tag_of(hold: &Hold, address: u64) -> Option<Tag> {
-    Some(hold.cell(Pa::new(address))?.tag())
+    Some(hold.pairs().cell(Pa::new(address))?.tag())
 }
 
 /// Whether that is so on a new journal.
@@ -275,7 +275,7 @@ fn locks_beside<R: Wait>(rt: &R, alloc: Global, config: Config) -> Result<bool, 
         &command,
         &mut hold,
     );
-    let is_alone = matches!(hold.held(), [only] if *only == Pa::new(0x1000));
+    let is_alone = matches!(hold.pairs().held(), [only] if *only == Pa::new(0x1000));
     give_home(rt, &granules, hold);
     give_home(rt, &granules, first);
     give_home(rt, &granules, third);

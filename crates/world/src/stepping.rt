@@ -7,6 +7,7 @@ ghost use Rattle.rmm_spec.specs.Local.{granules_held, LocalStep};
 ghost use Rattle.rmm_spec.specs.Lookup.{is_granule};
 ghost use Rattle.rmm_spec.specs.Ownership.{is_accepted};
 ghost use Rattle.command_core.specs.Changed.{hold_of};
+ghost use Rattle.command_core.specs.Pairs.{pair_cells};
 ghost use Rattle.command_core.specs.Seen.{are_distinct, place_of};
 ghost use Rattle.command_core.specs.Settled.{is_settled};
 ghost use Rattle.command_core.specs.Sides.{side_of};
@@ -19,31 +20,33 @@ ghost use Rattle.world.specs.Stepped.{IsAnswered, MakesStep};
 use crate::cells::Cells;
 use crate::cpus::Cpus;
 use crate::lent::{give_back, lend};
-use command_core::{CpuPlace, Held, Side, applied_decisions_are_local, apply, decide, room};
+use command_core::{CpuPlace, HeldPairs, Side, applied_decisions_are_local, apply, decide, room};
 use memory_map::Config;
 use rmm_spec::{Command, Reply};
 use std::alloc::{AllocError, Global};
 
 // Decides a command on what is held, and makes its change of that. A refusal changes nothing and takes no memory. Where memory
 // is refused, nothing changes either.
-fn step_on<H: Held>(
+fn step_on(
     alloc: Global,
     config: &Config,
     command: &Command,
     cpu: u8,
-    held: &mut H,
+    held: &mut HeldPairs,
     side: &mut Side,
     place: &mut CpuPlace,
 ) -> Result<Reply, AllocError>
-    requires settled { IsTrue (is_settled config.now (call_of command.now) (place_of place.old) (H.cells held.old)) }
-    ensures same { granules_held (H.cells held.new) ≡ granules_held (H.cells held.old) }
+    requires settled { IsTrue (is_settled config.now (call_of command.now) (place_of place.old) (pair_cells held.old)) }
+    ensures same { granules_held (pair_cells held.new) ≡ granules_held (pair_cells held.old) }
     ensures ok { IfOk result (λ reply. LocalStep config.now cpu command.now reply
-        (hold_of (H.cells held.old) (side_of side.old) (place_of place.old)) (hold_of (H.cells held.new) (side_of side.new) (place_of place.new))) }
+        (hold_of (pair_cells held.old) (side_of side.old) (place_of place.old))
+        (hold_of (pair_cells held.new) (side_of side.new) (place_of place.new))) }
     ensures answered { IfOk result (λ reply. IsAnswered config.now cpu command.now reply
-        (hold_of (H.cells held.old) (side_of side.old) (place_of place.old)) (hold_of (H.cells held.new) (side_of side.new) (place_of place.new))) }
-    ensures err { OnErr result (hold_of (H.cells held.new) (side_of side.new) (place_of place.new)
-        ≡ hold_of (H.cells held.old) (side_of side.old) (place_of place.old)) }
-    ensures only { OnErr result (MakesTable config.now cpu command.now (hold_of (H.cells held.old) (side_of side.old) (place_of place.old))) }
+        (hold_of (pair_cells held.old) (side_of side.old) (place_of place.old))
+        (hold_of (pair_cells held.new) (side_of side.new) (place_of place.new))) }
+    ensures err { OnErr result (hold_of (pair_cells held.new) (side_of side.new) (place_of place.new)
+        ≡ hold_of (pair_cells held.old) (side_of side.old) (place_of place.old)) }
+    ensures only { OnErr result (MakesTable config.now cpu command.now (hold_of (pair_cells held.old) (side_of side.old) (place_of place.old))) }
 {
     let _fact = applied_decisions_are_local();
     let (reply, change) = decide(config, command, cpu, place, held, side);

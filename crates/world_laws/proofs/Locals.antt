@@ -45,7 +45,7 @@ unchanged-is_local config cpu command given hold steps = record {
 
 -- ---- one cell
 
-granules_held-replaced_cells : (held : List HeldCell) (granule : ℕ) (cell : Cell)
+pub granules_held-replaced_cells : (held : List HeldCell) (granule : ℕ) (cell : Cell)
     → granules_held (replaced_cells held granule cell) ≡ granules_held held
 granules_held-replaced_cells [] granule cell = refl
 granules_held-replaced_cells (h ∷ held) granule cell = ap (λ rest. h.granule ∷ rest) (granules_held-replaced_cells held granule cell)
@@ -143,7 +143,7 @@ put_all-over (h ∷ held) cells granule cell has =
         ap (λ whole. put_all whole held) (put-swap cells granule h.granule cell h.cell (keys_apart h.granule granule apart))
         ∙ rest (Contains-other h.granule (granules_held held) granule (keys_apart h.granule granule apart) has)
 
-granules_held-replaced_all : (changes held : List HeldCell) → granules_held (replaced_all held changes) ≡ granules_held held
+pub granules_held-replaced_all : (changes held : List HeldCell) → granules_held (replaced_all held changes) ≡ granules_held held
 granules_held-replaced_all [] held = refl
 granules_held-replaced_all (h ∷ changes) held =
     granules_held-replaced_all changes (replaced_cells held h.granule h.cell) ∙ granules_held-replaced_cells held h.granule h.cell

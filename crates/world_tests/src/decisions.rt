@@ -2,10 +2,11 @@
 //! from the order of each command's conditions.
 
 ghost use Rattle.command_core.specs.Changed.{hold_of, AreHeld, CanMake};
+ghost use Rattle.command_core.specs.Pairs.{pair_cells};
 ghost use Rattle.command_core.specs.Seen.{place_of};
 ghost use Rattle.command_core.specs.Sides.{side_of};
 
-use command_core::{Cell, CpuPlace, Held, HeldPairs, Next, Side, apply, decide, next_lock, room};
+use command_core::{Cell, CpuPlace, HeldPairs, Next, Side, apply, decide, next_lock, room};
 use memory_map::{Config, Pa};
 use rmi_codec::{read_command, read_reply};
 use rmm_spec::{Change, Command, Reply, Tag};
@@ -67,15 +68,15 @@ fn five_granules(alloc: Global) -> Result<Holder, AllocError> {
 }
 
 /// Makes a change, in room that is taken for it.
-fn make<H: Held>(
+fn make(
     alloc: Global,
-    held: &mut H,
+    held: &mut HeldPairs,
     side: &mut Side,
     place: &mut CpuPlace,
     change: Change,
 ) -> Result<(), AllocError>
-    requires held { AreHeld (H.cells held.old) change }
-    requires makes { CanMake (hold_of (H.cells held.old) (side_of side.old) (place_of place.old)) change }
+    requires held { AreHeld (pair_cells held.old) change }
+    requires makes { CanMake (hold_of (pair_cells held.old) (side_of side.old) (place_of place.old)) change }
 {
     let taken = room(alloc, side, &change)?;
     apply(held, side, place, change, taken);

@@ -1,6 +1,6 @@
 //! Held cells in a list of their own.
 
-use command_core::{Cell, Held, HeldPairs};
+use command_core::{Cell, HeldPairs};
 use memory_map::Pa;
 use rmm_spec::Tag;
 use std::test::Fail;

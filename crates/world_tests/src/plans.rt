@@ -4,7 +4,7 @@
 ghost use Rattle.std.specs.Prelude.{◌≡◌, ◌==◌, false};
 
 use crate::tables;
-use command_core::{Cell, CpuPlace, Descriptor, Held, HeldPairs, Next, next_lock};
+use command_core::{Cell, CpuPlace, Descriptor, HeldPairs, Next, next_lock};
 use memory_map::{Config, Pa};
 use realm_desc::{HashAlgorithm, Realm, Rec, Space};
 use rmi_codec::read_command;

@@ -2,7 +2,7 @@
 //! Each line is a command and the cells that are held for it, by their names in `named_cell`.
 
 use crate::plans::{inside, realm, rec};
-use command_core::{Cell, CpuPlace, Held, HeldPairs, Next, Side, decide, next_lock};
+use command_core::{Cell, CpuPlace, HeldPairs, Next, Side, decide, next_lock};
 use memory_map::{Config, Pa};
 use rmi_codec::read_command;
 use rmm_spec::{Change, Command, Entry, Place, Reply};

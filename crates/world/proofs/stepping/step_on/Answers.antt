@@ -7,17 +7,18 @@ use Rattle.command_core.specs.Seen.{known_cell}
 use Rattle.world_laws.proofs.Accepted.{refused-is_local}
 use Rattle.world.proofs.Commits.{refused-unchanged}
 use Rattle.world.proofs.stepping.step_on.Goals as goal
+use Rattle.command_core.specs.Pairs.{pair_cells}
 
 -- what refuses is a local step that changes nothing
 pub returns-then-not-is_accepted-clause-ok : goal.returns-then-not-is_accepted-clause-ok
-returns-then-not-is_accepted-clause-ok g c =
-    let hold = hold_of (g.H.Held.cells c.args.held.now) (side_of c.args.side.now) (place_of c.args.place.now) in
+returns-then-not-is_accepted-clause-ok c =
+    let hold = hold_of (pair_cells c.args.held.now) (side_of c.args.side.now) (place_of c.args.place.now) in
     refused-is_local c.args.config.now c.args.cpu c.args.command.now c.decide-reply.result.0 hold (hold_changed hold c.decide-reply.result.1)
     (sym c.is_accepted.ensures ∙ c.if-not-is_accepted.true) c.decide-reply.ensures.decides
 
 -- the change that is decided makes a table
 pub returns-in_default-clause-only : goal.returns-in_default-clause-only
-returns-in_default-clause-only g c =
+returns-in_default-clause-only c =
     record {
       given = c.decide-reply.result.0;
       change = c.decide-reply.result.1;
@@ -29,8 +30,8 @@ returns-in_default-clause-only g c =
 
 -- a refusal leaves what is held as it was
 pub returns-then-not-is_accepted-clause-answered : goal.returns-then-not-is_accepted-clause-answered
-returns-then-not-is_accepted-clause-answered g c =
-    let hold = hold_of (g.H.Held.cells c.args.held.now) (side_of c.args.side.now) (place_of c.args.place.now) in
+returns-then-not-is_accepted-clause-answered c =
+    let hold = hold_of (pair_cells c.args.held.now) (side_of c.args.side.now) (place_of c.args.place.now) in
     let given = c.decide-reply.ensures.given in
     record {
       is_given = given;
@@ -39,8 +40,8 @@ returns-then-not-is_accepted-clause-answered g c =
     }
 
 pub returns-clause-answered : goal.returns-clause-answered
-returns-clause-answered g c =
-    let hold = hold_of (g.H.Held.cells c.args.held.now) (side_of c.args.side.now) (place_of c.args.place.now) in
+returns-clause-answered c =
+    let hold = hold_of (pair_cells c.args.held.now) (side_of c.args.side.now) (place_of c.args.place.now) in
     record {
       is_given = c.decide-reply.ensures.given;
       is_changed = (λ i. hold_of (c.apply.ensures.cells i)

@@ -2,8 +2,9 @@ use Rattle.std.proofs.Common.{sym, subst}
 use Rattle.command_core.specs.Changed.{hold_of, CanMake}
 use Rattle.command_core.specs.Seen.{place_of}
 use Rattle.world_tests.proofs.decisions.make.Goals as goal
+use Rattle.command_core.specs.Pairs.{pair_cells}
 
 pub apply-requires-clause-makes : goal.apply-requires-clause-makes
-apply-requires-clause-makes g c =
-    subst (λ side. CanMake (hold_of (g.H.Held.cells c.args.held.now) side (place_of c.args.place.now)) c.args.change)
+apply-requires-clause-makes c =
+    subst (λ side. CanMake (hold_of (pair_cells c.args.held.now) side (place_of c.args.place.now)) c.args.change)
     (sym c.room.ensures.kept) c.requires.makes

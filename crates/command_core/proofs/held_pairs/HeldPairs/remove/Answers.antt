@@ -1,9 +1,10 @@
 use Rattle.command_core.proofs.Common.{◌∙◌, IsTrue, are_distinct, arith, subst, sym}
-use Rattle.command_core.specs.Pairs.{paired}
+use Rattle.command_core.specs.Pairs.{paired, pair_cells}
 use Rattle.command_core.proofs.Pairs.{position-first, cell_in-place, paired-remove, distinct-remove}
 use Rattle.command_core.proofs.held_pairs.HeldPairs.remove.Goals as goal
 
 pub invariant_of-self : goal.invariant_of-self
+unfolding pair_cells
 invariant_of-self c =
     let s = c.args.self.now in
     let first = position-first s.granules.items c.args.pa c.place_of-place.result c.place_of-place.ensures in
@@ -15,6 +16,7 @@ invariant_of-self c =
     }
 
 pub returns-clause-cells : goal.returns-clause-cells
+unfolding pair_cells
 returns-clause-cells c =
     let s = c.args.self.now in
     let first = position-first s.granules.items c.args.pa c.place_of-place.result c.place_of-place.ensures in
@@ -22,6 +24,7 @@ returns-clause-cells c =
     ∙ paired-remove s.granules.items s.cells.items c.args.pa c.place_of-place.result s.same_count first s.distinct
 
 pub returns-clause-given : goal.returns-clause-given
+unfolding pair_cells
 returns-clause-given c =
     let s = c.args.self.now in
     let first = position-first s.granules.items c.args.pa c.place_of-place.result c.place_of-place.ensures in

@@ -1,4 +1,4 @@
 use Rattle.command_core.proofs.held_sight.HeldSight.+reach.Given as goal
 
 abbrev pub decreases-reach : goal.decreases-reach
-decreases-reach g l = l.max
+decreases-reach l = l.max

@@ -3,6 +3,7 @@ use Rattle.rmm_spec.specs.declared.accepted.Stretch.{Stretch}
 use Rattle.rmm_spec.specs.Walk.{entry_size, table_size, table_number}
 use Rattle.world_laws.specs.SeenState.{seen_state}
 use Rattle.command_core.specs.Furthest as spec
+use Rattle.command_core.specs.Pairs.{pair_cells}
 use Rattle.command_core.proofs.Stretches.{leading-le}
 use Rattle.command_core.proofs.held_sight.HeldSight.furthest.Goals as goal
 
@@ -15,17 +16,17 @@ set-within p stretch =
     omega (arith, few, whole)
 
 pub overflow_mul-result : goal.overflow_mul-result
-overflow_mul-result g c =
+overflow_mul-result c =
     let a = c.args in
-    let passes : ℕ → Bool = spec.may_set (seen_state a.self.now.config.now (g.H.Held.cells a.self.now.held.now)) a.stretch.now in
+    let passes : ℕ → Bool = spec.may_set (seen_state a.self.now.config.now (pair_cells a.self.now.held.now)) a.stretch.now in
     let within : c.leading.result * c.entry_size.result ≤ a.stretch.now.top - a.stretch.now.base =
     rw (c.leading.ensures, c.most_set.ensures.exact, c.entry_size.ensures) (set-within passes a.stretch.now) in
     omega (arith, within)
 
 pub overflow_add-result : goal.overflow_add-result
-overflow_add-result g c =
+overflow_add-result c =
     let a = c.args in
-    let passes : ℕ → Bool = spec.may_set (seen_state a.self.now.config.now (g.H.Held.cells a.self.now.held.now)) a.stretch.now in
+    let passes : ℕ → Bool = spec.may_set (seen_state a.self.now.config.now (pair_cells a.self.now.held.now)) a.stretch.now in
     let within : c.leading.result * c.entry_size.result ≤ a.stretch.now.top - a.stretch.now.base =
     rw (c.leading.ensures, c.most_set.ensures.exact, c.entry_size.ensures) (set-within passes a.stretch.now) in
     omega (arith, within)

@@ -7,9 +7,10 @@ use Rattle.command_core.specs.Seen.{cell_of}
 use Rattle.granule_cells.specs.declared.cell.Cell.{Cell}
 use Rattle.command_core.specs.Pairs.{paired, pair_cells}
 use Rattle.command_core.proofs.Pairs.{position-first, cell_in-place, paired-slice_set}
-use Rattle.command_core.proofs.held_pairs.HeldPairsHeld.swap.Goals as goal
+use Rattle.command_core.proofs.held_pairs.HeldPairs.swap.Goals as goal
 
 pub returns-clause-cells : goal.returns-clause-cells
+unfolding pair_cells
 returns-clause-cells c =
     let s = c.args.self.now in
     let place = c.place_of-place.result in
@@ -24,6 +25,7 @@ returns-clause-cells c =
     ∙ ap (λ (cell : Cell). replaced_cells (pair_cells s) c.args.pa (cell_of cell)) c.replace.ensures.after
 
 pub returns-clause-given : goal.returns-clause-given
+unfolding pair_cells
 returns-clause-given c =
     let s = c.args.self.now in
     let place = c.place_of-place.result in
