@@ -147,6 +147,7 @@ impl Replay {
     }
 
     /// The first call, in the order of the calls, that returned and that no line names, by its CPU and number.
+    #[inline(never)]
     pub(crate) fn first_missing(&self, history: &History) -> Option<(u8, u32)>
         requires counted { length self.now.named.items ≡ length history.now.recorded.events }
         ensures { (lines : List Line) → IsReplayOf self.now history.now.recorded lines → MatchOption result
