@@ -1,5 +1,5 @@
 -- What a change makes of cells where the table whose entries it changes was found, and what it requires of them.
-use Rattle.std.specs.Prelude.{◌≡◌, ℕ, ◌+◌, ◌-◌, ◌*◌, ◌/◌, ◌%◌, ◌^◌, Bool, true, false, ◌&&◌, ◌==◌, nat_lt, nat_le, IsTrue, List, [], ◌∷◌, ◌++◌, Option, Some, None, IfSome, slice_set}
+use Rattle.std.specs.Prelude.{◌≡◌, ℕ, ◌+◌, ◌-◌, ◌*◌, ◌/◌, ◌%◌, Bool, true, false, ◌&&◌, ◌==◌, nat_lt, nat_le, IsTrue, List, [], ◌∷◌, ◌++◌, Option, Some, None, IfSome, slice_set}
 use Rattle.std.specs.List.{AllByRecursion}
 use Rattle.rmm_spec.specs.declared.change.Change.{Change}
 use Rattle.rmm_spec.specs.declared.change.Change.TheVariants.{Unchanged, Retagged, RealmMade, RealmDestroyed, RecMade, RecDestroyed, RecordsChanged, TableMade, TableDestroyed, EntriesChanged}
@@ -17,9 +17,9 @@ use Rattle.rmm_spec.specs.Change.{new_realm, new_rec}
 use Rattle.rmm_spec.specs.Lookup.{is_hash}
 use Rattle.rmm_spec.specs.State.{RealmRecord, RecRecord}
 use Rattle.rmm_spec.specs.Step.Terms.{is_space}
-use Rattle.rmm_spec.specs.Walk.{table_size}
 use Rattle.realm_desc.specs.Updates.{IsRecUpdate}
-use Rattle.shape_laws.specs.Whole.{changed_at, cell_with_realm, root_table, table_changed, entries_changed, cells_with_entries, cells_with_table, cells_with_tag_change, cells_with_realm_change, cells_with_rec_change}
+use Rattle.rtt_table.specs.Shaped.{IsShaped}
+use Rattle.shape_laws.specs.Whole.{changed_at, cell_with_realm, copied_table, root_table, width_in, table_changed, entries_changed, cells_with_entries, cells_with_table, cells_with_tag_change, cells_with_realm_change, cells_with_rec_change}
 
 -- ---- what becomes of cells
 
@@ -108,15 +108,17 @@ pub record FitParts (cells : ℕ → Cell) (page : Option TagChange) (realm : Op
   pub of_realm : IfSome realm (λ c. IsRealmUpdate c.update)
   pub of_rec : IfSome rec (CanUpdate cells)
 
--- a change fits the cells that it finds
-abbrev pub FitsCells : (ℕ → Cell) → Change → Type 0
-FitsCells cells (Retagged change) = IsTrue (is_plain change.tag)
-FitsCells cells (RealmMade rd root width level vmid algo) = IsTrue (is_space width level && is_hash algo)
-FitsCells cells (RecMade rd rec mpidr flags aux0 aux1) = TakesIndex cells rd mpidr × ((aux0 == aux1) ≡ false)
-FitsCells cells (RecordsChanged realm rec) = FitParts cells None realm rec
-FitsCells cells (TableMade rd level number rtt entry) = IsTrue (nat_lt (number * table_size level) (2 ^ 64))
-FitsCells cells (EntriesChanged rd level entries page realm rec) = FitParts cells page realm rec × IsTrue (fits_entries entries)
-FitsCells cells _ = Unit {0}
+-- a change fits the cells that it finds, where the table whose entries it changes lies at an address: a table that is made stands where
+-- a realm's table can
+abbrev pub FitsCells : (ℕ → Cell) → Option ℕ → Change → Type 0
+FitsCells cells at (Retagged change) = IsTrue (is_plain change.tag)
+FitsCells cells at (RealmMade rd root width level vmid algo) = IsTrue (is_space width level && is_hash algo)
+FitsCells cells at (RecMade rd rec mpidr flags aux0 aux1) = TakesIndex cells rd mpidr × ((aux0 == aux1) ≡ false)
+FitsCells cells at (RecordsChanged realm rec) = FitParts cells None realm rec
+FitsCells cells at (TableMade rd level number rtt entry) =
+    IfSome at (λ above. IsShaped (copied_table rd level number (width_in (cells above)) entry).place)
+FitsCells cells at (EntriesChanged rd level entries page realm rec) = FitParts cells page realm rec × IsTrue (fits_entries entries)
+FitsCells cells at _ = Unit {0}
 
 -- the granules in which a change puts another cell
 abbrev pub granules_put : Change → List ℕ

@@ -1,3 +1,4 @@
 pub mod Changes
 pub mod MadeLaws
+pub mod PlaceLaws
 pub mod Rooms

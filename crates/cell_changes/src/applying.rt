@@ -1,7 +1,10 @@
 //! A change that is made of cells, whichever kind it is.
 
-ghost use Rattle.std.specs.Prelude.{◌≡◌, ◌*◌, ◌^◌, nat_lt, IsTrue};
+ghost use Rattle.std.specs.Prelude.{◌≡◌, ◌*◌, IsTrue};
+ghost use Rattle.rmm_spec.specs.Step.Terms.{is_space};
 ghost use Rattle.rmm_spec.specs.Walk as walk;
+ghost use Rattle.rtt_table.specs.Shaped.{IsShaped};
+ghost use Rattle.shape_laws.specs.Whole as whole;
 ghost use Rattle.cell_changes.specs.Changes.{cells_made, CanPutAll, FitsCells};
 ghost use Rattle.cell_changes.specs.Rooms.{IsRoomFor};
 
@@ -19,7 +22,7 @@ use rmm_spec::{Change, EntryChange, Place, TagChange};
 #[tactic(auto, unfolding(crate::specs::Changes::cells_made))]
 pub fn apply<S: CellStore>(store: &mut S, change: &Change, at: Option<u64>, room: Room)
     requires has { CanPutAll (S.has (S.kept store.old)) change.now }
-    requires fits { FitsCells (S.cells_in store.old) change.now }
+    requires fits { FitsCells (S.cells_in store.old) at change.now }
     requires room { IsRoomFor change.now room }
     ensures kept { S.kept store.new ≡ S.kept store.old }
     ensures cells { S.cells_in store.new ≡ cells_made (S.cells_in store.old) at change.now }
@@ -27,8 +30,15 @@ pub fn apply<S: CellStore>(store: &mut S, change: &Change, at: Option<u64>, room
     match *change {
         Change::Unchanged => {}
         Change::Retagged(TagChange { granule, tag }) => store.put_tag(granule, tag),
-        Change::RealmMade { rd, root, .. } => {
-            let (realm, table) = room.into_realm();
+        Change::RealmMade {
+            rd,
+            root,
+            width,
+            level,
+            ..
+        } => {
+            let (realm, entries) = room.into_realm();
+            let table = entries.at(root_place(rd, width, level));
             put_realm(store, rd, realm, root, table);
         }
         Change::RealmDestroyed { rd, root } => free_realm(store, rd, root),
@@ -53,8 +63,8 @@ pub fn apply<S: CellStore>(store: &mut S, change: &Change, at: Option<u64>, room
             ..
         } => {
             if let Some(above) = at {
-                let place = place_of(rd, level, number);
-                make_table(store, above, place, number, rtt, room.into_table());
+                let place = place_of(rd, level, number, store.width_at(above));
+                make_table(store, above, number, rtt, room.into_table().at(place));
             }
         }
         Change::TableDestroyed {
@@ -73,17 +83,32 @@ pub fn apply<S: CellStore>(store: &mut S, change: &Change, at: Option<u64>, room
     }
 }
 
-// Where a new table stands, whatever the width of its realm's address space.
+// Where the root of a realm stands.
+fn root_place(rd: u64, width: u8, level: u8) -> Place
+    requires { IsTrue (is_space width level) }
+    ensures place { result ≡ (whole.root_table rd width level).place }
+    ensures shaped { IsShaped result }
+{
+    Place {
+        rd,
+        level,
+        base: 0,
+        width,
+    }
+}
+
+// Where a new table stands, in an address space of that width.
 #[tactic(auto, unfolding(rmm_spec::specs::Walk::table_size))]
-fn place_of(rd: u64, level: u8, number: u64) -> Place
-    requires { IsTrue (nat_lt (number * walk.table_size level) (2 ^ 64)) }
-    ensures { result ≡ record { rd = rd; level = level; base = number * walk.table_size level; width = 0 } }
+fn place_of(rd: u64, level: u8, number: u64, width: u8) -> Place
+    requires { IsShaped (record { rd = rd; level = level; base = number * walk.table_size level; width = width }) }
+    ensures place { result ≡ record { rd = rd; level = level; base = number * walk.table_size level; width = width } }
+    ensures shaped { IsShaped result }
 {
     let size = 1 << (12 + 9 * 4u64.saturating_sub(u64::from(level)));
     Place {
         rd,
         level,
         base: number * size,
-        width: 0,
+        width,
     }
 }

@@ -1,20 +1,21 @@
 //! The memory of one change.
 
 use granule_cells::Descriptor;
-use rtt_table::Table;
+use rtt_table::Unplaced;
 
-/// What a change puts in that takes memory: the descriptor and the root of a realm that is made, or a table.
+/// What a change puts in that takes memory: the descriptor of a realm that is made and the entries of its
+/// root, or those of a table.
 #[derive(Drop)]
 pub struct Room {
     pub(crate) descriptor: Option<Descriptor>,
-    pub(crate) table: Option<Table>,
+    pub(crate) table: Option<Unplaced>,
 }
 
 impl Room {
     ghost use Rattle.std.specs.Prelude.{◌≡◌, is_some, IsTrue, Some};
 
-    /// The table that the room has.
-    pub fn into_table(self) -> Table
+    /// The entries that the room has.
+    pub fn into_table(self) -> Unplaced
         requires { IsTrue (is_some self.table) }
         ensures { self.table ≡ Some result }
     {
@@ -26,8 +27,8 @@ impl Room {
         table
     }
 
-    /// The descriptor and the root that the room has.
-    pub fn into_realm(self) -> (Descriptor, Table)
+    /// The descriptor and the entries that the room has.
+    pub fn into_realm(self) -> (Descriptor, Unplaced)
         requires descriptor { IsTrue (is_some self.descriptor) }
         requires table { IsTrue (is_some self.table) }
         ensures descriptor { self.descriptor ≡ Some result.0 }

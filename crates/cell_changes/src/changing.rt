@@ -1,19 +1,19 @@
 //! What a change makes of cells, one function a kind of change.
 
-ghost use Rattle.std.specs.Prelude.{◌≡◌, ◌*◌, IsTrue, None, Some, IfSome, replicate};
-ghost use Rattle.rmm_spec.specs.declared.entry.Entry as entries;
+ghost use Rattle.std.specs.Prelude.{◌≡◌, IsTrue, None, IfSome};
+ghost use Rattle.rmm_spec.specs.declared.change.EntryChange.TheVariants.{Replaced};
+ghost use Rattle.rmm_spec.specs.declared.entry.Entry.TheVariants as entries;
 ghost use Rattle.rmm_spec.specs.declared.change.RealmUpdate.TheVariants.{RecCounted};
 ghost use Rattle.rmm_spec.specs.Applicable.{IsRealmUpdate};
 ghost use Rattle.rmm_spec.specs.Cell as whole;
 ghost use Rattle.rmm_spec.specs.Cell.{put};
-ghost use Rattle.rmm_spec.specs.Walk as walk;
-ghost use Rattle.shape_laws.specs.Whole.{changed_at, cell_with_realm, cells_with_tag_change, cells_with_realm_change, cells_with_rec_change, cells_with_entries, cells_with_table, entries_changed};
+ghost use Rattle.shape_laws.specs.Whole.{changed_at, cell_with_realm, cells_with_tag_change, cells_with_realm_change, cells_with_rec_change, cell_with_entries, cells_with_entries, entries_changed};
 ghost use Rattle.cell_changes.specs.Changes.{fits_entries, is_plain, CanUpdate, FitParts, TakesIndex};
 
 use crate::cell_store::CellStore;
 use granule_cells::Descriptor;
 use realm_desc::Rec;
-use rmm_spec::{Entry, EntryChange, Place, RealmChange, RecChange, Tag, TagChange};
+use rmm_spec::{Entry, EntryChange, RealmChange, RecChange, Tag, TagChange};
 use rtt_table::Table;
 
 pub(crate) fn put_realm<S: CellStore>(
@@ -125,24 +125,19 @@ pub fn change_records<S: CellStore>(
     change_rec(store, rec);
 }
 
-/// Puts in a new table, of the width of the one above, which gets a link to it.
+/// Puts in a new table, and the one above gets a link to it.
 pub(crate) fn make_table<S: CellStore>(
     store: &mut S,
     above: u64,
-    place: Place,
     number: u64,
     rtt: u64,
     table: Table,
 )
-    requires rtt { IsTrue (S.has (S.kept store.old) rtt) }
-    requires base { place.base ≡ number * walk.table_size place.level }
+    requires { IsTrue (S.has (S.kept store.old) rtt) }
     ensures kept { S.kept store.new ≡ S.kept store.old }
-    ensures cells { (entry : entries.Entry) → table.entries ≡ replicate 512 entry
-        → S.cells_in store.new ≡ cells_with_table (S.cells_in store.old) place.rd place.level number rtt entry (Some above) }
+    ensures cells { S.cells_in store.new
+        ≡ put (changed_at (S.cells_in store.old) above (cell_with_entries (entries_changed (Replaced number (entries.Table rtt))))) rtt (whole.Rtt table) }
 {
-    let width = store.width_at(above);
-    let mut table = table;
-    table.set_place(Place { width, ..place });
     let entry = Entry::Table(rtt);
     store.change_entries(above, &EntryChange::Replaced { number, entry });
     store.put_table(rtt, table);

@@ -1,6 +1,6 @@
 //! The memory that a change needs, taken before it.
 
-ghost use Rattle.std.specs.Prelude.{◌≡◌, IfOk, OnErr, IsSomeAnd, IsTrue, Some, None, ◌&&◌, replicate};
+ghost use Rattle.std.specs.Prelude.{◌≡◌, ℕ, IfOk, OnErr, IsSomeAnd, IsTrue, Some, None, ◌&&◌, replicate};
 ghost use Rattle.rmm_spec.specs.Change.{new_realm};
 ghost use Rattle.rmm_spec.specs.Lookup.{is_hash};
 ghost use Rattle.rmm_spec.specs.Step.Terms as spec;
@@ -11,8 +11,8 @@ use crate::change_room::Room;
 use granule_cells::Descriptor;
 use memory_map::Pa;
 use realm_desc::{HashAlgorithm, Realm, Space};
-use rmm_spec::{Change, Entry, Place, Ripas};
-use rtt_table::Table;
+use rmm_spec::{Change, Entry, Ripas};
+use rtt_table::Unplaced;
 use std::alloc::{AllocError, Global};
 
 /// Takes all memory that the change needs. It is refused only where the change makes a table and memory was refused.
@@ -23,23 +23,18 @@ pub fn room_for(alloc: Global, change: &Change) -> Result<Room, AllocError>
 {
     match *change {
         Change::RealmMade {
-            rd,
             root,
             width,
             level,
             vmid,
             algo,
+            ..
         } => {
             let descriptor = descriptor(alloc, root, width, level, vmid, algo)?;
-            let table = Some(root_table(alloc, rd, width, level)?);
+            let table = Some(root_entries(alloc)?);
             Ok(Room { descriptor, table })
         }
-        Change::TableMade {
-            rd,
-            level,
-            entry,
-            ..
-        } => table_room(alloc, rd, level, entry),
+        Change::TableMade { entry, .. } => table_room(alloc, entry),
         _ => Ok(Room {
             descriptor: None,
             table: None,
@@ -48,17 +43,11 @@ pub fn room_for(alloc: Global, change: &Change) -> Result<Room, AllocError>
 }
 
 // The room of a table of copies of an entry. Where it stands is known once the table above is held.
-fn table_room(alloc: Global, rd: u64, level: u8, entry: Entry) -> Result<Room, AllocError>
-    ensures table { IfOk result (λ room. IsSomeAnd room.table (λ t. t.entries ≡ replicate 512 entry)) }
+fn table_room(alloc: Global, entry: Entry) -> Result<Room, AllocError>
+    ensures table { IfOk result (λ room. IsSomeAnd room.table (λ entries. entries ≡ replicate 512 entry)) }
     ensures no_more { IfOk result (λ room. room.descriptor ≡ None) }
 {
-    let place = Place {
-        rd,
-        level,
-        base: 0,
-        width: 0,
-    };
-    let table = Table::new(alloc, place, entry)?;
+    let table = Unplaced::new(alloc, entry)?;
     Ok(Room {
         descriptor: None,
         table: Some(table),
@@ -86,20 +75,9 @@ fn descriptor(
     Ok(Some(Descriptor::new(alloc, realm)?))
 }
 
-// The root of a realm that was just made: nothing was said of its lower half, and its upper half is the host's.
-fn root_table(alloc: Global, rd: u64, width: u8, level: u8) -> Result<Table, AllocError>
-    ensures { IfOk result (λ table. table ≡ whole.root_table rd width level) }
+// The entries of the root of a realm that was just made: nothing was said of its lower half, and its upper half is the host's.
+fn root_entries(alloc: Global) -> Result<Unplaced, AllocError>
+    ensures { (rd width level : ℕ) → IfOk result (λ entries. entries ≡ (whole.root_table rd width level).entries) }
 {
-    let place = Place {
-        rd,
-        level,
-        base: 0,
-        width,
-    };
-    Table::halves(
-        alloc,
-        place,
-        Entry::Unassigned(Ripas::Empty),
-        Entry::UnassignedNs,
-    )
+    Unplaced::halves(alloc, Entry::Unassigned(Ripas::Empty), Entry::UnassignedNs)
 }

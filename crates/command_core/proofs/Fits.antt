@@ -2,7 +2,7 @@
 use Rattle.command_core.proofs.Common.{◌&&◌, ◌*◌, ◌+◌, ◌<◌, ◌==◌, ◌||◌, ◌∙◌, ◌≡◌, ◌≤◌, Change, Config, HeldCell, Hold, IsTrue, List, None, Option, Rd, RealmRecord, Rec, RecRecord, Some, State, Unchanged, and_from, and_parts, ap, arith, can_make, eq-eqb, false≢true, flat_state, has_tag, hold_of, inl, inr, is_granule, is_held, is_some, length, nat_le, nat_tests, realm_at, realm_in, rec_at, refl, subst, sym, table_placed, tag_number, tag_of, true, ℕ}
 use Rattle.std.proofs.Common.{◌/◌, ◌^◌}
 use Rattle.std.specs.Prelude.{nat_lt, not, ◌%◌}
-use Rattle.std.proofs.lemmas.Bool.{ltb-true}
+use Rattle.std.proofs.lemmas.Bool.{le-leb, lt-ltb, ltb-true}
 use Rattle.rmm_spec.specs.HistoryText.{granule_limit}
 use Rattle.rmm_spec.specs.declared.version.Version.TheVariants.{Large}
 use Rattle.rmm_spec.specs.declared.change.Change.TheVariants.{Retagged, RealmMade, RealmDestroyed, RecMade, RecDestroyed, RecordsChanged, TableMade, TableDestroyed, EntriesChanged}
@@ -182,7 +182,9 @@ applied-fits config cpu hold w (RecordsChanged (Some realm) (Some rec)) can fits
     let second = rec-fits config cpu hold w rec.rec rec.update can.1.0 can.1.1 fits.held.1.0 in
     rw (first, second) refl
 applied-fits config cpu hold w (TableMade rd level number rtt entry) can fits =
-    rw (fits.tables, base-fits config cpu hold w rd level number can.rd_tag can.place) refl
+    let some : nat_lt 0 level ≡ true = lt-ltb 0 level (omega (arith, can.below_root)) in
+    let last : nat_le level 3 ≡ true = le-leb level 3 can.place.last in
+    rw (fits.tables, base-fits config cpu hold w rd level number can.rd_tag can.place, some, last) refl
 applied-fits config cpu hold w (TableDestroyed rd level number rtt entry) can fits = rw fits.tables refl
 applied-fits config cpu hold w (EntriesChanged rd level entries page realm rec) can fits =
     let holds = parts-held hold.cells rd level entries page realm rec fits.tables in

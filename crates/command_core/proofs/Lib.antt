@@ -21,6 +21,7 @@ pub mod Walked
 pub mod Ready
 pub mod Foreseen
 pub mod Steps
+pub mod Places
 pub mod Stored
 pub mod InPlace
 pub mod Distinct

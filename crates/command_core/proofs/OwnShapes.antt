@@ -1,5 +1,6 @@
 -- What a command makes has the shape that its type keeps: its rows say so.
-use Rattle.command_core.proofs.Common.{◌&&◌, ◌==◌, ◌≡◌, Accepted, Bool, Call, Config, Err, HeldCell, Inside, List, Ok, Option, Outside, Refusal, Result, State, [], and_parts, class_of, false, if◌then◌else◌, is_none, not, not-true, outside_answer, rec_at, refl, seen_state, subst, sym, true, words_of, ℕ}
+use Rattle.command_core.proofs.Common.{◌&&◌, ◌<◌, ◌==◌, ◌≡◌, ◌≤◌, arith, Accepted, Bool, Call, Config, Err, HeldCell, Inside, List, Ok, Option, Outside, Refusal, Result, State, [], and_parts, class_of, false, if◌then◌else◌, is_none, named, not, not-true, outside_answer, realm_at, rec_at, refl, seen_state, subst, sym, true, words_of, ℕ}
+use Rattle.std.proofs.lemmas.Bool.{leb-true, ltb-true}
 use Rattle.rmm_spec.specs.declared.accepted.Stretch.{Stretch}
 use Rattle.rmm_spec.specs.declared.accepted.StretchUse.{StretchUse}
 use Rattle.rmm_spec.specs.declared.accepted.StretchUse.TheVariants.{Init, Requested}
@@ -33,7 +34,9 @@ by_rows rows accepted shaped = by (decided rows accepted) refl
 -- ---- outside of RECs
 
 host-shaped : (s : State) (cpu : ℕ) (c : Call) → AllHold (with_front s c (behind s cpu c).0) → AcceptsOwnShape (behind s cpu c).1
-unfolding behind words_of
+unfolding behind words_of named
+host-shaped s cpu (call.RttCreate rd rtt ipa level) (last, (aligned, (has_rd, (has_rtt, (above, others))))) =
+    let below = ltb-true (realm_at s rd).start_level level above in (omega (arith, below), leb-true level 3 last)
 host-shaped s cpu (call.RecCreate rd rec mpidr flags aux0 aux1) (apart, others) =
     not-true (aux0 == aux1) (and_parts (not (rec == aux0) && not (rec == aux1)) (not (aux0 == aux1)) apart).1
 host-shaped s cpu _ rows = tt

@@ -1,9 +1,9 @@
 -- What a change makes of what is known of held cells is what it makes of the cells: the lists that are told apart by neither are one.
-use Rattle.command_core.proofs.Common.{◌&&◌, ◌==◌, ◌||◌, ◌∙◌, ◌∷◌, ◌≡◌, arith, Bool, Change, HeldCell, IsTrue, List, None, Option, Rd, RealmRecord, Rec, RecRecord, Some, Undelegated, [], and_parts, ap, are_distinct, cell_in, eq-eqb, eqb-true, false, false≢true, granules_held, held_at, if◌then◌else◌, inl, inr, is_held, is_some, length, list_any, nat_le, nat_tests, new_cells, not, not-true, realm_in, refl, replaced_all, replaced_cells, subst, sym, true, ℕ}
-use Rattle.std.proofs.Common.{◌*◌, ◌++◌, ◌^◌, ◌⊎◌, map, nat_lt}
+use Rattle.command_core.proofs.Common.{◌&&◌, ◌==◌, ◌||◌, ◌∙◌, ◌∷◌, ◌≡◌, arith, Bool, Change, HeldCell, IsTrue, List, None, Option, Rd, RealmRecord, Rec, RecRecord, Some, Undelegated, [], and_parts, ap, are_distinct, cell_in, eq-eqb, eqb-true, false, false≢true, granules_held, held_at, if◌then◌else◌, inl, inr, is_held, is_some, length, list_any, nat_le, nat_tests, new_cells, not, not-true, realm_in, refl, replaced_all, replaced_cells, subst, sym, true, ℕ, ◌<◌, ◌-◌, ◌≤◌, table_held, table_placed}
+use Rattle.std.proofs.Common.{◌*◌, ◌++◌, ◌^◌, ◌⊎◌, map, nat_lt, ◌/◌}
 use Rattle.std.specs.Prelude.{Contains, IfSome, unwrap_or}
 use Rattle.std.specs.List.{AllByRecursion}
-use Rattle.std.proofs.lemmas.Bool.{leb-true, or_parts}
+use Rattle.std.proofs.lemmas.Bool.{leb-true, or_parts, ltb-true}
 use Rattle.rmm_spec.specs.declared.change.Change.TheVariants.{Unchanged, Retagged, RealmMade, RealmDestroyed, RecMade, RecDestroyed, RecordsChanged, TableMade, TableDestroyed, EntriesChanged}
 use Rattle.rmm_spec.specs.declared.change.RealmChange.{RealmChange}
 use Rattle.rmm_spec.specs.declared.change.RealmUpdate.{RealmUpdate}
@@ -27,6 +27,10 @@ use Rattle.world_laws.proofs.AllHeld.{put_all-listed}
 use Rattle.world_laws.proofs.Locals.{granules_held-replaced_all}
 use Rattle.command_core.specs.Changed.{AreHeld, counts_in, fits_cells, fits_page, fits_realm, fits_realm_change, fits_rec, fits_rec_change, granules_touched, is_realm_update, is_rec_update, table_touched}
 use Rattle.command_core.proofs.SeenCells.{is_held-replaced_cells}
+use Rattle.rmm_spec.specs.Table.{TableRecord}
+use Rattle.rtt_table.specs.Shaped.{IsShaped}
+use Rattle.shape_laws.specs.Whole.{width_in}
+use Rattle.command_core.proofs.Places.{made-shaped}
 
 -- ---- what is known of cells that are replaced
 
@@ -248,19 +252,29 @@ index-taken : (index : ℕ) (c : Cell) → counts_in index c ≡ true → (realm
 index-taken index (Rd it) is realm same = let one : it ≡ realm = cc in subst (λ r. counts_in index (Rd r) ≡ true) one is
 index-taken index _ is realm same = absurd (false≢true is)
 
--- where the records are what the change updates, it fits what is known of them
-pub fits-known : (held : List HeldCell) (change : Change) → IsTrue (fits_cells held change) → FitsCells (known_cell held) change
-fits-known held (Retagged change) fits = fits
-fits-known held (RealmMade rd root width level vmid algo) fits = fits
-fits-known held (RecMade rd rec mpidr flags aux0 aux1) fits =
+-- where the records are what the change updates, and the table that it changes stands where a realm's can, it fits what is known of them
+pub fits-known : (held : List HeldCell) (change : Change) → IsTrue (fits_cells held change)
+    → IfSome (table_touched held change) (λ g. IfSome (table_held held g) (λ (t : TableRecord). IsShaped t.place))
+    → FitsCells (known_cell held) (table_touched held change) change
+fits-known held (Retagged change) fits shaped = fits
+fits-known held (RealmMade rd root width level vmid algo) fits shaped = fits
+fits-known held (RecMade rd rec mpidr flags aux0 aux1) fits shaped =
     let parts = and_parts (counts_in mpidr (known_cell held rd)) (not (aux0 == aux1)) fits in
     (index-taken mpidr (known_cell held rd) parts.0, not-true (aux0 == aux1) parts.1)
-fits-known held (RecordsChanged realm rec) fits =
+fits-known held (RecordsChanged realm rec) fits shaped =
     let parts = and_parts (fits_realm_change held realm) (fits_rec_change held rec) fits in
     record { plain = tt; of_realm = realm_change-fits held realm parts.0; of_rec = rec_change-fits held rec parts.1 }
-fits-known held (TableMade rd level number rtt entry) fits =
-    (and_parts (holds_change held (TableMade rd level number rtt entry)) (nat_lt (number * table_size level) (2 ^ 64)) fits).1
-fits-known held (EntriesChanged rd level entries page realm rec) fits =
+fits-known held (TableMade rd level number rtt entry) fits shaped =
+    let holds : Bool = holds_change held (TableMade rd level number rtt entry) && nat_lt (number * table_size level) (2 ^ 64) in
+    let levels = and_parts (nat_lt 0 level) (nat_le level 3) (and_parts holds (nat_lt 0 level && nat_le level 3) fits).1 in
+    by (table_placed held rd (level - 1) (number / 512)) refl shaped (ltb-true 0 level levels.0) (leb-true level 3 levels.1)
+  where
+    by : (o : Option ℕ) → table_placed held rd (level - 1) (number / 512) ≡ o
+        → IfSome o (λ g. IfSome (table_held held g) (λ (t : TableRecord). IsShaped t.place)) → 0 < level → level ≤ 3
+        → IfSome o (λ g. IsShaped (record { rd = rd; level = level; base = number * table_size level; width = width_in (known_cell held g) }))
+    by None is above some last = tt
+    by (Some g) is above some last = made-shaped held rd level number g is above some last
+fits-known held (EntriesChanged rd level entries page realm rec) fits shaped =
     let holds : Bool = holds_change held (EntriesChanged rd level entries page realm rec) in
     let of_rec = and_parts (holds && fits_page page && fits_entries entries && fits_realm_change held realm) (fits_rec_change held rec) fits in
     let of_realm = and_parts (holds && fits_page page && fits_entries entries) (fits_realm_change held realm) of_rec.0 in
@@ -273,4 +287,4 @@ fits-known held (EntriesChanged rd level entries page realm rec) fits =
       },
       of_entries.1,
     )
-fits-known held _ fits = tt
+fits-known held _ fits shaped = tt

@@ -1,6 +1,6 @@
 -- What a change makes of what one CPU holds: its cells, the side table and its place. It is what the same change makes of a
 -- whole, on the cells that are held. This project's own.
-use Rattle.std.specs.Prelude.{◌≡◌, ℕ, ◌*◌, ◌^◌, ◌≤◌, Bool, true, false, not, ◌&&◌, ◌==◌, nat_lt, nat_le, IsTrue, List, [], ◌∷◌, length, map, Option, Some, None, is_some, Result, Ok, Err}
+use Rattle.std.specs.Prelude.{◌≡◌, ℕ, ◌*◌, ◌^◌, ◌<◌, ◌≤◌, Bool, true, false, not, ◌&&◌, ◌==◌, nat_lt, nat_le, IsTrue, List, [], ◌∷◌, length, map, Option, Some, None, is_some, Result, Ok, Err}
 use Rattle.std.specs.List.{AllByRecursion}
 use Rattle.rmm_spec.specs.HistoryText.{Config, granule_limit}
 use Rattle.rmm_spec.specs.declared.version.Version.TheVariants.{Large}
@@ -158,9 +158,10 @@ abbrev pub fits_page : Option TagChange → Bool
 fits_page None = true
 fits_page (Some change) = is_plain change.tag
 
--- what a change makes keeps what its type keeps: a REC's two others are two
+-- what a change makes keeps what its type keeps: a REC's two others are two, and a table is of a level below a root's
 abbrev pub HasOwnShape : Change → Type 0
 HasOwnShape (RecMade rd rec mpidr flags aux0 aux1) = (aux0 == aux1) ≡ false
+HasOwnShape (TableMade rd level number rtt entry) = (0 < level) × (level ≤ 3)
 HasOwnShape _ = Unit {0}
 
 -- so does what is done by what is accepted
@@ -179,7 +180,7 @@ fits_cells held (RealmMade rd root width level vmid algo) = is_space width level
 fits_cells held (RecMade rd rec mpidr flags aux0 aux1) = counts_in mpidr (known_cell held rd) && not (aux0 == aux1)
 fits_cells held (RecordsChanged realm rec) = fits_realm_change held realm && fits_rec_change held rec
 fits_cells held (TableMade rd level number rtt entry) =
-    holds_change held (TableMade rd level number rtt entry) && nat_lt (number * table_size level) (2 ^ 64)
+    holds_change held (TableMade rd level number rtt entry) && nat_lt (number * table_size level) (2 ^ 64) && (nat_lt 0 level && nat_le level 3)
 fits_cells held (TableDestroyed rd level number rtt entry) = holds_change held (TableDestroyed rd level number rtt entry)
 fits_cells held (EntriesChanged rd level entries page realm rec) =
     holds_change held (EntriesChanged rd level entries page realm rec) && fits_page page && fits_entries entries

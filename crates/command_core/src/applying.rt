@@ -1,8 +1,10 @@
 //! A decided change, made of the cells that are held, of the side table and of the CPU's place.
 
-ghost use Rattle.std.specs.Prelude.{◌≡◌, option_map, option_copied, unwrap_or, IsTrue};
+ghost use Rattle.std.specs.Prelude.{◌≡◌, option_map, option_copied, unwrap_or, IfSome, IsTrue};
 ghost use Rattle.rmm_spec.specs.Cell as whole;
+ghost use Rattle.rtt_table.specs.Shaped.{IsShaped};
 ghost use Rattle.world_laws.specs.Replaced.{replaced_all};
+ghost use Rattle.world_laws.specs.SeenState.{table_held};
 ghost use Rattle.shape_laws.specs.Whole.{side_changed};
 ghost use Rattle.rmm_spec.specs.declared.version.Version.TheVariants.{Large};
 ghost use Rattle.rmm_spec.specs.HistoryText.{granule_limit};
@@ -14,7 +16,7 @@ ghost use Rattle.command_core.specs.Seen.{cell_of, place_of, known_cell};
 ghost use Rattle.command_core.specs.Sides.{side_of};
 
 use crate::held_pairs::HeldPairs;
-use crate::held_tables::placed;
+use crate::held_tables::{placed, stands_well};
 use cell_changes::{Room, table_changed};
 use granule_cells::{Cell, CpuPlace, Side};
 use memory_map::Pa;
@@ -54,10 +56,13 @@ pub fn apply_held(held: &mut HeldPairs, place: &mut CpuPlace, change: &Change, r
 
 // The granule of the table whose entries the change changes, where it is held.
 fn table_touched(held: &HeldPairs, change: &Change) -> Option<u64>
-    ensures { result ≡ spec.table_touched (pair_cells held.now) change.now }
+    ensures touched { result ≡ spec.table_touched (pair_cells held.now) change.now }
+    ensures shaped { IfSome result (λ granule. IfSome (table_held (pair_cells held.now) granule) (λ t. IsShaped t.place)) }
 {
     let place = table_changed(change)?;
-    placed(held, place.rd, place.level, place.number)
+    let granule = placed(held, place.rd, place.level, place.number)?;
+    let _fact = stands_well(held, Pa::new(granule));
+    Some(granule)
 }
 
 // Where the CPU is after the change.

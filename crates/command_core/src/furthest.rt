@@ -5,7 +5,6 @@ ghost use Rattle.rmm_spec.specs.Walk as walk;
 ghost use Rattle.command_core.specs.Furthest as spec;
 
 use crate::held_sight::HeldSight;
-use crate::misfits::table_size;
 use memory_map::{can_be_set, entry_number, table_number};
 use rmm_spec::Stretch;
 use std::cmp::min;
@@ -18,6 +17,14 @@ fn entry_size(level: u8) -> u64
     1 << (12 + 9 * 3u8.saturating_sub(level))
 }
 
+// How many bytes a table of the level covers.
+#[tactic(auto, unfolding(rmm_spec::specs::Walk::table_size))]
+fn table_size(level: u8) -> u64
+    ensures { result ≡ walk.table_size level }
+{
+    1 << (12 + 9 * 4u8.saturating_sub(level))
+}
+
 // How many entries end by the top that is asked for, and by the end of the first one's table.
 #[tactic(auto, unfolding(rmm_spec::specs::Walk::entry_number))]
 fn most_set(stretch: &Stretch) -> u64
@@ -27,7 +34,7 @@ fn most_set(stretch: &Stretch) -> u64
     let number = table_number(stretch.level, stretch.base) + 1;
     let end = min(
         stretch.top,
-        number.saturating_mul(table_size(u64::from(stretch.level))),
+        number.saturating_mul(table_size(stretch.level)),
     );
     entry_number(stretch.level, end.saturating_sub(stretch.base))
 }

@@ -4,17 +4,16 @@ ghost use Rattle.std.specs.Prelude.{◌≡◌, ◌/◌, ◌&&◌, nat_le, if◌t
 ghost use Rattle.std.specs.List.{list_any};
 ghost use Rattle.rmm_spec.specs.Flat.{is_table_of};
 ghost use Rattle.rmm_spec.specs.Local.{granules_held};
-ghost use Rattle.rmm_spec.specs.Step.Terms.{is_space};
 ghost use Rattle.rmm_spec.specs.Table.{place_number};
 ghost use Rattle.rmm_spec.specs.Update.{is_same_entry};
 ghost use Rattle.rmm_spec.specs.Walk.{is_table};
+ghost use Rattle.rtt_table.specs.Shaped.{IsShaped};
 ghost use Rattle.world_laws.specs.SeenState as spec;
 ghost use Rattle.command_core.specs.Pairs.{pair_cells};
 ghost use Rattle.command_core.specs.Standing as standing;
 
 use crate::held_pairs::HeldPairs;
 use crate::held_sight::HeldSight;
-use command_words::is_space;
 use granule_cells::Cell;
 use memory_map::{Pa, is_table, linked, passes, table_number};
 use rmm_spec::{Entry, EntryTest, Place, Ripas};
@@ -23,9 +22,9 @@ use rtt_table::Table;
 /// How many entries a table has.
 const ENTRIES: u64 = 512;
 
-// Whether a table stands at the place of the realm, level and number.
+/// Whether a table stands at the place of the realm, level and number.
 #[tactic(auto, unfolding(rmm_spec::specs::Table::place_number))]
-fn is_at(place: &Place, rd: u64, level: u8, number: u64) -> bool
+pub(crate) fn is_at(place: &Place, rd: u64, level: u8, number: u64) -> bool
     ensures { result ≡ is_same_entry rd level number place.now.rd place.now.level (place_number place.now) }
 {
     place.rd == rd && place.level == level && table_number(place.level, place.base) == number
@@ -61,18 +60,6 @@ pub(crate) fn start_of(width: u8) -> u8
     ensures { result ≡ spec.start_of width }
 {
     if width == 0x27 { 1 } else { 0 }
-}
-
-// The width, where realms have one of it.
-fn known_width(width: u8) -> Option<u8>
-    ensures known { option_map spec.blank_realm result ≡ spec.realm_of_width width }
-    ensures space { IfSome result (λ w. IsTrue (is_space w (spec.start_of w))) }
-{
-    if is_space(u64::from(width), u64::from(start_of(width))) {
-        Some(width)
-    } else {
-        None
-    }
 }
 
 /// The table that is held in a granule.
@@ -147,6 +134,15 @@ fn has_dead_link(table: &Table, level: u8) -> bool
     level >= 3 && table.has_link()
 }
 
+/// A table that is held in a granule stands where a realm's table can.
+pub(crate) fn stands_well(held: &HeldPairs, granule: Pa)
+    ensures { IfSome (spec.table_held (pair_cells held.now) granule) (λ t. IsShaped t.place) }
+{
+    if let Some(table) = table_in(held, granule) {
+        let _fact = table.place();
+    }
+}
+
 /// The granule of the first held table of that place.
 #[tactic(auto, unfolding(world_laws::specs::SeenState::table_placed))]
 pub(crate) fn placed(held: &HeldPairs, rd: u64, level: u8, number: u64) -> Option<u64>
@@ -204,7 +200,7 @@ impl<'a> HeldSight<'a> {
         ensures space { IfSome result (λ w. IsTrue (is_space w (spec.start_of w))) }
     {
         match table_in(self.held, Pa::new(granule)) {
-            Some(table) => known_width(table.place().width),
+            Some(table) => Some(table.place().width),
             None => None,
         }
     }

@@ -1,6 +1,6 @@
 //! Whether a change can be made of what is held.
 
-ghost use Rattle.std.specs.Prelude.{◌≡◌, ◌-◌, ◌*◌, ◌/◌, ◌^◌, is_some, ◌&&◌, ◌==◌, nat_lt, nat_le, length, option_map, option_copied, unwrap_or};
+ghost use Rattle.std.specs.Prelude.{◌≡◌, ◌-◌, ◌*◌, ◌/◌, ◌^◌, ◌<◌, ◌≤◌, is_some, ◌&&◌, ◌==◌, nat_le, length, option_map, option_copied, unwrap_or, IsTrue};
 ghost use Rattle.rmm_spec.specs.Cell as whole;
 ghost use Rattle.rmm_spec.specs.Lookup as lookup;
 ghost use Rattle.rmm_spec.specs.Walk.{table_size};
@@ -15,8 +15,7 @@ ghost use Rattle.command_core.specs.Seen.{cell_of};
 ghost use Rattle.command_core.specs.Sides.{side_of};
 
 use crate::held_pairs::HeldPairs;
-use crate::held_tables::placed;
-use crate::misfits::table_size;
+use crate::held_tables::{placed, stands_well};
 use crate::taking::{is_granule, is_held};
 use cell_changes::number_changed;
 use command_words::is_space;
@@ -125,11 +124,26 @@ fn fits_rec(held: &HeldPairs, change: &Option<RecChange>) -> bool
     }
 }
 
+// Whether the table above one is held. It stands where a realm's table can, and so does each below it.
+fn holds_above(held: &HeldPairs, rd: u64, level: u8, number: u64) -> bool
+    ensures above { result ≡ is_some (table_placed (pair_cells held.now) rd (level - 1) (number / 512)) }
+    ensures fits { IsTrue result → 0 < level → level ≤ 3 → number * table_size level < 2 ^ 64 }
+{
+    match placed(held, rd, level.saturating_sub(1), number / 512) {
+        Some(granule) => {
+            let _fact = stands_well(held, Pa::new(granule));
+            true
+        }
+        None => false,
+    }
+}
+
 // Whether a table that is made or destroyed is held, and the one above.
 fn holds_two(held: &HeldPairs, rd: u64, level: u8, number: u64, rtt: u64) -> bool
-    ensures { result ≡ (seen.is_held rtt (pair_cells held.now) && is_some (table_placed (pair_cells held.now) rd (level - 1) (number / 512))) }
+    ensures two { result ≡ (seen.is_held rtt (pair_cells held.now) && is_some (table_placed (pair_cells held.now) rd (level - 1) (number / 512))) }
+    ensures fits { IsTrue result → 0 < level → level ≤ 3 → number * table_size level < 2 ^ 64 }
 {
-    is_held(held, Pa::new(rtt)) && placed(held, rd, level.saturating_sub(1), number / 512).is_some()
+    is_held(held, Pa::new(rtt)) && holds_above(held, rd, level, number)
 }
 
 fn holds_page(held: &HeldPairs, change: &Option<TagChange>) -> bool
@@ -161,13 +175,6 @@ fn holds_rec(held: &HeldPairs, change: &Option<RecChange>) -> bool
         }
         None => true,
     }
-}
-
-// Whether the first address of a table of the number at the level is one.
-fn fits_base(level: u8, number: u64) -> bool
-    ensures { result ≡ nat_lt (number * table_size level) (2 ^ 64) }
-{
-    number.checked_mul(table_size(u64::from(level))).is_some()
 }
 
 fn fits_page(change: &Option<TagChange>) -> bool
@@ -212,7 +219,7 @@ fn fits_cells(held: &HeldPairs, change: &Change) -> bool
             number,
             rtt,
             ..
-        } => holds_two(held, *rd, *level, *number, *rtt) && fits_base(*level, *number),
+        } => holds_two(held, *rd, *level, *number, *rtt),
         Change::TableDestroyed {
             rd,
             level,

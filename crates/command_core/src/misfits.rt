@@ -1,50 +1,32 @@
 //! Whether the tables that a walk meets among the held cells are ones that no shaped whole has.
 
-ghost use Rattle.std.specs.Prelude.{◌≡◌, ◌==◌, ◌*◌, option_map, option_copied};
-ghost use Rattle.rmm_spec.specs.Walk as walk;
+ghost use Rattle.std.specs.Prelude.{◌≡◌, option_map, option_copied};
 ghost use Rattle.world_laws.specs.Misfits as spec;
 ghost use Rattle.command_core.specs.Seen.{cell_of};
 
 use crate::held_sight::HeldSight;
-use crate::held_tables::table_in;
+use crate::held_tables::{is_at, table_in};
 use crate::taking::is_granule;
 use granule_cells::Cell;
 use memory_map::{Ipa, Pa, table_number};
-use rmm_spec::{Entry, Place};
+use rmm_spec::Entry;
 use rtt_table::{Table, index_of};
 
-/// How many bytes a table of the level covers.
-#[tactic(auto, unfolding(rmm_spec::specs::Walk::table_size))]
-pub(crate) fn table_size(level: u64) -> u64
-    ensures { result ≡ walk.table_size level }
+// Whether a table stands at the place of a realm's table: its base is that of its number.
+fn is_placed(table: &Table, rd: u64, level: u8, number: u64, width: u8) -> bool
+    ensures { result ≡ spec.is_place rd level number width table.now.place }
 {
-    1 << (12 + 9 * 4u64.saturating_sub(level))
-}
-
-// Whether the table of the number at the level begins at an address.
-fn is_base(base: u64, level: u64, number: u64) -> bool
-    ensures { result ≡ (base == number * walk.table_size level) }
-{
-    number.checked_mul(table_size(level)) == Some(base)
-}
-
-// Whether a place is that of a realm's table.
-fn is_place(place: &Place, rd: u64, level: u64, number: u64, width: u8) -> bool
-    ensures { result ≡ spec.is_place rd level number width place.now }
-{
-    place.rd == rd
-        && u64::from(place.level) == level
-        && is_base(place.base, level, number)
-        && place.width == width
+    let place = table.place();
+    is_at(&place, rd, level, number) && place.width == width
 }
 
 // Whether what is held is something else than the table of that place.
-fn is_other_table(rd: u64, level: u64, number: u64, width: u8, cell: Option<&Cell>) -> bool
+fn is_other_table(rd: u64, level: u8, number: u64, width: u8, cell: Option<&Cell>) -> bool
     ensures { result ≡ spec.is_other_table rd level number width (option_map cell_of (option_copied cell.entry)) }
 {
     match cell {
         None => false,
-        Some(Cell::Rtt(table)) => !is_place(&table.place(), rd, level, number, width),
+        Some(Cell::Rtt(table)) => !is_placed(table, rd, level, number, width),
         Some(_) => true,
     }
 }
@@ -78,11 +60,10 @@ impl<'a> HeldSight<'a> {
         match table.entry(index) {
             Entry::Table(child) => {
                 let number = 512 * table_number(place.level, place.base) + index as u64;
-                let level = u64::from(place.level) + 1;
                 !is_granule(self.config, child)
                     || is_other_table(
                         place.rd,
-                        level,
+                        place.level + 1,
                         number,
                         place.width,
                         self.held.cell(Pa::new(child)),
@@ -113,7 +94,7 @@ impl<'a> HeldSight<'a> {
         match self.held.cell(Pa::new(rd)) {
             Some(Cell::Rd(descriptor)) => {
                 let realm = descriptor.realm();
-                let level = u64::from(realm.space.start_level());
+                let level = realm.space.start_level();
                 !is_granule(self.config, realm.root.address())
                     || is_other_table(
                         rd,

@@ -4,9 +4,11 @@ ghost use Rattle.std.specs.Prelude.{◌≡◌, ◌+◌, ◌++◌, ◌<◌, ◌�
 ghost use Rattle.std.specs.List.{list_any};
 ghost use Rattle.rmm_spec.specs.Walk.{is_live, is_table, passes};
 ghost use Rattle.rmm_spec.specs.Table.{entry_index, entries_with_ripas, AreAlike};
-ghost use Rattle.rtt_table.specs.Counts.{one_if, AreCounts};
+ghost use Rattle.rtt_table.specs.Counts.{one_if};
+ghost use Rattle.rtt_table.specs.Shaped.{IsShaped};
 
-use crate::columns::{Columns, ENTRIES};
+use crate::columns::ENTRIES;
+use crate::unplaced::{Body, Unplaced};
 use memory_map::{Ipa, entry_number, is_live, is_table};
 use rmm_spec::{Entry, EntryTest, Place, Ripas};
 use std::alloc::{AllocError, Global};
@@ -24,55 +26,43 @@ pub fn index_of(level: u8, ipa: Ipa) -> usize
 /// A translation table on the heap: whoever holds it holds one pointer.
 #[derive(Drop)]
 pub struct Table {
-    body: Box<Body>,
-}
-
-// What a table has, with the counts of its live entries and of its links.
-#[derive(Drop)]
-struct Body {
-    place: Place,
-    live: u16,
-    links: u16,
-    columns: Columns,
+    pub(crate) body: Box<Body>,
 }
 
 impl Model for Table {
     ghost use Rattle.rmm_spec.specs.Table.{TableRecord};
     ghost use Rattle.rtt_table.specs.Counts.{AreCounts};
+    ghost use Rattle.rtt_table.specs.Shaped.{IsShaped};
 
     ghost Value = { TableRecord };
 
     ghost view = { λ t. record { place = t.body.value.place; entries = t.body.value.columns } };
 
-    ghost invariant = { λ t. AreCounts t.body.value.columns t.body.value.live t.body.value.links };
+    ghost invariant = { λ t. IsShaped t.body.value.place × AreCounts t.body.value.columns t.body.value.live t.body.value.links };
 }
 
 impl Table {
     /// A table of 512 copies of one entry.
     pub fn new(alloc: Global, place: Place, fill: Entry) -> Result<Self, AllocError>
+        requires { IsShaped place }
         ensures { IfOk result (λ t. t ≡ record { place = place; entries = replicate 512 fill }) }
     {
-        Table::halves(alloc, place, fill, fill)
+        let unplaced = Unplaced::new(alloc, fill)?;
+        Ok(unplaced.at(place))
     }
 
     /// A table of 256 copies of one entry, and 256 of another behind them.
-    #[inline(never)]
     pub fn halves(
         alloc: Global,
         place: Place,
         lower: Entry,
         upper: Entry,
     ) -> Result<Self, AllocError>
+        requires { IsShaped place }
         ensures { IfOk result (λ t. t ≡ record { place = place; entries = replicate 256 lower ++ replicate 256 upper }) }
     {
-        let columns = Columns::halves(alloc, lower, upper)?;
-        let body = Body {
-            place,
-            live: half_or_none(is_live(lower)) + half_or_none(is_live(upper)),
-            links: half_or_none(is_table(lower)) + half_or_none(is_table(upper)),
-            columns,
-        };
-        Table::boxed(alloc, body)
+        let unplaced = Unplaced::halves(alloc, lower, upper)?;
+        Ok(unplaced.at(place))
     }
 
     /// The same table once more.
@@ -86,23 +76,14 @@ impl Table {
             links: self.body.links,
             columns,
         };
-        Table::boxed(alloc, body)
+        let unplaced = Unplaced::boxed(alloc, body)?;
+        Ok(unplaced.at(self.body.place))
     }
 
-    // The table that has this.
-    #[inline(always)]
-    fn boxed(alloc: Global, body: Body) -> Result<Self, AllocError>
-        requires { AreCounts body.columns body.live body.links }
-        ensures { IfOk result (λ t. t ≡ record { place = body.place; entries = body.columns }) }
-    {
-        match Box::new(alloc, body) {
-            Ok(body) => Ok(Table { body }),
-            Err(_) => Err(AllocError),
-        }
-    }
-
+    /// Where the table stands.
     pub fn place(&self) -> Place
-        ensures { result ≡ self.now.place }
+        ensures place { result ≡ self.now.place }
+        ensures shaped { IsShaped result }
     {
         self.body.place
     }
@@ -172,13 +153,6 @@ impl Table {
         true
     }
 
-    /// The table stands at another place.
-    pub fn set_place(&mut self, place: Place)
-        ensures { self.new ≡ record self.old { place = place } }
-    {
-        self.body.place = place;
-    }
-
     /// Changes the RIPAS of the entries from `from` up to but not `to`, of those that have one.
     pub fn set_ripas(&mut self, from: usize, to: usize, ripas: Ripas)
         requires order { from ≤ to }
@@ -187,14 +161,6 @@ impl Table {
     {
         self.body.columns.set_ripas(from, to, ripas);
     }
-}
-
-// How many entries of a half pass a test, where all are copies of one.
-fn half_or_none(passes: bool) -> u16
-    ensures is { result ≡ (if passes then 256 else 0) }
-    ensures most { result ≤ 256 }
-{
-    if passes { 256 } else { 0 }
 }
 
 // A count after one entry went and another came.

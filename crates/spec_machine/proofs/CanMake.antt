@@ -1,5 +1,5 @@
 -- What a change that a well-shaped whole can take finds there.
-use Rattle.spec_machine.proofs.Common.{◌%◌, ◌*◌, ◌+◌, ◌/◌, ◌<◌, ◌==◌, ◌^◌, ◌∙◌, ◌≡◌, ◌≤◌, Bool, Entry, Granules, IsShapedIn, IsTrue, None, Option, RealmRecord, Some, State, ap, arith, cells_of, false, flat_state, if◌then◌else◌, inl, inr, is_granule, lt-ltb, nat_lt, refl, same_Some, state_in, subst, suc, sym, table_size, true, whole_of, zero, ℕ}
+use Rattle.spec_machine.proofs.Common.{◌%◌, ◌*◌, ◌+◌, ◌-◌, ◌/◌, ◌<◌, ◌==◌, ◌∙◌, ◌≡◌, ◌≤◌, Bool, Entry, Granules, IsShapedIn, IsTrue, None, Option, RealmRecord, Some, State, ap, arith, cells_of, false, flat_state, if◌then◌else◌, inl, inr, is_granule, lt-ltb, nat_lt, refl, same_Some, state_in, subst, suc, sym, true, whole_of, zero, ℕ}
 use Rattle.std.proofs.Common.{IfSome, nat_le, ◌&&◌}
 use Rattle.std.specs.List.{AllByRecursion}
 use Rattle.std.proofs.lemmas.Bool.{and_from, and_parts, ltb-true}
@@ -16,20 +16,24 @@ use Rattle.rmm_spec.specs.declared.change.RecUpdate.{RecUpdate}
 use Rattle.rmm_spec.specs.declared.change.RecUpdate.TheVariants.{RequestMoved}
 use Rattle.rmm_spec.specs.declared.change.TagChange.{TagChange}
 use Rattle.rmm_spec.specs.declared.tag.Tag.TheVariants as tag
-use Rattle.rmm_spec.specs.Applicable.{CanApply, CanDestroyRealm, CanMakeRec, CanDestroyRec, CanDestroyTable, CanChangeEntries, CanChangeRealm, CanChangeRec, CanUpdateRec, IsRealmUpdate}
+use Rattle.rmm_spec.specs.Applicable.{CanApply, CanDestroyRealm, CanMakeRec, CanDestroyRec, CanMakeTable, CanDestroyTable, CanChangeEntries, CanChangeRealm, CanChangeRec, CanUpdateRec, IsRealmUpdate}
 use Rattle.rmm_spec.specs.Cell as spec
+use Rattle.rmm_spec.specs.Flat as spec_flat
 use Rattle.rmm_spec.specs.HistoryText.{IsConfig, granule_limit}
 use Rattle.rmm_spec.specs.Lookup.{is_hash, is_owned_by, has_tag, realm_at, rec_at}
 use Rattle.rmm_spec.specs.Shape.{count_below}
-use Rattle.rmm_spec.specs.Sound.{IsTableOf}
 use Rattle.rmm_spec.specs.State.{RecRecord}
 use Rattle.rmm_spec.specs.Step.Terms.{is_space}
 use Rattle.rmm_spec.specs.Walk.{is_table}
 use Rattle.rmm_laws.proofs.Entries.{leaf_there}
 use Rattle.rmm_laws.proofs.Searches.{realm_there, rec_there}
-use Rattle.rmm_laws.proofs.Spaces.{space_cases}
 use Rattle.realm_desc.specs.Updates.{IsRecUpdate}
-use Rattle.cell_changes.specs.Changes.{CanPutAll, CanUpdate, FitsCells, TakesIndex, fits_entries, is_plain, page_put}
+use Rattle.rtt_table.specs.Shaped.{IsShaped}
+use Rattle.shape_laws.specs.Whole.{copied_table, width_in}
+use Rattle.shape_laws.proofs.Cells.{cell-table}
+use Rattle.shape_laws.proofs.Finds.{table_granule-holds}
+use Rattle.cell_changes.specs.Changes.{CanPutAll, CanUpdate, FitsCells, TakesIndex, fits_entries, is_plain, page_put, table_found}
+use Rattle.cell_changes.specs.PlaceLaws.{shaped-below, shaped-whole}
 use Rattle.spec_machine.specs.Whole.{count_of}
 use Rattle.spec_machine.proofs.Found.{sound_in}
 use Rattle.spec_machine.proofs.Tagged.{granule_tagged}
@@ -154,16 +158,25 @@ within_limit g limits rd is =
 
 -- ---- tables that are made
 
-place_fits : (g : Granules) → IsShapedIn g → (rd level number : ℕ) → IsTrue (has_tag (state_in g) rd tag.Rd)
-    → IsTableOf (realm_at (state_in g) rd) level number → number * table_size level < 2 ^ 64
-place_fits g shaped rd level number has place =
-    let s = state_in g in
-    let r = realm_at s rd in
-    let sound = sound_in g shaped in
-    elim (space_cases r.width r.start_level (sound.realms.spaces rd r (realm_there s rd sound has))) [
-      | inl small ↦ (let within : number * table_size level < 2 ^ 39 = rw small.0 at place.inside in omega arith)
-      | inr wide ↦ (let within : number * table_size level < 2 ^ 48 = rw wide.0 at place.inside in omega arith)
-    ]
+-- a table that is made stands where its realm's table can, below the one that is found above
+table-fits : (g : Granules) → IsShapedIn g → (rd level number rtt : ℕ) (entry : Entry) → CanMakeTable (state_in g) rd level number rtt entry
+    → FitsCells (cells_of g.list) ((state_in g).table rd (level - 1) (number / 512)) (TableMade rd level number rtt entry)
+unfolding state_in flat_state
+table-fits g shaped rd level number rtt entry can = by (spec_flat.table_granule (count_of g) (spec.tables_of cells) rd (level - 1) (number / 512)) refl
+  where
+    cells : ℕ → spec.Cell
+    cells = cells_of g.list
+
+    by : (at : Option ℕ) → spec_flat.table_granule (count_of g) (spec.tables_of cells) rd (level - 1) (number / 512) ≡ at
+        → IfSome at (λ above. IsShaped (copied_table rd level number (width_in (cells above)) entry).place)
+    by None is = tt
+    by (Some above) is =
+        let held = table_granule-holds (count_of g) (spec.tables_of cells) rd (level - 1) (number / 512) above is in
+        let t = held.table in
+        let w = whole_of g in
+        let place = shaped-whole g.list.config w.side w.places cells shaped above t held.is_held in
+        subst (λ c. IsShaped (copied_table rd level number (width_in c) entry).place) (sym (cell-table (cells above) t held.is_held))
+        (shaped-below t.place rd level number place (omega (arith, can.below_root)) can.place.last held.is_level held.is_number)
 
 -- ---- changes
 
@@ -175,8 +188,9 @@ entries-fit s rd level (RipasSet first last ripas) page can =
     let one : last ≤ (first / 512 + 1) * 512 = can.0.one_table in
     and_from (nat_lt first last) (nat_le last ((first / 512 + 1) * 512)) (grind (arith, nat_tests)) (grind (arith, nat_tests))
 
--- a change fits the cells that it finds
-pub change-fits : (g : Granules) → IsShapedIn g → (change : Change) → CanApply (state_in g) change → FitsCells (cells_of g.list) change
+-- a change fits the cells that it finds, where the table is found whose entries it changes
+pub change-fits : (g : Granules) → IsShapedIn g → (change : Change) → CanApply (state_in g) change
+    → FitsCells (cells_of g.list) (table_found (state_in g).table change) change
 change-fits g shaped Unchanged can = tt
 change-fits g shaped (Retagged change) can = elim can [
   | inl lent ↦ rw lent.1 refl
@@ -191,8 +205,7 @@ change-fits g shaped (RecordsChanged realm rec) can = record {
   of_realm = realm_change-fits (state_in g) realm can.0;
   of_rec = rec_change-fits g shaped rec can.1;
 }
-change-fits g shaped (TableMade rd level number rtt entry) can =
-    lt-ltb (number * table_size level) (2 ^ 64) (place_fits g shaped rd level number can.rd_tag can.place)
+change-fits g shaped (TableMade rd level number rtt entry) can = table-fits g shaped rd level number rtt entry can
 change-fits g shaped (TableDestroyed rd level number rtt entry) can = tt
 change-fits g shaped (EntriesChanged rd level entries page realm rec) can = (
   record {

@@ -1,8 +1,12 @@
-use Rattle.std.proofs.Common.{◌∙◌, ◌≡◌, Option, Some, ap, replicate, subst}
-use Rattle.std.specs.Prelude.{IsSomeAnd}
+use Rattle.std.proofs.Common.{◌∙◌, ◌≡◌, ℕ, ◌*◌, ◌%◌, List, Option, Some, ap, replicate, subst}
+use Rattle.std.specs.Prelude.{IsSomeAnd, slice_set}
+use Rattle.rmm_spec.specs.declared.entry.Entry.{Entry}
+use Rattle.rmm_spec.specs.declared.entry.Entry.TheVariants.{Table}
 use Rattle.rmm_spec.specs.declared.place.Place.{Place}
+use Rattle.rmm_spec.specs.Cell.{Rtt, put}
 use Rattle.rmm_spec.specs.Table.{TableRecord}
-use Rattle.shape_laws.specs.Whole.{cells_with_table}
+use Rattle.rmm_spec.specs.Walk.{table_size}
+use Rattle.shape_laws.specs.Whole.{cell_with_entries, changed_at, copied_table, width_in}
 use Rattle.cell_changes.specs.Changes.{cells_made}
 use Rattle.cell_changes.specs.Rooms.{IsRoomFor}
 use Rattle.cell_changes.proofs.applying.apply.Goals as goal
@@ -11,8 +15,13 @@ pub returns-in-Some-clause-cells : goal.returns-in-Some-clause-cells
 unfolding cells_made
 returns-in-Some-clause-cells g c =
     let t = c.in-TableMade in
+    let cells = g.S.CellStore.cells_in c.args.store.now in
+    let above = c.in-Some.above in
     let room = subst (λ change. IsRoomFor change c.args.room) t.is c.requires.room in
-    let table = subst (λ (o : Option TableRecord). IsSomeAnd o (λ (x : TableRecord). x.entries ≡ replicate 512 t.entry)) c.into_table.ensures room in
-    rw (t.is, c.in-Some.is) (c.make_table.ensures.cells t.entry table
-    ∙ ap (λ (p : Place). cells_with_table (g.S.CellStore.cells_in c.args.store.now) p.rd p.level t.number t.rtt t.entry (Some c.in-Some.above))
-    c.place_of-place.ensures)
+    let entries = subst (λ (o : Option (List Entry)). IsSomeAnd o (λ (x : List Entry). x ≡ replicate 512 t.entry)) c.into_table.ensures room in
+    let of_width : ℕ → Place = λ width. record { rd = t.rd; level = t.level; base = t.number * table_size t.level; width = width } in
+    let place = c.place_of-place.ensures.place ∙ ap of_width c.width_at.ensures in
+    let made : c.at.result ≡ copied_table t.rd t.level t.number (width_in (cells above)) t.entry =
+    c.at.ensures ∙ (λ i. record { place = place i; entries = entries i }) in
+    let linked = changed_at cells above (cell_with_entries (λ entries. slice_set entries (t.number % 512) (Table t.rtt))) in
+    rw (t.is, c.in-Some.is) (c.make_table.ensures.cells ∙ ap (λ (x : TableRecord). put linked t.rtt (Rtt x)) made)

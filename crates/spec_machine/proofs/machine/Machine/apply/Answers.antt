@@ -1,4 +1,4 @@
-use Rattle.spec_machine.proofs.Common.{CellList, ap, cells_of, config_of, flat_state, places_of, state_in, subst, sym, whole_of, ◌∙◌, ◌≡◌}
+use Rattle.spec_machine.proofs.Common.{CellList, Option, ap, cells_of, config_of, flat_state, places_of, state_in, subst, subst₂, sym, whole_of, ℕ, ◌∙◌, ◌≡◌}
 use Rattle.cell_changes.specs.Changes.{CanPutAll, FitsCells, cells_made}
 use Rattle.cell_changes.specs.MadeLaws.{cells_made-changed}
 use Rattle.granule_cells.specs.Sides.{side_of}
@@ -24,7 +24,8 @@ apply-requires-clause-has c =
 pub apply-requires-clause-fits : goal.apply-requires-clause-fits
 apply-requires-clause-fits c =
     let m = c.args.self.now in
-    subst (λ (l : CellList). FitsCells (cells_of l) c.args.change.now) (sym (c.change_beside.ensures.list ∙ c.table_for-at.ensures.list))
+    let list = c.change_beside.ensures.list ∙ c.table_for-at.ensures.list in
+    subst₂ (λ (l : CellList) (at : Option ℕ). FitsCells (cells_of l) at c.args.change.now) (sym list) (sym c.table_for-at.ensures.is)
     (change-fits m.granules m.shaped c.args.change.now c.requires)
 
 -- the cells, the side table and the places are those of the change
