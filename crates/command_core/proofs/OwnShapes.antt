@@ -1,5 +1,5 @@
 -- What a command makes has the shape that its type keeps: its rows say so.
-use Rattle.command_core.proofs.Common.{◌&&◌, ◌<◌, ◌==◌, ◌≡◌, ◌≤◌, arith, Accepted, Bool, Call, Config, Err, HeldCell, Inside, List, Ok, Option, Outside, Refusal, Result, State, [], and_parts, class_of, false, if◌then◌else◌, is_none, named, not, not-true, outside_answer, realm_at, rec_at, refl, seen_state, subst, sym, true, words_of, ℕ}
+use Rattle.command_core.proofs.Common.{◌&&◌, ◌==◌, ◌≡◌, arith, Accepted, Bool, Call, Config, Err, HeldCell, Inside, List, Ok, Option, Outside, Refusal, Result, State, [], and_parts, class_of, false, if◌then◌else◌, is_none, named, not, not-true, outside_answer, realm_at, rec_at, refl, seen_state, subst, sym, true, words_of, ℕ}
 use Rattle.std.proofs.lemmas.Bool.{leb-true, ltb-true}
 use Rattle.rmm_spec.specs.declared.accepted.Stretch.{Stretch}
 use Rattle.rmm_spec.specs.declared.accepted.StretchUse.{StretchUse}

@@ -1,36 +1,25 @@
 -- What the places of held tables tell: each is one that a realm's table can have.
-use Rattle.command_core.proofs.Common.{◌&&◌, ◌*◌, ◌+◌, ◌-◌, ◌<◌, ◌==◌, ◌∙◌, ◌≡◌, ◌≤◌, Bool, HeldCell, IsTrue, List, None, Option, Some, ap, arith, cell_in, eq-eqb, eqb-true, false, inl, inr, none-some, refl, subst, sym, table_held, table_placed, true, ℕ}
+use Rattle.command_core.proofs.Common.{◌&&◌, ◌*◌, ◌+◌, ◌-◌, ◌<◌, ◌==◌, ◌∙◌, ◌≡◌, ◌≤◌, Bool, HeldCell, List, None, Option, Some, ap, arith, cell_in, eq-eqb, eqb-true, false, none-some, refl, subst, sym, table_held, table_placed, true, ℕ}
 use Rattle.std.proofs.Common.{◌/◌, ◌^◌}
 use Rattle.std.specs.Prelude.{IfSome, unwrap_or}
 use Rattle.std.specs.Option.{option_and_then}
 use Rattle.std.proofs.lemmas.Bool.{false_from_ne_true}
 use Rattle.std.proofs.lemmas.Nat.{pow_pos}
-use Rattle.std.proofs.lemmas.Option.{same_Some}
 use Rattle.rmm_spec.specs.declared.place.Place.{Place}
 use Rattle.rmm_spec.specs.Cell as whole
-use Rattle.rmm_spec.specs.Step.Terms.{is_space}
 use Rattle.rmm_spec.specs.Table.{TableRecord, place_number}
 use Rattle.rmm_spec.specs.Update.{is_same_entry}
 use Rattle.rmm_spec.specs.Walk.{table_size}
 use Rattle.lemmas.proofs.Tests.{both_ways}
-use Rattle.rmm_laws.proofs.Spaces.{space_cases, unscaled_le}
+use Rattle.rmm_laws.proofs.Spaces.{unscaled_le}
 use Rattle.rtt_table.specs.Shaped.{IsShaped}
 use Rattle.shape_laws.specs.Whole.{width_in}
 use Rattle.shape_laws.proofs.Cells.{cell-table}
-use Rattle.world_laws.specs.SeenState.{start_of}
 use Rattle.world_laws.proofs.Found.{placed-holds}
 use Rattle.cell_changes.specs.PlaceLaws.{shaped-below, shaped-small}
 use Rattle.command_core.specs.Seen.{known_cell}
 
 -- ---- one place
-
--- its width is that of a space that is walked from the width's level on
-pub shaped-space : (place : Place) → IsShaped place → IsTrue (is_space place.width (start_of place.width))
-shaped-space place shaped = subst (λ w. IsTrue (is_space w (start_of w))) (sym shaped.is_place.width)
-    (elim (space_cases shaped.realm.width shaped.realm.start_level shaped.space) [
-      | inl small ↦ rw small.0 refl
-      | inr large ↦ rw large.0 refl
-    ])
 
 -- numbers are the same where their multiples are
 multiples : (n m size : ℕ) → 1 ≤ size → (n == m) ≡ (n * size == m * size)
@@ -44,7 +33,7 @@ multiples n m size some = by (n == m) refl
         let down : m ≤ n = unscaled_le m n size (omega (arith, one)) some in
         both_ways (eq-eqb n m (omega arith)) is))
 
--- it is that of the number where its base is
+-- a place is that of the number where its base is
 pub shaped-base : (place : Place) (rd level number : ℕ) → IsShaped place
     → is_same_entry rd level number place.rd place.level (place_number place)
     ≡ (place.rd == rd && place.level == level && place.base == number * table_size level)

@@ -12,8 +12,8 @@ use memory_map::{Ipa, Pa, table_number};
 use rmm_spec::Entry;
 use rtt_table::{Table, index_of};
 
-// Whether a table stands at the place of a realm's table: its base is that of its number.
-fn is_placed(table: &Table, rd: u64, level: u8, number: u64, width: u8) -> bool
+// Whether a table stands at that place: its base tells its number.
+fn is_table_at(table: &Table, rd: u64, level: u8, number: u64, width: u8) -> bool
     ensures { result ≡ spec.is_place rd level number width table.now.place }
 {
     let place = table.place();
@@ -26,7 +26,7 @@ fn is_other_table(rd: u64, level: u8, number: u64, width: u8, cell: Option<&Cell
 {
     match cell {
         None => false,
-        Some(Cell::Rtt(table)) => !is_placed(table, rd, level, number, width),
+        Some(Cell::Rtt(table)) => !is_table_at(table, rd, level, number, width),
         Some(_) => true,
     }
 }

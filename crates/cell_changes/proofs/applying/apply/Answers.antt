@@ -1,4 +1,4 @@
-use Rattle.std.proofs.Common.{◌∙◌, ◌≡◌, ℕ, ◌*◌, ◌%◌, List, Option, Some, ap, replicate, subst}
+use Rattle.std.proofs.Common.{◌∙◌, ◌≡◌, ℕ, ◌*◌, ◌%◌, List, Option, ap, replicate, subst}
 use Rattle.std.specs.Prelude.{IsSomeAnd, slice_set}
 use Rattle.rmm_spec.specs.declared.entry.Entry.{Entry}
 use Rattle.rmm_spec.specs.declared.entry.Entry.TheVariants.{Table}
@@ -20,8 +20,9 @@ returns-in-Some-clause-cells g c =
     let room = subst (λ change. IsRoomFor change c.args.room) t.is c.requires.room in
     let entries = subst (λ (o : Option (List Entry)). IsSomeAnd o (λ (x : List Entry). x ≡ replicate 512 t.entry)) c.into_table.ensures room in
     let of_width : ℕ → Place = λ width. record { rd = t.rd; level = t.level; base = t.number * table_size t.level; width = width } in
-    let place = c.place_of-place.ensures.place ∙ ap of_width c.width_at.ensures in
+    let place : c.place_of-place.result ≡ of_width (width_in (cells above)) = c.place_of-place.ensures.place ∙ ap of_width c.width_at.ensures in
     let made : c.at.result ≡ copied_table t.rd t.level t.number (width_in (cells above)) t.entry =
     c.at.ensures ∙ (λ i. record { place = place i; entries = entries i }) in
     let linked = changed_at cells above (cell_with_entries (λ entries. slice_set entries (t.number % 512) (Table t.rtt))) in
-    rw (t.is, c.in-Some.is) (c.make_table.ensures.cells ∙ ap (λ (x : TableRecord). put linked t.rtt (Rtt x)) made)
+    rw (t.is, c.in-Some.is)
+    (subst (λ (x : TableRecord). g.S.CellStore.cells_in c.make_table.new.store ≡ put linked t.rtt (Rtt x)) made c.make_table.ensures.cells)

@@ -2,7 +2,7 @@ use Rattle.command_core.proofs.Common.{◌&&◌, ◌==◌, ◌∙◌, ◌≡◌,
 use Rattle.rmm_spec.specs.declared.place.Place.{Place}
 use Rattle.world_laws.specs.Misfits.{is_place}
 use Rattle.command_core.proofs.Places.{shaped-base}
-use Rattle.command_core.proofs.misfits.is_placed.Goals as goal
+use Rattle.command_core.proofs.misfits.is_table_at.Goals as goal
 
 pub returns-else-is_at : goal.returns-else-is_at
 returns-else-is_at c =
