@@ -1,5 +1,7 @@
 //! Indices at the edges of tables, and each method of a table once.
 
+ghost use Rattle.rtt_table.specs.Shaped.{IsShaped};
+
 use memory_map::Ipa;
 use rmm_spec::{Entry, EntryTest, Place, Ripas};
 use rtt_table::{Table, index_of};
@@ -35,7 +37,9 @@ fn indices_at_each_level(rt: HostRuntime) {
     }
 }
 
-fn place() -> Place {
+fn place() -> Place
+    ensures { IsShaped result }
+{
     Place {
         rd: 0x1000,
         level: 3,

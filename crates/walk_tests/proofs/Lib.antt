@@ -1,2 +1,3 @@
 pub mod PlainReads
 pub mod Walkables
+pub mod Shapes

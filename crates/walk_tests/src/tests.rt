@@ -2,6 +2,7 @@
 
 use crate::covering::covers;
 use crate::plain::PlainCells;
+use crate::shaped::is_shaped;
 use crate::walkable::is_walkable;
 use memory_map::{Config, Ipa, Pa};
 use rtt_table::{Cells, Entry, Place, Reached, Ripas, Table, walk};
@@ -19,6 +20,14 @@ fn place(level: u8, base: u64, width: u8) -> Place {
         base,
         width,
     }
+}
+
+// A table of copies of an entry, where one can stand.
+fn table_at(alloc: Global, place: Place, fill: Entry) -> Result<Table, Fail> {
+    if !is_shaped(&place) {
+        return Err(Fail::from("no such place"));
+    }
+    Ok(Table::new(alloc, place, fill)?)
 }
 
 #[test]
@@ -63,12 +72,12 @@ fn put(cells: &mut PlainCells, address: u64, table: Table) -> Result<(), Fail> {
 // A root at level 1 of width 0x27 at 2000, and below it tables at 3000 (level 2) and 4000 (level 3) for the last address.
 fn three_levels(alloc: Global) -> Result<PlainCells, Fail> {
     let mut cells = empty_cells(alloc)?;
-    let mut root = Table::new(alloc, place(1, 0, 0x27), EMPTY)?;
+    let mut root = table_at(alloc, place(1, 0, 0x27), EMPTY)?;
     root.set_entry(511, Entry::Table(0x3000));
     root.set_entry(256, Entry::UnassignedNs);
-    let mut middle = Table::new(alloc, place(2, 0x7f_c000_0000, 0x27), Entry::UnassignedNs)?;
+    let mut middle = table_at(alloc, place(2, 0x7f_c000_0000, 0x27), Entry::UnassignedNs)?;
     middle.set_entry(511, Entry::Table(0x4000));
-    let mut last = Table::new(alloc, place(3, 0x7f_ffe0_0000, 0x27), Entry::UnassignedNs)?;
+    let mut last = table_at(alloc, place(3, 0x7f_ffe0_0000, 0x27), Entry::UnassignedNs)?;
     last.set_entry(511, Entry::AssignedNs(0x9000));
     put(&mut cells, 0x2000, root)?;
     put(&mut cells, 0x3000, middle)?;
@@ -111,7 +120,7 @@ fn four_levels(alloc: Global) -> Result<PlainCells, Fail> {
         (2, 0x4000, Entry::Table(0x5000)),
         (3, 0x5000, Entry::Assigned(Ripas::Ram, 0x7000)),
     ] {
-        let mut table = Table::new(alloc, place(level, 0, 0x30), EMPTY)?;
+        let mut table = table_at(alloc, place(level, 0, 0x30), EMPTY)?;
         table.set_entry(0, first);
         put(&mut cells, address, table)?;
     }
@@ -136,7 +145,7 @@ fn walks_from_level_zero(rt: HostRuntime) -> Result<(), Fail> {
 
 // A table of the last address, at level 3, to which nothing links.
 fn stray_table(alloc: Global) -> Result<Table, Fail> {
-    Ok(Table::new(alloc, place(3, 0x7f_ffe0_0000, 0x27), EMPTY)?)
+    table_at(alloc, place(3, 0x7f_ffe0_0000, 0x27), EMPTY)
 }
 
 #[test]

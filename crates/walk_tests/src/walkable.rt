@@ -62,7 +62,7 @@ fn is_sound_at<C: Cells>(
     if !is_over(&place, top, ipa) {
         return true;
     }
-    if place.level > 3 || !leads_down(cells, top, table, ipa) {
+    if !leads_down(cells, top, table, ipa) {
         return false;
     }
     if address == root.address() {

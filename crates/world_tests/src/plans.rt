@@ -14,6 +14,7 @@ use std::alloc::{AllocError, Global};
 use std::fmt::Write;
 use std::process::Abort;
 use std::test::Fail;
+use walk_tests::is_shaped;
 
 const NAMED: &str = "\
 c4000151 f000 -> take f000, ready
@@ -87,18 +88,26 @@ pub(crate) fn rec(owner: u64, aux0: u64, aux1: u64) -> Cell
     Cell::Rec(Rec::new(Pa::new(owner), 0, 1, Pa::new(aux0), Pa::new(aux1)))
 }
 
-fn root(alloc: Global, rd: u64) -> Result<Cell, AllocError> {
+/// A table of copies of an entry, where one can stand.
+pub(crate) fn table_at(alloc: Global, place: Place, fill: Entry) -> Result<Table, Fail> {
+    if !is_shaped(&place) {
+        return Err(Fail::from("no such place"));
+    }
+    Ok(Table::new(alloc, place, fill)?)
+}
+
+fn root(alloc: Global, rd: u64) -> Result<Cell, Fail> {
     let place = Place {
         rd,
         level: 1,
         base: 0,
         width: 0x27,
     };
-    Ok(Cell::Rtt(Table::new(alloc, place, Entry::UnassignedNs)?))
+    Ok(Cell::Rtt(table_at(alloc, place, Entry::UnassignedNs)?))
 }
 
 // What lies in each granule.
-fn cell_at(alloc: Global, granule: Pa) -> Result<Cell, AllocError> {
+fn cell_at(alloc: Global, granule: Pa) -> Result<Cell, Fail> {
     Ok(match granule.address() {
         0x1000 => realm(alloc, 0x2000, 1)?,
         0x2000 => root(alloc, 0x1000)?,
@@ -158,7 +167,7 @@ impl Caller {
         }
     }
 
-    fn held(&self, alloc: Global) -> Result<HeldPairs, AllocError> {
+    fn held(&self, alloc: Global) -> Result<HeldPairs, Fail> {
         let mut held = HeldPairs::new();
         for granule in &self.taken {
             if held.held().len() < 6 && held.cell(*granule).is_none() {

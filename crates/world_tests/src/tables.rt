@@ -1,13 +1,12 @@
 //! Commands that walk, on the quiet machine of `plans`. Its realm at 15000 has its root at 19000, a table of level 2 in each half (13000,
 //! and 1a000 above), those of level 3 at 17000, 11000 and (above) 1c000, a data granule at 1b000, and a REC at 16000.
 
-use crate::plans::{expect_ready, expect_traces, inside, realm};
+use crate::plans::{expect_ready, expect_traces, inside, realm, table_at};
 use command_core::{Cell, CpuPlace};
 use memory_map::Pa;
 use realm_desc::{Rec, RipasRequest};
 use rmm_spec::{Entry, Place, Ripas};
-use rtt_table::Table;
-use std::alloc::{AllocError, Global};
+use std::alloc::Global;
 use std::test::Fail;
 
 const TABLES: &str = "\
@@ -75,14 +74,14 @@ fn table(
     base: u64,
     fill: Entry,
     links: &[(usize, Entry)],
-) -> Result<Cell, AllocError> {
+) -> Result<Cell, Fail> {
     let place = Place {
         rd: 0x1_5000,
         level,
         base,
         width: 0x27,
     };
-    let mut table = Table::new(alloc, place, fill)?;
+    let mut table = table_at(alloc, place, fill)?;
     for (index, entry) in links {
         table.set_entry(*index % 512, *entry);
     }
@@ -107,7 +106,7 @@ fn asking_rec() -> Cell {
 }
 
 /// What lies in each granule of the realm with tables.
-pub(crate) fn cell_at(alloc: Global, granule: Pa) -> Result<Cell, AllocError> {
+pub(crate) fn cell_at(alloc: Global, granule: Pa) -> Result<Cell, Fail> {
     let empty = Entry::Unassigned(Ripas::Empty);
     let page = Entry::Assigned(Ripas::Ram, 0x1_b000);
     Ok(match granule.address() {

@@ -1,13 +1,12 @@
 //! Cells that no shaped whole has, on a machine of 16 granules: the CPU takes and frees no more, and its command is misplaced.
 //! Each line is a command and the cells that are held for it, by their names in `named_cell`.
 
-use crate::plans::{inside, realm, rec};
+use crate::plans::{inside, realm, rec, table_at};
 use command_core::{Cell, CpuPlace, HeldPairs, Next, Side, decide, next_lock};
 use memory_map::{Config, Pa};
 use rmi_codec::read_command;
 use rmm_spec::{Change, Command, Entry, Place, Reply};
-use rtt_table::Table;
-use std::alloc::{AllocError, Global};
+use std::alloc::Global;
 use std::process::Abort;
 use std::test::Fail;
 
@@ -19,7 +18,6 @@ c4000159 1000 | realm lent_root
 c4000159 1000 | realm aux_root
 c4000159 1000 | realm root_of_another_realm
 c4000159 1000 | realm root_of_another_level
-c4000159 1000 | realm root_of_another_base
 c4000159 1000 | realm root_of_another_width
 ";
 
@@ -65,14 +63,14 @@ c4000196 | rec
 00000001 | rec
 ";
 
-fn table(rd: u64, level: u8, base: u64, width: u8, alloc: Global) -> Result<Cell, AllocError> {
+fn first_table(alloc: Global, rd: u64, level: u8, width: u8) -> Result<Cell, Fail> {
     let place = Place {
         rd,
         level,
-        base,
+        base: 0,
         width,
     };
-    Ok(Cell::Rtt(Table::new(alloc, place, Entry::UnassignedNs)?))
+    Ok(Cell::Rtt(table_at(alloc, place, Entry::UnassignedNs)?))
 }
 
 // What lies in a granule, with its address.
@@ -85,10 +83,9 @@ fn named_cell(alloc: Global, name: &str) -> Result<(u64, Cell), Fail> {
         "lent_realm" => (0x1000, Cell::Delegated),
         "lent_root" => (0x2000, Cell::Delegated),
         "aux_root" => (0x2000, Cell::RecAux),
-        "root_of_another_realm" => (0x2000, table(0x9000, 1, 0, 0x27, alloc)?),
-        "root_of_another_level" => (0x2000, table(0x1000, 2, 0, 0x27, alloc)?),
-        "root_of_another_base" => (0x2000, table(0x1000, 1, 0x80_0000_0000, 0x27, alloc)?),
-        "root_of_another_width" => (0x2000, table(0x1000, 1, 0, 0x30, alloc)?),
+        "root_of_another_realm" => (0x2000, first_table(alloc, 0x9000, 1, 0x27)?),
+        "root_of_another_level" => (0x2000, first_table(alloc, 0x1000, 2, 0x27)?),
+        "root_of_another_width" => (0x2000, first_table(alloc, 0x1000, 1, 0x30)?),
         _ => named_rec(name)?,
     })
 }

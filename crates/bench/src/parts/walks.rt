@@ -9,8 +9,8 @@ ghost use Rattle.rtt_table.specs.Plain.{cells_from};
 use anyhow::{Context, Result, bail};
 use memory_map::{Config, GRANULE_BYTES, Ipa, Pa};
 use rtt_table::{Entry, Place, Ripas, Table, walk};
-use std::alloc::{AllocError, Global};
-use walk_tests::{PlainCells, is_walkable};
+use std::alloc::Global;
+use walk_tests::{PlainCells, is_shaped, is_walkable};
 
 const ROOT: u64 = 1;
 
@@ -99,7 +99,7 @@ fn linked_table(
     links: u64,
     first: u64,
     apart: u64,
-) -> Result<Table, AllocError>
+) -> Result<Table>
     requires some { links ≤ 512 }
     requires near { first < 4096 }
     requires close { apart < 100 }
@@ -110,6 +110,9 @@ fn linked_table(
         base,
         width: 48,
     };
+    if !is_shaped(&place) {
+        bail!("no such place");
+    }
     let mut table = Table::new(alloc, place, Entry::Unassigned(Ripas::Empty))?;
     for i in 0..links {
         let granule = first + i * apart;

@@ -12,7 +12,7 @@ loop-index-init c s whole of = gives-none s c.args.first _ c.args.rows.now.items
 pub loop-index-preserved : goal.loop-index-preserved
 loop-index-preserved c s whole of =
     let l = c.loop-index in
-    let rd : c.place-rd.result.rd ≡ c.args.table.now.place.rd = ap (λ (p : Place). p.rd) c.place-rd.ensures in
+    let rd : c.place-rd.result.rd ≡ c.args.table.now.place.rd = ap (λ (p : Place). p.rd) c.place-rd.ensures.place in
     gives-both s c.args.first _ (Assigns c.entry.result) _ c.args.rows.now.items l.rows.items _ (l.invariant s whole of)
     (c.give_page.ensures s (λ page is. subst (λ rd. IsOf s page rd) (sym rd) (of page (l.index, is.0, c.entry.ensures.value ∙ ap Some is.1))))
     (λ page there. page-next c.args.table.now.entries l.index c.entry.result page c.entry.ensures.value there)

@@ -14,7 +14,7 @@ returns-in-Some c =
     let s = state_of m in
     let t : TableRecord = c.in-Some.table.now in
     let is : tables_at m c.args.granule ≡ Some t = sym c.table_in.ensures ∙ ap option_copied c.in-Some.is in
-    let rd : c.place.result.rd ≡ t.place.rd = ap (λ (p : Place). p.rd) c.place.ensures in
+    let rd : c.place.result.rd ≡ t.place.rd = ap (λ (p : Place). p.rd) c.place.ensures.place in
     gives-both s c.args.first (λ x. x ≡ c.args.granule) (IsPageOf t.entries) _ c.args.rows.now.items c.give.new.rows.items _
     (c.give.ensures s (subst (IsOf s c.args.granule) (sym rd) (table-is_of m c.args.granule t is)))
     (c.give_pages.ensures s (m.shaped.tables.whole c.args.granule t is) (page-is_of m c.args.granule t is))
