@@ -136,7 +136,8 @@ pub(crate) fn make_table<S: CellStore>(
     requires { IsTrue (S.has (S.kept store.old) rtt) }
     ensures kept { S.kept store.new ≡ S.kept store.old }
     ensures cells { S.cells_in store.new
-        ≡ put (changed_at (S.cells_in store.old) above (cell_with_entries (entries_changed (Replaced number (entries.Table rtt))))) rtt (whole.Rtt table) }
+        ≡ put (changed_at (S.cells_in store.old) above (cell_with_entries (entries_changed (Replaced number (entries.Table rtt))))) rtt
+        (whole.Rtt table) }
 {
     let entry = Entry::Table(rtt);
     store.change_entries(above, &EntryChange::Replaced { number, entry });

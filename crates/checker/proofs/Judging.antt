@@ -147,7 +147,8 @@ pub IsDue-flagged : (replay : Replay) (history : History) (cpu number called : �
     → IsDue (flagged replay returned) history (Keep cpu number) cpu called told
 IsDue-flagged replay history cpu number called flag returned told is_called is_read unset is_returned late =
     IsDue-kept (flagged replay returned) history cpu number called flag returned told is_called
-    (is_read ∙ sym (flag-returned history.events replay.named.items returned cpu number told is_returned called cpu number is_called.0 is_called.1 flag))
+    (is_read
+    ∙ sym (flag-returned history.events replay.named.items returned cpu number told is_returned called cpu number is_called.0 is_called.1 flag))
     unset is_returned late
 
 -- what is judged with the flag is judged without it
@@ -163,7 +164,8 @@ pub IsRefusedMemory-flagged : (old : Replay) (history : History) (line : Line) (
     → IsReturned history.events returned cpu number told → IsRefusedMemory (flagged old returned) history line → IsRefusedMemory old history line
 IsRefusedMemory-flagged old history line returned cpu number told is_returned refused =
     let due = refused.due in
-    let same = flag-returned history.events old.named.items returned cpu number told is_returned refused.place _ _ refused.command refused.is_called false in
+    let same = flag-returned history.events old.named.items returned cpu number told is_returned refused.place _ _ refused.command
+    refused.is_called false in
     record {
       place = refused.place;
       command = refused.command;

@@ -135,7 +135,8 @@ same_cpu events place cpu number other_cpu other command made here there =
     (cc, cc)
 
 -- a flag at the place of a return is that of no call
-pub flag-returned : (events : List Event) (named : List Bool) (returned other_cpu other : ℕ) (given : Reply) → IsReturned events returned other_cpu other given
+pub flag-returned : (events : List Event) (named : List Bool) (returned other_cpu other : ℕ) (given : Reply)
+    → IsReturned events returned other_cpu other given
     → (place cpu number : ℕ) (command : Command) → IsCalled events place cpu number command → (otherwise : Bool)
     → get_or (set named returned true) place otherwise ≡ get_or named place otherwise
 flag-returned events named returned other_cpu other given there place cpu number command is otherwise =

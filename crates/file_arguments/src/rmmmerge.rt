@@ -8,7 +8,8 @@ use clap::{Arg, ArgMatches, Command, Error};
 use std::alloc::{AllocError, Global};
 
 const USAGE: &str =
-    "rmmmerge [--version 1|2] [--large] [--granules G] [--cpus P] [--prefix] [--rename [--memory BYTES] [--map FILE]] EVENTS HISTORY CERTIFICATE\n       \
+    "rmmmerge [--version 1|2] [--large] [--granules G] [--cpus P] [--prefix] [--rename [--memory BYTES] [--map FILE]] EVENTS \
+HISTORY CERTIFICATE\n       \
 rmmmerge --version";
 
 const NO_FORM: &str =

@@ -1,8 +1,8 @@
 //! What programs that read whole files and print a text have in common: files, faults, exit statuses, and the release that they are of.
 //! It promises that a fault ends a program by one table, that reading, writing and printing report no fault but their own, that a history is
-//! read no further than its first bad line, and byte for byte what `--version` prints and how a report ends (`append_judged`). The release's constants
-//! stand nowhere else in code; `tests/quick` compares the kit with the one at hand. Where the line of a fault can't be printed, the status reports it.
-//! Which bytes a file has is beyond its clauses. `rmmexplain`, `rmmfind`, `rmmdraw` and `rmmmerge` depend on it.
+//! read no further than its first bad line, and byte for byte what `--version` prints and how a report ends (`append_judged`). The release's
+//! constants stand nowhere else in code; `tests/quick` compares the kit with the one at hand. Where a fault's line can't be printed, the status
+//! reports it. Which bytes a file has is beyond its clauses. `rmmexplain`, `rmmfind`, `rmmdraw` and `rmmmerge` depend on it.
 #![tactic(auto)]
 
 mod arguments;

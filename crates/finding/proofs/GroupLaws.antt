@@ -1,7 +1,7 @@
 -- What the next calls of CPUs tell of the order in which they may come.
 use Rattle.finding.proofs.Common.{◌++◌, ◌<◌, ◌∙◌, ◌∷◌, ◌≡◌, Choice, HasOnePlaces-from_history, History, IsBegun, Line, List, None, Option, Some, [], ap, cpu_named, number_named, refl, state_of, subst, sym, ℕ}
-use Rattle.std.proofs.Common.{Bool, true, false, not, get_or, zero, suc}
-use Rattle.std.specs.Prelude.{IfSome, replicate, slice_set}
+use Rattle.std.proofs.Common.{Bool, true, false, get_or, zero, suc}
+use Rattle.std.specs.Prelude.{IfSome, slice_set}
 use Rattle.rmm_spec.specs.declared.command.Command.{Command}
 use Rattle.rmm_spec.specs.declared.event.Event.{Event}
 use Rattle.rmm_spec.specs.Call.{call_of}
@@ -98,29 +98,9 @@ module _ (history : History) (begun : Begun) (is_begun : IsBegun history begun) 
     has_first = has;
     passes = λ place lines line other kept holds is_out is_in.
         PassesCpu-bounded (cpu_named line) (cpu_named other)
-        (λ within other_within. passes (cpu_named line) within is_out (cpu_named other) other_within is_in) place lines line other kept holds refl refl;
+        (λ within other_within. passes (cpu_named line) within is_out (cpu_named other) other_within is_in)
+        place lines line other kept holds refl refl;
   }
-
--- of eight CPUs none is outside
-none_outside : (cpu : ℕ) → is_outside (replicate 8 false) cpu ≡ false
-none_outside zero = refl
-none_outside (suc zero) = refl
-none_outside (suc (suc zero)) = refl
-none_outside (suc (suc (suc zero))) = refl
-none_outside (suc (suc (suc (suc zero)))) = refl
-none_outside (suc (suc (suc (suc (suc zero))))) = refl
-none_outside (suc (suc (suc (suc (suc (suc zero)))))) = refl
-none_outside (suc (suc (suc (suc (suc (suc (suc zero))))))) = refl
-none_outside (suc (suc (suc (suc (suc (suc (suc (suc cpu)))))))) = refl
-
--- so all are a group
-pub IsGroup-all : (history : History) (begun : Begun) (first : Choice)
-    → IsGroup history begun first (λ cpu. not (is_outside (replicate 8 false) cpu))
-IsGroup-all history begun first = record {
-  has_first = ap not (none_outside first.cpu);
-  passes = λ place lines line other kept holds is_out is_in.
-      absurd (let bad : true ≡ false = sym (ap not (none_outside (cpu_named line))) ∙ is_out in cc);
-}
 
 -- a CPU that comes inside is inside
 pub is_outside-drawn : (outside : List Bool) (cpu : ℕ) → is_outside (slice_set outside cpu false) cpu ≡ false
@@ -129,7 +109,8 @@ is_outside-drawn (first ∷ outside) zero = refl
 is_outside-drawn (first ∷ outside) (suc cpu) = is_outside-drawn outside cpu
 
 -- and those that were stay
-pub is_outside-kept : (outside : List Bool) (cpu other : ℕ) → is_outside outside other ≡ false → is_outside (slice_set outside cpu false) other ≡ false
+pub is_outside-kept : (outside : List Bool) (cpu other : ℕ)
+    → is_outside outside other ≡ false → is_outside (slice_set outside cpu false) other ≡ false
 is_outside-kept [] cpu other is = is
 is_outside-kept (first ∷ outside) zero zero is = refl
 is_outside-kept (first ∷ outside) zero (suc other) is = is

@@ -63,8 +63,8 @@ module _ (history : History) (is_history : IsHistory history) (begun : Begun) (g
         let at : first.number ≡ count_of first.cpu lines =
         is_first.numbered ∙ counted history is_history lines (state_of begun.machine) holds.reached begun.front.counts holds.counts first.cpu
         is_first.of_machine in
-        let kept = IsKept-open history is_history lines (state_of begun.machine) holds.reached begun.front.counts holds.counts (rank_of first) is_least
-        first.cpu first.number first_returned.0 first_returned.1 (omega (arith, at)) in
+        let kept = IsKept-open history is_history lines (state_of begun.machine) holds.reached begun.front.counts holds.counts (rank_of first)
+        is_least first.cpu first.number first_returned.0 first_returned.1 (omega (arith, at)) in
         nowhere_unless_inside history is_history (rank_of first) lines (state_of begun.machine) kept first.cpu first.number
         (λ line. group (cpu_named line)) is_group.has_first
         (λ line other outside inside. is_group.passes (rank_of first) lines line other kept holds outside inside)

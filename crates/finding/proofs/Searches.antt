@@ -287,7 +287,8 @@ module _ (history : History) (is_history : IsHistory history) (old new : Search)
         counts = subst (λ (cs : List ℕ). AreCounts cs (lines_of new.frames.items)) (sym counts)
             (subst (λ (ls : List Line). AreCounts (set old.front.counts cpu (number + 1)) ls) (sym longer) are);
         tried = subst (λ (f : ℕ). Tried history (lines_of new.frames.items) f new.above) (sym from)
-            (subst (λ (a : Option ℕ). Tried history (lines_of new.frames.items) 0 a) (sym above) (Tried-none history every (lines_of new.frames.items)));
+            (subst (λ (a : Option ℕ). Tried history (lines_of new.frames.items) 0 a) (sym above)
+            (Tried-none history every (lines_of new.frames.items)));
         kept = subst (λ (k : Kept). AreNowhere history k.configurations.items) (sym kept) is_search.kept;
         checkpoint = subst (λ (fs : List Frame). IfSome new.checkpoint (IsCheckpoint history fs)) (sym frames)
             (checkpoint-push history old.frames.items frame new.checkpoint point);
@@ -355,7 +356,8 @@ IsSearch-nil history new frames counts front from above opens nothing far =
           (subst (λ (fs : List Frame). AreCounts (0 ∷ 0 ∷ 0 ∷ 0 ∷ 0 ∷ 0 ∷ 0 ∷ 0 ∷ []) (lines_of fs)) (sym frames) AreCounts-nil);
       front = front;
       tried = subst (λ (f : ℕ). Tried history (lines_of new.frames.items) f new.above) (sym from)
-          (subst (λ (a : Option ℕ). Tried history (lines_of new.frames.items) 0 a) (sym above) (Tried-none history every (lines_of new.frames.items)));
+          (subst (λ (a : Option ℕ). Tried history (lines_of new.frames.items) 0 a) (sym above)
+          (Tried-none history every (lines_of new.frames.items)));
       kept = subst (λ (ks : List Configuration). AreNowhere history ks) (sym nothing) (λ i configuration is. absurd (none-some configuration is));
       checkpoint = subst (λ (o : Option Checkpoint). IfSome o (IsCheckpoint history new.frames.items)) (sym far) tt;
     }

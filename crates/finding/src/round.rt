@@ -215,7 +215,8 @@ impl Round {
         requires group { IsGroup history.now.recorded begun.now group.first (is_inside group) }
         ensures round { OnOk result (IsRound history.now.recorded self.new) }
         ensures covers { OnOk result (Covers history.now.recorded self.old self.new) }
-        ensures left { IfOk result (λ behind. RoundLost history.now.recorded self.new → LeavesBehind history.now.recorded begun.now (is_inside group) left behind) }
+        ensures left { IfOk result (λ behind. RoundLost history.now.recorded self.new
+            → LeavesBehind history.now.recorded begun.now (is_inside group) left behind) }
     {
         match next_line(history, begun, group, left) {
             NextLine::None => Ok(None),

@@ -6,7 +6,7 @@ use Rattle.std.proofs.lemmas.Bool.Decides.{nat_tests}
 use Rattle.std.proofs.lemmas.Option.{none-some, same_Some}
 use Rattle.std.proofs.lemmas.List.{get_or-set_other, get_or-set_same}
 use Rattle.granule_places.specs.Unmade.{unmade}
-use Rattle.granule_places.specs.Placed.{far_place, place_by, place_in, count_in, room_in}
+use Rattle.granule_places.specs.Placed.{far_place, place_by, place_in, count_in}
 use Rattle.granule_places.specs.declared.places.GranulePlaces.{GranulePlaces}
 
 -- ---- blocks without places
@@ -196,8 +196,3 @@ place-granule places n place is = elim (placed places.near places.granules place
   | inl first ↦ omega (arith, first.0, places.first)
   | inr far ↦ far.1
 ]
-
--- there is room for all places
-pub count-room : (places : GranulePlaces) → count_in places ≤ room_in places
-unfolding count_in room_in
-count-room places = omega (arith, places.left)

@@ -1,5 +1,5 @@
 -- Tests: one has one answer, and what the answer of a few says.
-use Rattle.std.proofs.Common.{◌≡◌, ℕ, ◌==◌, Bool, true, false, ◌||◌, cond, Some, None, sym, ◌∙◌, refl, eq-eqb}
+use Rattle.std.proofs.Common.{◌≡◌, ℕ, ◌==◌, Bool, true, false, ◌||◌, sym, ◌∙◌, refl, eq-eqb}
 use Rattle.std.proofs.lemmas.Bool.{false≢true}
 
 -- a test can't have both answers
@@ -14,8 +14,3 @@ keys_apart other key apart same = false≢true (sym apart ∙ eq-eqb other key s
 pub either : (b c : Bool) → (b || c) ≡ false → (b ≡ false) × (c ≡ false)
 either true c is = absurd (false≢true (sym is))
 either false c is = (refl, is)
-
--- a search that finds no place has no test that passes
-pub no_place : (b : Bool) (n : ℕ) → cond b (Some n) None ≡ None → b ≡ false
-no_place true n is = absurd cc
-no_place false n is = refl

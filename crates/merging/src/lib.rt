@@ -1,7 +1,7 @@
 //! A recording as a history and a certificate: a recorder's events in the order of their stamps, and its granules by names.
-//! It promises that events are read exactly (`specs/Events.antt`), in one pass over lines in any order; that a granule's name is 4,096 times the number
-//! of its address among those that came first, and no two get one; which events and lines the two texts have (`specs/Run.antt`), that both are in
-//! their grammars, and that a refusal has its cause. A commit is kept where its call returned. Where an output fails, both hold a beginning of their texts.
+//! It promises that events are read exactly (`specs/Events.antt`), in one pass over lines in any order; that a granule's name is 4,096 times
+//! the number of its address among those that came first, and no two get one; which events and lines the two texts have (`specs/Run.antt`), that both
+//! are in their grammars, and that a refusal has its cause. A commit is kept where its call returned. Of an output that fails both hold a beginning.
 //! An event takes 12 bytes, and 8 more for each word of its command or reply. The program `rmmmerge` depends on it.
 #![tactic(auto)]
 

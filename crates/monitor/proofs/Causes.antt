@@ -1,5 +1,5 @@
 -- What a commit on cells that were taken leaves.
-use Rattle.monitor.proofs.Common.{◌≡◌, ℕ, true, List, sym, ap, ◌∙◌, subst, Result, Ok, Err, IfOk, IfErr, OnErr, Command, Config, JournalEntry, IsRun, State, opening, place_of, hold_cells, AreGranules, Done, CommitFault, JournalView, TokenView, CpuView, Refused, Unrecorded, returned, unreturned, WereHeld, LeavesHeld, WereTaken}
+use Rattle.monitor.proofs.Common.{◌≡◌, ℕ, true, List, sym, ap, ◌∙◌, subst, Result, Ok, Err, IfOk, IfErr, OnErr, Command, Config, place_of, hold_cells, AreGranules, Done, CommitFault, JournalView, TokenView, CpuView, Refused, Unrecorded, returned, unreturned, WereHeld, LeavesHeld, WereTaken}
 use Rattle.std.proofs.Common.{Option}
 use Rattle.std.specs.Prelude.{IsTrue, All}
 use Rattle.rmm_spec.specs.Call.{call_of}
@@ -14,11 +14,6 @@ use Rattle.commit_tickets.specs.declared.fault.CommitFault.TheVariants.{NoMemory
 use Rattle.commit_tickets.specs.Commits.{IsCommit}
 use Rattle.monitor.specs.Causes.{HadCause}
 use Rattle.monitor.specs.Executed.{refused_for}
-
--- a run of a machine is one of the same
-pub same-run : (config other : Config) (entries : List JournalEntry) (last : State) → other ≡ config
-    → IsRun (opening other) entries last → IsRun (opening config) entries last
-same-run config other entries last same run = subst (λ c. IsRun (opening c) entries last) same run
 
 -- ---- a commit on cells that were taken, on this machine
 

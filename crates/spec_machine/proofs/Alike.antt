@@ -1,14 +1,9 @@
 -- Lists that are compared or copied element by element.
-use Rattle.spec_machine.proofs.Common.{◌+◌, ◌<◌, ◌∙◌, ◌∷◌, ◌≡◌, ◌≤◌, List, Some, [], arith, cases_lt, inl, inr, length, refl, same_Some, slice_get, subst, suc, sym, ℕ}
-use Rattle.std.specs.Prelude.{slice_set}
-use Rattle.shape_laws.proofs.Slices.{slice_get-set_same, slice_get-set_other}
+use Rattle.spec_machine.proofs.Common.{◌+◌, ◌<◌, ◌∷◌, ◌≡◌, ◌≤◌, List, [], arith, cases_lt, inl, inr, length, refl, same_Some, slice_get, subst, suc, ℕ}
 
 -- two lists are the same up to a place
 abbrev pub SameTo : {A : Type 0} → ℕ → List A → List A → Type 0
 SameTo i xs ys = (j : ℕ) → j < i → slice_get xs j ≡ slice_get ys j
-
-pub SameTo-nil : {A : Type 0} (xs ys : List A) → SameTo 0 xs ys
-SameTo-nil xs ys j below = absurd (omega (arith, below))
 
 pub SameTo-more : {A : Type 0} (i : ℕ) (xs ys : List A) → SameTo i xs ys → slice_get xs i ≡ slice_get ys i → SameTo (i + 1) xs ys
 SameTo-more i xs ys so_far here j below = elim (cases_lt j i) [
@@ -29,13 +24,3 @@ same_lists (x ∷ xs) (y ∷ ys) size same =
 
 pub same_up_to : {A : Type 0} (i : ℕ) (xs ys : List A) → length xs ≡ length ys → length xs ≤ i → SameTo i xs ys → xs ≡ ys
 same_up_to i xs ys size past same = same_lists xs ys size (λ j below. same j (omega (arith, below, past)))
-
--- one more element was copied
-pub SameTo-set : {A : Type 0} (i : ℕ) (xs ys : List A) (y : A)
-    → i < length xs → slice_get ys i ≡ Some y → SameTo i xs ys → SameTo (i + 1) (slice_set xs i y) ys
-SameTo-set i xs ys y within is so_far j below = elim (cases_lt j i) [
-  | inl before ↦ slice_get-set_other xs i j y (λ at. omega (arith, at, before)) ∙ so_far j before
-  | inr from ↦
-      let at : i ≡ j = omega (arith, below, from) in
-      subst (λ (k : ℕ). slice_get (slice_set xs i y) k ≡ slice_get ys k) at (slice_get-set_same xs i y within ∙ sym is)
-]

@@ -4,15 +4,7 @@ use Rattle.rmm_spec.specs.declared.change.RecUpdate.{RecUpdate}
 use Rattle.rmm_spec.specs.declared.change.RecUpdate.TheVariants.{Entered, Exited}
 use Rattle.rmm_spec.specs.Cell as spec
 use Rattle.rmm_spec.specs.Shape as shape
-use Rattle.shape_laws.specs.Whole.{places_of_rec, side_without_rec, side_without_vmid}
-
-pub no_realm-side : (side : shape.Side) (c : spec.Cell) → None ≡ spec.realm_in c → side ≡ side_without_vmid side c
-no_realm-side side (spec.Rd realm) none = absurd (none-some realm none)
-no_realm-side side _ none = refl
-
-pub no_rec-side : (side : shape.Side) (c : spec.Cell) → None ≡ spec.rec_in c → side ≡ side_without_rec side c
-no_rec-side side (spec.Rec rec) none = absurd (none-some rec none)
-no_rec-side side _ none = refl
+use Rattle.shape_laws.specs.Whole.{places_of_rec}
 
 pub no_rec-places : (places : ℕ → shape.CpuPlace) (address : ℕ) (update : RecUpdate) (c : spec.Cell) → None ≡ spec.rec_in c
     → places ≡ places_of_rec places address update c

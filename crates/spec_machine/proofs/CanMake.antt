@@ -162,7 +162,8 @@ within_limit g limits rd is =
 table-fits : (g : Granules) → IsShapedIn g → (rd level number rtt : ℕ) (entry : Entry) → CanMakeTable (state_in g) rd level number rtt entry
     → FitsCells (cells_of g.list) ((state_in g).table rd (level - 1) (number / 512)) (TableMade rd level number rtt entry)
 unfolding state_in flat_state
-table-fits g shaped rd level number rtt entry can = by (spec_flat.table_granule (count_of g) (spec.tables_of cells) rd (level - 1) (number / 512)) refl
+table-fits g shaped rd level number rtt entry can =
+    by (spec_flat.table_granule (count_of g) (spec.tables_of cells) rd (level - 1) (number / 512)) refl
   where
     cells : ℕ → spec.Cell
     cells = cells_of g.list

@@ -1,8 +1,8 @@
 -- One cell that is read, or changed by what lies in it.
-use Rattle.spec_machine.proofs.Common.{◌==◌, ◌∙◌, ◌≡◌, Bool, CellList, HeldCells, None, RealmRecord, Some, TableRecord, ap, cells_of, eqb-true, false, if◌then◌else◌, none-some, place_in, put, refl, same_Some, sym, true, ℕ}
+use Rattle.spec_machine.proofs.Common.{◌==◌, ◌∙◌, ◌≡◌, Bool, CellList, HeldCells, RealmRecord, Some, ap, cells_of, eqb-true, false, if◌then◌else◌, none-some, place_in, put, refl, same_Some, sym, true, ℕ}
 use Rattle.rmm_spec.specs.State.{RecRecord}
 use Rattle.rmm_spec.specs.Cell as spec
-use Rattle.shape_laws.specs.Whole.{changed_at, width_in}
+use Rattle.shape_laws.specs.Whole.{changed_at}
 use Rattle.spec_machine.specs.Held.{cell_at, changed_in}
 use Rattle.spec_machine.specs.Placed.{IsPlace}
 use Rattle.spec_machine.specs.Whole.{cells_in}
@@ -16,15 +16,6 @@ realm_cell _ r is = absurd (none-some r (sym is))
 pub rec_cell : (c : spec.Cell) (r : RecRecord) → Some r ≡ spec.rec_in c → c ≡ spec.Rec r
 rec_cell (spec.Rec other) r is = ap spec.Rec (sym (same_Some r other is))
 rec_cell _ r is = absurd (none-some r (sym is))
-
--- a table's place has the width that its cell tells, and what is no table tells 0
-pub table-width : (c : spec.Cell) (t : TableRecord) → Some t ≡ spec.table_in c → width_in c ≡ t.place.width
-table-width (spec.Rtt other) t is = ap (λ (x : TableRecord). x.place.width) (sym (same_Some t other is))
-table-width _ t is = absurd (none-some t (sym is))
-
-pub no_table-width : (c : spec.Cell) → None ≡ spec.table_in c → width_in c ≡ 0
-no_table-width (spec.Rtt t) is = absurd (none-some t is)
-no_table-width _ is = refl
 
 -- a cell that stays as it is
 pub put-same : (cells : ℕ → spec.Cell) (granule : ℕ) (c : spec.Cell) → c ≡ cells granule → cells ≡ put cells granule c

@@ -15,7 +15,8 @@ shaped-from place is =
     let inner = and_parts (is_in_space place.width place.level place.base) (nat_le place.level 3) outer.0 in
     let base = eqb-true place.base (place_number place * table_size place.level) outer.1 in
     let last = leb-true place.level 3 inner.1 in
-    elim (or_cases (place.width == 39 && nat_le 1 place.level && nat_lt place.base (2 ^ 39)) (place.width == 48 && nat_lt place.base (2 ^ 48)) inner.0) [
+    elim (or_cases (place.width == 39 && nat_le 1 place.level && nat_lt place.base (2 ^ 39)) (place.width == 48 && nat_lt place.base (2 ^ 48))
+    inner.0) [
       | inl small ↦ (
           let parts = and_parts (place.width == 39 && nat_le 1 place.level) (nat_lt place.base (2 ^ 39)) small in
           let first = and_parts (place.width == 39) (nat_le 1 place.level) parts.0 in

@@ -54,7 +54,8 @@ same_cells n one two within outside = λ i a. by a (is_granule n a) refl i
     by a false is = outside a is
 
 -- what is put in for a granule among them is there, and what was there already
-pub put_all-listed : (held : List ℕ) (cells new : ℕ → Cell) (a : ℕ) → Contains held a ⊎ (cells a ≡ new a) → put_all cells (cells_at new held) a ≡ new a
+pub put_all-listed : (held : List ℕ) (cells new : ℕ → Cell) (a : ℕ)
+    → Contains held a ⊎ (cells a ≡ new a) → put_all cells (cells_at new held) a ≡ new a
 put_all-listed [] cells new a (inl has) = absurd (Contains-nil a has)
 put_all-listed [] cells new a (inr same) = same
 put_all-listed (g ∷ held) cells new a how = by (a == g) refl (put_all-listed held (put cells g (new g)) new a)

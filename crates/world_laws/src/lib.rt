@@ -1,6 +1,6 @@
 //! The laws over the world of moves and turns, and on few held cells: each is the contract of a public function that does nothing.
-//! It promises that, whatever CPUs do in whatever order, the journal of a run is a linearization of its history, its texts are judged `Yes`, its realms
-//! are apart, and CPUs that wait only at rising takes never wait in a circle; and that a held table tells where a walk ends, so that what is
+//! It promises that, whatever CPUs do in whatever order, the journal of a run is a linearization of its history, its texts are judged `Yes`, its
+//! realms are apart, and CPUs that wait only at rising takes never wait in a circle; and that a held table tells where a walk ends, so that what is
 //! held settles a command and its change is a local step; and that for each condition of the shape there is a whole that breaks it.
 //! The monitor's core, its locks, the queue of events and the world of turns depend on it.
 #![tactic(auto)]

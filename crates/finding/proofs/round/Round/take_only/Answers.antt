@@ -12,8 +12,8 @@ grow-requires-clause-kind c =
 
 pub grow-requires-clause-soon : goal.grow-requires-clause-soon
 grow-requires-clause-soon c =
-    IsSoon-first c.args.history.now.recorded c.requires.begun.front.is_history c.args.begun (is_inside c.args.group) (record { from = 0; above = None }) c.args.group.first
-    c.requires.first c.requires.least c.requires.returned
+    IsSoon-first c.args.history.now.recorded c.requires.begun.front.is_history c.args.begun (is_inside c.args.group)
+    (record { from = 0; above = None }) c.args.group.first c.requires.first c.requires.least c.requires.returned
 
 pub take-requires-clause-begun : goal.take-requires-clause-begun
 take-requires-clause-begun c = (rw c.if-given.true at c.in_ok-given.ensures).begun

@@ -8,7 +8,8 @@ pub returns-then-is_owned_by : goal.returns-then-is_owned_by
 unfolding has_rec state_of
 returns-then-is_owned_by c =
     let s = state_of c.args.self.now in
-    one_passes (λ k. is_owned_by c.args.rd (s.rec (k * 4096))) s.config.granules c.loop-number.number (omega (arith, c.granules-number-end.ensures.count))
+    one_passes (λ k. is_owned_by c.args.rd (s.rec (k * 4096))) s.config.granules c.loop-number.number
+    (omega (arith, c.granules-number-end.ensures.count))
     (rw c.rec.ensures.there at c.if-is_owned_by.ensures)
 
 pub returns : goal.returns

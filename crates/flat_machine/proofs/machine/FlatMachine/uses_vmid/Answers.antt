@@ -8,7 +8,8 @@ pub returns-then-has_vmid : goal.returns-then-has_vmid
 unfolding is_vmid_used state_of
 returns-then-has_vmid c =
     let s = state_of c.args.self.now in
-    one_passes (λ k. has_vmid c.args.vmid (s.realm (k * 4096))) s.config.granules c.loop-number.number (omega (arith, c.granules-number-end.ensures.count))
+    one_passes (λ k. has_vmid c.args.vmid (s.realm (k * 4096))) s.config.granules c.loop-number.number
+    (omega (arith, c.granules-number-end.ensures.count))
     (rw c.realm.ensures.there at c.if-has_vmid.ensures)
 
 pub returns : goal.returns
