@@ -12,3 +12,4 @@ pub mod Survey
 pub mod Found
 pub mod Told
 pub mod Group
+pub mod Waiting

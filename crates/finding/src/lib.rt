@@ -19,6 +19,7 @@ mod forward;
 mod frame;
 mod front;
 mod group;
+mod group_lines;
 mod guided;
 mod kept;
 mod longest;

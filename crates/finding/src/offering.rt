@@ -1,6 +1,6 @@
 //! Replies that a machine is offered.
 
-ghost use Rattle.std.specs.Prelude.{◌≡◌, ℕ, false, IfOk};
+ghost use Rattle.std.specs.Prelude.{◌≡◌, ℕ, false, IfOk, IsTrue};
 ghost use Rattle.std.specs.Bool.{MatchBool};
 ghost use Rattle.rmm_spec.specs.FirstFault.{IsRefused};
 ghost use Rattle.rmm_spec.specs.Linearization.{IsFinished, IsOfItsKind, IsReplyOf, IsReturned, cpu_named, number_named};
@@ -43,6 +43,28 @@ pub(crate) fn offer(
     let reply = reply_of(history, choice, line);
     let given = offers.make(machine, choice.cpu, command, reply)?;
     Ok(given)
+}
+
+/// Whether the machine is known to refuse the line of the call without a step.
+pub(crate) fn is_line_refused(
+    offers: &mut Offers,
+    machine: &Machine,
+    history: &History,
+    choice: Choice,
+    line: &Line,
+) -> bool
+    requires places { ArePlacesOf history.now.recorded.events choice.cpu choice.number choice.places }
+    requires of_cpu { cpu_named line.now ≡ choice.cpu }
+    requires numbered { number_named line.now ≡ choice.number }
+    requires kind { IsOfItsKind history.now.recorded.events line.now }
+    ensures { IsTrue result → IsRefused history.now.recorded.events (state_of machine.now) line.now }
+{
+    let _fact = history.well_formed();
+    let Some(command) = history.command_at(choice.places.called as usize) else {
+        unreachable!()
+    };
+    let reply = reply_of(history, choice, line);
+    offers.is_refused(machine, choice.cpu, command, reply)
 }
 
 /// The reply of a line: the recorded one, or the one that it claims.

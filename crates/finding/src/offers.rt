@@ -1,17 +1,24 @@
 //! How many offers a search has made.
 
+ghost use Rattle.std.specs.Prelude.{◌≤◌, length, IsTrue};
+ghost use Rattle.rmm_spec.specs.State.{State};
+ghost use Rattle.rmm_spec.specs.Step.{Step};
+ghost use Rattle.rmi_view.specs.Seen.{command_seen, reply_seen};
+ghost use Rattle.spec_machine.specs.View.{state_of};
+
 use rmi_view::{CommandRef, ReplyRef};
+use rmm_spec::{Accepted, Reply};
 use spec_machine::Machine;
 use std::alloc::AllocError;
 
-/// A count of offers to machines. Nothing but an offer makes it greater.
+/// A count of offers to machines. Nothing but an offer, or a test that shows one to be refused, makes it greater.
 #[derive(Drop)]
 pub struct Offers {
     count: u64,
 }
 
 impl Offers {
-    ghost use Rattle.std.specs.Prelude.{◌≡◌, IfOk, IsTrue, false};
+    ghost use Rattle.std.specs.Prelude.{◌≡◌, ◌≤◌, length, if◌then◌else◌, IfOk, IsTrue, false};
     ghost use Rattle.rmm_spec.specs.State.{State};
     ghost use Rattle.rmm_spec.specs.Step.{Step};
     ghost use Rattle.rmi_view.specs.Seen.{command_seen, reply_seen};
@@ -50,5 +57,38 @@ impl Offers {
     {
         self.count = self.count.saturating_add(1);
         machine.offer_seen(cpu, command, reply)
+    }
+
+    /// Whether an offer of the reply is known to be refused without a step, which then counts as one.
+    pub(crate) fn is_refused(
+        &mut self,
+        machine: &Machine,
+        cpu: u8,
+        command: CommandRef<'_>,
+        reply: ReplyRef<'_>,
+    ) -> bool
+        requires { length command.words.now ≤ 10 }
+        ensures refused { IsTrue result
+            → (next : State) → ¬ Step (state_of machine.now) cpu (command_seen command.entry) (reply_seen reply.entry) next }
+        ensures counted { self.new.count ≡ (if result then one_more self.old.count else self.old.count) }
+    {
+        let refused = refuses(machine, cpu, command, reply);
+        if refused {
+            self.count = self.count.saturating_add(1);
+        }
+        refused
+    }
+}
+
+/// Whether the machine gives another reply to the command. Where the reply has the end of a stretch, that isn't looked at.
+fn refuses(machine: &Machine, cpu: u8, command: CommandRef<'_>, reply: ReplyRef<'_>) -> bool
+    requires { length command.words.now ≤ 10 }
+    ensures { IsTrue result
+        → (next : State) → ¬ Step (state_of machine.now) cpu (command_seen command.entry) (reply_seen reply.entry) next }
+{
+    match machine.outcome(cpu, &command.to_command()) {
+        Err(refusal) => !reply.is(&refusal.reply()),
+        Ok(Accepted::Done { words, .. }) => !reply.is(&Reply::Ok(words)),
+        Ok(Accepted::Reaches(_)) => false,
     }
 }

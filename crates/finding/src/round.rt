@@ -7,17 +7,12 @@ use crate::alike::{has_alike, has_beginning};
 use crate::begun::Begun;
 use crate::choice::{Choice, PENDING, rank};
 use crate::group::{Group, group_at};
-use crate::next_line::{NextLine, next_line};
 use crate::offers::Offers;
 use crate::refused::refused_choice;
-use crate::search::Left;
 use crate::watch::{Advance, Pace, Watch};
 use history::History;
 use rmm_spec::Line;
 use std::alloc::{AllocError, Global};
-
-/// How many lines are tried behind an order.
-const LINES: u32 = 4096;
 
 /// How many orders that lack a call are kept.
 const LACKING: usize = 2048;
@@ -37,18 +32,15 @@ pub(crate) struct Round {
 }
 
 impl Round {
-    ghost use Rattle.std.specs.Prelude.{◌≡◌, ◌<◌, ℕ, Bool, true, List, [], ◌∷◌, ◌++◌, IfOk, IfSome, IsTrue, OnOk};
-    ghost use Rattle.rmm_spec.specs.declared.line.Line.{Line};
-    ghost use Rattle.verdict_laws.specs.Order.{LeadsNowhere};
-    ghost use Rattle.finding.specs.Begun.{Covers, Holds, IsBegun, IsGroup, IsLost, IsRound, IsSoon, LeavesBehind, MayStand, RoundLost};
+    ghost use Rattle.std.specs.Prelude.{◌≡◌, ◌<◌, ℕ, true, IfOk, IfSome, IsTrue, OnOk};
+    ghost use Rattle.finding.specs.Begun.{Covers, IsBegun, IsGroup, IsLost, IsRound, IsSoon, RoundLost};
     ghost use Rattle.finding.specs.Search.{IsRefusedHere};
     ghost use Rattle.spec_machine.specs.View.{state_of};
     ghost use Rattle.finding.specs.Group.{is_inside};
     ghost use Rattle.finding.specs.Choice.{IsLeast, IsNextCall, rank_of};
-    ghost use Rattle.finding.specs.declared.search.Left.{Left};
 
     /// Takes an order, unless another stands for it.
-    fn take(
+    pub(crate) fn take(
         &mut self,
         alloc: Global,
         offers: &mut Offers,
@@ -103,33 +95,6 @@ impl Round {
             return Ok(());
         }
         self.lacking.push(begun)?;
-        Ok(())
-    }
-
-    /// Takes the order that is longer by a line, where the machine gives its call the reply.
-    fn take_longer(
-        &mut self,
-        alloc: Global,
-        offers: &mut Offers,
-        history: &History,
-        begun: &Begun,
-        choice: Choice,
-        line: &Line,
-    ) -> Result<(), AllocError>
-        requires round { IsRound history.now.recorded self.old }
-        requires begun { IsBegun history.now.recorded begun.now }
-        requires stands { (group : ℕ → Bool) × (old new : Left) × MayStand history.now.recorded begun.now group old choice line.now new }
-        ensures round { OnOk result (IsRound history.now.recorded self.new) }
-        ensures covers { OnOk result (Covers history.now.recorded self.old self.new) }
-        ensures taken { OnOk result (RoundLost history.now.recorded self.new → (lines : List Line) → Holds history.now.recorded begun.now lines
-            → LeadsNowhere history.now.recorded (lines ++ line.now ∷ [])) }
-    {
-        let mut longer = begun.copy(alloc)?;
-        let given = longer.grow(offers, history, choice, line)?;
-        if given {
-            self.take(alloc, offers, history, longer)?;
-            return Ok(());
-        }
         Ok(())
     }
 
@@ -197,41 +162,6 @@ impl Round {
         Ok(())
     }
 
-    /// Takes the orders that are longer by the next line, and returns what is left behind it.
-    fn take_line(
-        &mut self,
-        alloc: Global,
-        offers: &mut Offers,
-        history: &History,
-        begun: &Begun,
-        group: Group,
-        left: Left,
-    ) -> Result<Option<Left>, AllocError>
-        requires round { IsRound history.now.recorded self.old }
-        requires begun { IsBegun history.now.recorded begun.now }
-        requires first { IsNextCall history.now.recorded begun.now.front.counts 0 group.first }
-        requires least { IsLeast history.now.recorded.events begun.now.front.counts 0 history.now.recorded.config.cpus (rank_of group.first) }
-        requires returned { rank_of group.first < 1000000 }
-        requires group { IsGroup history.now.recorded begun.now group.first (is_inside group) }
-        ensures round { OnOk result (IsRound history.now.recorded self.new) }
-        ensures covers { OnOk result (Covers history.now.recorded self.old self.new) }
-        ensures left { IfOk result (λ behind. RoundLost history.now.recorded self.new
-            → LeavesBehind history.now.recorded begun.now (is_inside group) left behind) }
-    {
-        match next_line(history, begun, group, left) {
-            NextLine::None => Ok(None),
-            NextLine::Passed(behind) => Ok(Some(behind)),
-            NextLine::Line {
-                choice,
-                line,
-                left: behind,
-            } => {
-                self.take_longer(alloc, offers, history, begun, choice, &line)?;
-                Ok(Some(behind))
-            }
-        }
-    }
-
     /// Takes each order that is longer by a line, and returns whether these are all.
     fn take_each(
         &mut self,
@@ -261,40 +191,7 @@ impl Round {
             self.take_only(alloc, offers, history, begun, group)?;
             return Ok(true);
         }
-        self.take_group(alloc, offers, history, &begun, group)
-    }
-
-    /// Takes each order that is longer by a line of the group, and returns whether these are all.
-    fn take_group(
-        &mut self,
-        alloc: Global,
-        offers: &mut Offers,
-        history: &History,
-        begun: &Begun,
-        group: Group,
-    ) -> Result<bool, AllocError>
-        requires round { IsRound history.now.recorded self.old }
-        requires begun { IsBegun history.now.recorded begun.now }
-        requires first { IsNextCall history.now.recorded begun.now.front.counts 0 group.first }
-        requires least { IsLeast history.now.recorded.events begun.now.front.counts 0 history.now.recorded.config.cpus (rank_of group.first) }
-        requires returned { rank_of group.first < 1000000 }
-        requires group { IsGroup history.now.recorded begun.now group.first (is_inside group) }
-        ensures round { OnOk result (IsRound history.now.recorded self.new) }
-        ensures covers { OnOk result (Covers history.now.recorded self.old self.new) }
-        ensures taken { IfOk result (λ all. IsTrue all → RoundLost history.now.recorded self.new → IsLost history.now.recorded begun.now) }
-    {
-        let mut left = Left {
-            from: 0,
-            above: None,
-        };
-        'lines: for _line in 0..LINES {
-            let taken = self.take_line(alloc, offers, history, begun, group, left)?;
-            let Some(behind) = taken else {
-                return Ok(true);
-            };
-            left = behind;
-        }
-        Ok(false)
+        self.take_group(alloc, offers, history, begun, group)
     }
 
     /// How far it is, with one order at hand and so many left to make longer.
