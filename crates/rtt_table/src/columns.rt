@@ -3,6 +3,7 @@
 ghost use Rattle.std.specs.Prelude.{All, ◌≡◌, ◌++◌, ◌<◌, ◌≤◌, ◌↔◌, IfOk, IsTrue, false, length, map, replicate, Some, slice_get, slice_set};
 ghost use Rattle.std.specs.List.{list_any};
 ghost use Rattle.rmm_spec.specs.Table.{entries_with_ripas};
+ghost use Rattle.rmm_spec.specs.Walk as walk;
 ghost use Rattle.rmm_spec.specs.Walk.{is_unlike};
 ghost use Rattle.rtt_table.specs.Columns as spec;
 ghost use Rattle.rtt_table.specs.Columns.{kind_with_ripas};
@@ -41,13 +42,14 @@ impl Model for Columns {
 }
 
 impl Columns {
-    /// 256 copies of one entry, and 256 of another behind them.
-    pub fn halves(alloc: Global, lower: Entry, upper: Entry) -> Result<Self, AllocError>
-        ensures { IfOk result (λ columns. columns ≡ replicate 256 lower ++ replicate 256 upper) }
+    /// 256 copies of one entry, and 256 of another behind them, whose addresses are given. So the kinds, which are large, are made where they lie.
+    #[inline(always)]
+    pub fn halves(addresses: Vec<u64>, lower: Entry, upper: Entry) -> Self
+        requires { addresses.items ≡ replicate 256 (walk.entry_address lower) ++ replicate 256 (walk.entry_address upper) }
+        ensures { result ≡ replicate 256 lower ++ replicate 256 upper }
     {
-        let addresses = column(alloc, entry_address(lower), entry_address(upper))?;
         let kinds = halves(kind_of(lower), kind_of(upper));
-        Ok(Columns { addresses, kinds })
+        Columns { addresses, kinds }
     }
 
     /// The same columns once more.
@@ -99,14 +101,18 @@ impl Columns {
     }
 }
 
-// 256 copies of one address, and 256 of another behind them.
-fn column(alloc: Global, lower: u64, upper: u64) -> Result<Vec<u64>, AllocError>
-    ensures { IfOk result (λ column. column.items ≡ replicate 256 lower ++ replicate 256 upper) }
+/// The addresses of 256 copies of one entry, and of 256 of another behind them.
+pub(crate) fn addresses_of(
+    alloc: Global,
+    lower: Entry,
+    upper: Entry,
+) -> Result<Vec<u64>, AllocError>
+    ensures { IfOk result (λ addresses. addresses.items ≡ replicate 256 (walk.entry_address lower) ++ replicate 256 (walk.entry_address upper)) }
 {
-    let mut column = Vec::with_capacity(alloc, ENTRIES)?;
-    column.resize(HALF, lower)?;
-    column.resize(ENTRIES, upper)?;
-    Ok(column)
+    let mut addresses = Vec::with_capacity(alloc, ENTRIES)?;
+    addresses.resize(HALF, entry_address(lower))?;
+    addresses.resize(ENTRIES, entry_address(upper))?;
+    Ok(addresses)
 }
 
 // 256 copies of one kind, and 256 of another behind them.

@@ -1,6 +1,6 @@
 //! A table and its methods.
 
-ghost use Rattle.std.specs.Prelude.{◌≡◌, ◌+◌, ◌++◌, ◌<◌, ◌≤◌, ◌↔◌, if◌then◌else◌, IsTrue, IfOk, length, replicate, Some, slice_get, slice_set};
+ghost use Rattle.std.specs.Prelude.{◌≡◌, ◌+◌, ◌<◌, ◌≤◌, ◌↔◌, if◌then◌else◌, IsTrue, IfOk, length, replicate, Some, slice_get, slice_set};
 ghost use Rattle.std.specs.List.{list_any};
 ghost use Rattle.rmm_spec.specs.Walk.{is_live, is_table, passes};
 ghost use Rattle.rmm_spec.specs.Table.{entry_index, entries_with_ripas, AreAlike};
@@ -48,20 +48,6 @@ impl Table {
         ensures { IfOk result (λ t. t ≡ record { place = place; entries = replicate 512 fill }) }
     {
         let unplaced = Unplaced::new(alloc, fill)?;
-        Ok(unplaced.at(place))
-    }
-
-    /// A table of 256 copies of one entry, and 256 of another behind them.
-    pub fn halves(
-        alloc: Global,
-        place: Place,
-        lower: Entry,
-        upper: Entry,
-    ) -> Result<Self, AllocError>
-        requires { IsShaped place }
-        ensures { IfOk result (λ t. t ≡ record { place = place; entries = replicate 256 lower ++ replicate 256 upper }) }
-    {
-        let unplaced = Unplaced::halves(alloc, lower, upper)?;
         Ok(unplaced.at(place))
     }
 

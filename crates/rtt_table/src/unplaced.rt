@@ -4,7 +4,7 @@ ghost use Rattle.std.specs.Prelude.{◌≡◌, ◌+◌, ◌++◌, ◌≤◌, if�
 ghost use Rattle.rtt_table.specs.Counts.{AreCounts};
 ghost use Rattle.rtt_table.specs.Shaped.{IsShaped};
 
-use crate::columns::Columns;
+use crate::columns::{Columns, addresses_of};
 use crate::table::Table;
 use memory_map::{is_live, is_table};
 use rmm_spec::{Entry, Place};
@@ -51,12 +51,12 @@ impl Unplaced {
     pub fn halves(alloc: Global, lower: Entry, upper: Entry) -> Result<Self, AllocError>
         ensures { IfOk result (λ t. t ≡ replicate 256 lower ++ replicate 256 upper) }
     {
-        let columns = Columns::halves(alloc, lower, upper)?;
+        let addresses = addresses_of(alloc, lower, upper)?;
         let body = Body {
             place: NOWHERE,
             live: half_or_none(is_live(lower)) + half_or_none(is_live(upper)),
             links: half_or_none(is_table(lower)) + half_or_none(is_table(upper)),
-            columns,
+            columns: Columns::halves(addresses, lower, upper),
         };
         Unplaced::boxed(alloc, body)
     }
