@@ -5,6 +5,7 @@ use Rattle.std.proofs.lemmas.Option.{none-some}
 use Rattle.std.specs.Prelude.{IfSome}
 use Rattle.rmm_spec.specs.declared.change.RealmChange.{RealmChange}
 use Rattle.rmm_spec.specs.declared.change.RealmUpdate.{RealmUpdate}
+use Rattle.rmm_spec.specs.declared.change.RealmUpdate.TheVariants.{RecCounted}
 use Rattle.rmm_spec.specs.declared.change.RecChange.{RecChange}
 use Rattle.rmm_spec.specs.declared.change.TagChange.{TagChange}
 use Rattle.rmm_spec.specs.declared.tag.Tag.{Tag}
@@ -12,23 +13,25 @@ use Rattle.rmm_spec.specs.declared.tag.Tag.TheVariants as tag
 use Rattle.rmm_spec.specs.Cell.{Cell, Rd, Rec, RecAux, put, realm_in, rec_in, recs_of}
 use Rattle.rmm_spec.specs.State.{RecRecord}
 use Rattle.shape_laws.specs.Whole.{cell_with_realm, cell_with_tag, cells_with_realm_change, cells_with_tag_change, changed_at}
-use Rattle.cell_changes.specs.Changes.{CanUpdate, TakesIndex}
+use Rattle.cell_changes.specs.declared.cell_change.CellChange.TheVariants.{Realm}
+use Rattle.cell_changes.specs.Changes.{CanUpdate}
+use Rattle.cell_changes.specs.OneCell.{FitsCell}
 
 -- what is there once a cell without a realm is put in was there
-index-put : (cells : ℕ → Cell) (rd index granule : ℕ) (c : Cell) → realm_in c ≡ None → TakesIndex cells rd index
-    → TakesIndex (put cells granule c) rd index
-index-put cells rd index granule c none takes realm is = by (rd == granule) is
+index-put : (cells : ℕ → Cell) (rd index flags granule : ℕ) (c : Cell) → realm_in c ≡ None → FitsCell (cells rd) (Realm (RecCounted index flags))
+    → FitsCell (put cells granule c rd) (Realm (RecCounted index flags))
+index-put cells rd index flags granule c none takes realm is = by (rd == granule) is
   where
     by : (b : Bool) → realm_in (if b then c else cells rd) ≡ Some realm → IsTrue (index == realm.next_index && nat_lt index 8)
     by true there = absurd (none-some realm (sym none ∙ there))
     by false there = takes realm there
 
 -- so once a REC is put in with its two others
-pub index-made : (cells : ℕ → Cell) (rd index rec aux0 aux1 : ℕ) (made : RecRecord) → TakesIndex cells rd index
-    → TakesIndex (put (put (put cells rec (Rec made)) aux0 RecAux) aux1 RecAux) rd index
-index-made cells rd index rec aux0 aux1 made takes =
-    index-put (put (put cells rec (Rec made)) aux0 RecAux) rd index aux1 RecAux refl
-    (index-put (put cells rec (Rec made)) rd index aux0 RecAux refl (index-put cells rd index rec (Rec made) refl takes))
+pub index-made : (cells : ℕ → Cell) (rd index flags rec aux0 aux1 : ℕ) (made : RecRecord) → FitsCell (cells rd) (Realm (RecCounted index flags))
+    → FitsCell (put (put (put cells rec (Rec made)) aux0 RecAux) aux1 RecAux rd) (Realm (RecCounted index flags))
+index-made cells rd index flags rec aux0 aux1 made takes =
+    index-put (put (put cells rec (Rec made)) aux0 RecAux) rd index flags aux1 RecAux refl
+    (index-put (put cells rec (Rec made)) rd index flags aux0 RecAux refl (index-put cells rd index flags rec (Rec made) refl takes))
 
 -- a realm's update changes no REC, and a tag makes none
 realm-no_rec : (update : RealmUpdate) (c : Cell) → rec_in (cell_with_realm update c) ≡ rec_in c

@@ -1,10 +1,8 @@
 -- What a change makes of cells where the table whose entries it changes was found, and what it requires of them.
-use Rattle.std.specs.Prelude.{◌≡◌, ℕ, ◌+◌, ◌-◌, ◌*◌, ◌/◌, ◌%◌, Bool, true, false, ◌&&◌, ◌==◌, nat_lt, nat_le, IsTrue, List, [], ◌∷◌, ◌++◌, Option, Some, None, IfSome, slice_set}
+use Rattle.std.specs.Prelude.{◌≡◌, ℕ, ◌-◌, ◌/◌, ◌%◌, Bool, true, false, ◌&&◌, ◌==◌, IsTrue, List, [], ◌∷◌, ◌++◌, Option, Some, None, IfSome, slice_set}
 use Rattle.std.specs.List.{AllByRecursion}
 use Rattle.rmm_spec.specs.declared.change.Change.{Change}
 use Rattle.rmm_spec.specs.declared.change.Change.TheVariants.{Unchanged, Retagged, RealmMade, RealmDestroyed, RecMade, RecDestroyed, RecordsChanged, TableMade, TableDestroyed, EntriesChanged}
-use Rattle.rmm_spec.specs.declared.change.EntryChange.{EntryChange}
-use Rattle.rmm_spec.specs.declared.change.EntryChange.TheVariants.{Replaced, RipasSet}
 use Rattle.rmm_spec.specs.declared.change.RealmChange.{RealmChange}
 use Rattle.rmm_spec.specs.declared.change.RealmUpdate.TheVariants.{RecCounted}
 use Rattle.rmm_spec.specs.declared.change.RecChange.{RecChange}
@@ -12,14 +10,15 @@ use Rattle.rmm_spec.specs.declared.change.TagChange.{TagChange}
 use Rattle.rmm_spec.specs.declared.tag.Tag.{Tag}
 use Rattle.rmm_spec.specs.declared.tag.Tag.TheVariants as tag
 use Rattle.rmm_spec.specs.Applicable.{IsRealmUpdate}
-use Rattle.rmm_spec.specs.Cell.{Cell, Delegated, Rd, Rec, RecAux, Rtt, put, realms_of, recs_of}
+use Rattle.rmm_spec.specs.Cell.{Cell, Delegated, Rd, Rec, RecAux, Rtt, put}
 use Rattle.rmm_spec.specs.Change.{new_realm, new_rec}
 use Rattle.rmm_spec.specs.Lookup.{is_hash}
-use Rattle.rmm_spec.specs.State.{RealmRecord, RecRecord}
 use Rattle.rmm_spec.specs.Step.Terms.{is_space}
-use Rattle.realm_desc.specs.Updates.{IsRecUpdate}
 use Rattle.rtt_table.specs.Shaped.{IsShaped}
 use Rattle.shape_laws.specs.Whole.{changed_at, cell_with_realm, copied_table, root_table, width_in, table_changed, entries_changed, cells_with_entries, cells_with_table, cells_with_tag_change, cells_with_realm_change, cells_with_rec_change}
+use Rattle.cell_changes.specs.declared.cell_change.CellChange.TheVariants as cell
+use Rattle.cell_changes.specs.OneCell.{FitsCell}
+pub use Rattle.cell_changes.specs.OneCell.{fits_entries}
 
 -- ---- what becomes of cells
 
@@ -89,18 +88,9 @@ is_plain tag.Rec = false
 is_plain tag.Rtt = false
 is_plain _ = true
 
--- the entries of a stretch are those of one table
-abbrev pub fits_entries : EntryChange → Bool
-fits_entries (Replaced number entry) = true
-fits_entries (RipasSet first last ripas) = nat_lt first last && nat_le last ((first / 512 + 1) * 512)
-
 -- the REC that is there takes the update
 abbrev pub CanUpdate : (ℕ → Cell) → RecChange → Type 0
-CanUpdate cells change = (rec : RecRecord) → recs_of cells change.rec ≡ Some rec → IsRecUpdate rec change.update
-
--- the next REC of the realm that is there has the index
-abbrev pub TakesIndex : (ℕ → Cell) → ℕ → ℕ → Type 0
-TakesIndex cells rd index = (realm : RealmRecord) → realms_of cells rd ≡ Some realm → IsTrue (index == realm.next_index && nat_lt index 8)
+CanUpdate cells change = FitsCell (cells change.rec) (cell.Rec change.update)
 
 -- a page's tag, a realm and a REC that go with changed entries
 pub record FitParts (cells : ℕ → Cell) (page : Option TagChange) (realm : Option RealmChange) (rec : Option RecChange) : Type 0 where
@@ -113,7 +103,7 @@ pub record FitParts (cells : ℕ → Cell) (page : Option TagChange) (realm : Op
 abbrev pub FitsCells : (ℕ → Cell) → Option ℕ → Change → Type 0
 FitsCells cells at (Retagged change) = IsTrue (is_plain change.tag)
 FitsCells cells at (RealmMade rd root width level vmid algo) = IsTrue (is_space width level && is_hash algo)
-FitsCells cells at (RecMade rd rec mpidr flags aux0 aux1) = TakesIndex cells rd mpidr × ((aux0 == aux1) ≡ false)
+FitsCells cells at (RecMade rd rec mpidr flags aux0 aux1) = FitsCell (cells rd) (cell.Realm (RecCounted mpidr flags)) × ((aux0 == aux1) ≡ false)
 FitsCells cells at (RecordsChanged realm rec) = FitParts cells None realm rec
 FitsCells cells at (TableMade rd level number rtt entry) =
     IfSome at (λ above. IsShaped (copied_table rd level number (width_in (cells above)) entry).place)

@@ -1,4 +1,5 @@
 pub mod Changes
 pub mod MadeLaws
+pub mod OneCell
 pub mod PlaceLaws
 pub mod Rooms

@@ -6,17 +6,19 @@ ghost use Rattle.rmm_spec.specs.Walk as walk;
 ghost use Rattle.rtt_table.specs.Shaped.{IsShaped};
 ghost use Rattle.shape_laws.specs.Whole as whole;
 ghost use Rattle.cell_changes.specs.Changes.{cells_made, CanPutAll, FitsCells};
+ghost use Rattle.cell_changes.specs.OneCell.{cell_seen};
 ghost use Rattle.cell_changes.specs.Rooms.{IsRoomFor};
 
 use crate::cell_store::CellStore;
+use crate::cell_view::CellView;
 use crate::change_room::Room;
 use crate::changing::{
-    change_entries, change_records, free_realm, free_rec, free_table, make_rec, make_table,
-    put_realm,
+    change_entries, change_records, change_tag, free_realm, free_rec, free_table, make_rec,
+    make_table, put_realm,
 };
 use memory_map::Pa;
 use realm_desc::Rec;
-use rmm_spec::{Change, EntryChange, Place, TagChange};
+use rmm_spec::{Change, EntryChange, Place};
 
 /// Makes the change, with the room that was taken for it, where the table whose entries it changes lies in the granule at `at`.
 #[tactic(auto, unfolding(crate::specs::Changes::cells_made))]
@@ -29,7 +31,7 @@ pub fn apply<S: CellStore>(store: &mut S, change: &Change, at: Option<u64>, room
 {
     match *change {
         Change::Unchanged => {}
-        Change::Retagged(TagChange { granule, tag }) => store.put_tag(granule, tag),
+        Change::Retagged(change) => change_tag(store, Some(change)),
         Change::RealmMade {
             rd,
             root,
@@ -63,7 +65,7 @@ pub fn apply<S: CellStore>(store: &mut S, change: &Change, at: Option<u64>, room
             ..
         } => {
             if let Some(above) = at {
-                let place = place_of(rd, level, number, store.width_at(above));
+                let place = place_of(rd, level, number, width_of(store.cell(above)));
                 make_table(store, above, number, rtt, room.into_table().at(place));
             }
         }
@@ -94,6 +96,16 @@ fn root_place(rd: u64, width: u8, level: u8) -> Place
         level,
         base: 0,
         width,
+    }
+}
+
+// The width of the address space that a table is of.
+fn width_of(cell: CellView<'_>) -> u8
+    ensures { result ≡ whole.width_in (cell_seen cell.entry) }
+{
+    match cell {
+        CellView::Rtt(table) => table.place().width,
+        _ => 0,
     }
 }
 

@@ -8,12 +8,16 @@ ghost use Rattle.rmm_spec.specs.Applicable.{IsRealmUpdate};
 ghost use Rattle.rmm_spec.specs.Cell as whole;
 ghost use Rattle.rmm_spec.specs.Cell.{put};
 ghost use Rattle.shape_laws.specs.Whole.{changed_at, cell_with_realm, cells_with_tag_change, cells_with_realm_change, cells_with_rec_change, cell_with_entries, cells_with_entries, entries_changed};
-ghost use Rattle.cell_changes.specs.Changes.{fits_entries, is_plain, CanUpdate, FitParts, TakesIndex};
+ghost use Rattle.cell_changes.specs.declared.cell_change.CellChange.TheVariants as cell;
+ghost use Rattle.cell_changes.specs.Changes.{is_plain, CanUpdate, FitParts};
+ghost use Rattle.cell_changes.specs.OneCell.{fits_entries, FitsCell};
 
+use crate::cell_change::CellChange;
 use crate::cell_store::CellStore;
-use granule_cells::Descriptor;
+use crate::plain::plain_cell;
+use granule_cells::{Cell, Descriptor};
 use realm_desc::Rec;
-use rmm_spec::{Entry, EntryChange, RealmChange, RecChange, Tag, TagChange};
+use rmm_spec::{Entry, EntryChange, RealmChange, RealmUpdate, RecChange, TagChange};
 use rtt_table::Table;
 
 pub(crate) fn put_realm<S: CellStore>(
@@ -28,8 +32,8 @@ pub(crate) fn put_realm<S: CellStore>(
     ensures kept { S.kept store.new ≡ S.kept store.old }
     ensures cells { S.cells_in store.new ≡ put (put (S.cells_in store.old) rd (whole.Rd realm)) root (whole.Rtt table) }
 {
-    store.put_realm(rd, realm);
-    store.put_table(root, table);
+    store.put(rd, Cell::Rd(realm));
+    store.put(root, Cell::Rtt(table));
 }
 
 pub(crate) fn free_realm<S: CellStore>(store: &mut S, rd: u64, root: u64)
@@ -38,8 +42,8 @@ pub(crate) fn free_realm<S: CellStore>(store: &mut S, rd: u64, root: u64)
     ensures kept { S.kept store.new ≡ S.kept store.old }
     ensures cells { S.cells_in store.new ≡ put (put (S.cells_in store.old) rd whole.Delegated) root whole.Delegated }
 {
-    store.put_tag(rd, Tag::Delegated);
-    store.put_tag(root, Tag::Delegated);
+    store.put(rd, Cell::Delegated);
+    store.put(root, Cell::Delegated);
 }
 
 /// The REC is put in with its two others, and its realm counts it.
@@ -48,16 +52,20 @@ pub(crate) fn make_rec<S: CellStore>(store: &mut S, rec: u64, made: Rec, flags: 
     requires rec { IsTrue (S.has (S.kept store.old) rec) }
     requires aux0 { IsTrue (S.has (S.kept store.old) made.aux0) }
     requires aux1 { IsTrue (S.has (S.kept store.old) made.aux1) }
-    requires index { TakesIndex (S.cells_in store.old) made.owner made.index }
+    requires index { FitsCell (S.cells_in store.old made.owner) (cell.Realm (RecCounted made.index flags)) }
     ensures kept { S.kept store.new ≡ S.kept store.old }
     ensures cells { S.cells_in store.new
         ≡ changed_at (put (put (put (S.cells_in store.old) rec (whole.Rec made)) made.aux0 whole.RecAux) made.aux1 whole.RecAux) made.owner
         (cell_with_realm (RecCounted made.index flags)) }
 {
-    store.put_rec(rec, made);
-    store.put_tag(made.aux0.address(), Tag::RecAux);
-    store.put_tag(made.aux1.address(), Tag::RecAux);
-    store.count_rec(made.owner.address(), made.index, flags);
+    store.put(rec, Cell::Rec(made));
+    store.put(made.aux0.address(), Cell::RecAux);
+    store.put(made.aux1.address(), Cell::RecAux);
+    let counted = RealmUpdate::RecCounted {
+        mpidr: made.index,
+        flags,
+    };
+    store.change(made.owner.address(), CellChange::Realm(counted));
 }
 
 pub(crate) fn free_rec<S: CellStore>(store: &mut S, rec: u64, aux0: u64, aux1: u64)
@@ -68,21 +76,21 @@ pub(crate) fn free_rec<S: CellStore>(store: &mut S, rec: u64, aux0: u64, aux1: u
     ensures cells { S.cells_in store.new
         ≡ put (put (put (S.cells_in store.old) rec whole.Delegated) aux0 whole.Delegated) aux1 whole.Delegated }
 {
-    store.put_tag(rec, Tag::Delegated);
-    store.put_tag(aux0, Tag::Delegated);
-    store.put_tag(aux1, Tag::Delegated);
+    store.put(rec, Cell::Delegated);
+    store.put(aux0, Cell::Delegated);
+    store.put(aux1, Cell::Delegated);
 }
 
-// Gives a page's granule another tag, if a page goes with a change.
+/// Gives a page's granule another tag, if one is given it.
 #[inline(always)]
-fn change_tag<S: CellStore>(store: &mut S, change: Option<TagChange>)
+pub(crate) fn change_tag<S: CellStore>(store: &mut S, change: Option<TagChange>)
     requires granule { IfSome change (λ c. IsTrue (S.has (S.kept store.old) c.granule)) }
     requires plain { IfSome change (λ c. IsTrue (is_plain c.tag)) }
     ensures kept { S.kept store.new ≡ S.kept store.old }
     ensures cells { S.cells_in store.new ≡ cells_with_tag_change (S.cells_in store.old) change }
 {
     if let Some(TagChange { granule, tag }) = change {
-        store.put_tag(granule, tag);
+        store.put(granule, plain_cell(tag));
     }
 }
 
@@ -94,7 +102,7 @@ fn change_realm<S: CellStore>(store: &mut S, change: Option<RealmChange>)
     ensures cells { S.cells_in store.new ≡ cells_with_realm_change (S.cells_in store.old) change }
 {
     if let Some(RealmChange { rd, update }) = change {
-        store.update_realm(rd, update);
+        store.change(rd, CellChange::Realm(update));
     }
 }
 
@@ -106,7 +114,7 @@ fn change_rec<S: CellStore>(store: &mut S, change: Option<RecChange>)
     ensures cells { S.cells_in store.new ≡ cells_with_rec_change (S.cells_in store.old) change }
 {
     if let Some(RecChange { rec, update }) = change {
-        store.update_rec(rec, update);
+        store.change(rec, CellChange::Rec(update));
     }
 }
 
@@ -140,8 +148,9 @@ pub(crate) fn make_table<S: CellStore>(
         (whole.Rtt table) }
 {
     let entry = Entry::Table(rtt);
-    store.change_entries(above, &EntryChange::Replaced { number, entry });
-    store.put_table(rtt, table);
+    let linked = EntryChange::Replaced { number, entry };
+    store.change(above, CellChange::Entries(linked));
+    store.put(rtt, Cell::Rtt(table));
 }
 
 /// Changes the entries of a table, with a page, a realm and a REC.
@@ -176,7 +185,7 @@ pub(crate) fn change_entries_at<S: CellStore>(store: &mut S, at: Option<u64>, ch
     ensures cells { S.cells_in store.new ≡ cells_with_entries (S.cells_in store.old) (entries_changed change.now) at }
 {
     if let Some(granule) = at {
-        store.change_entries(granule, change);
+        store.change(granule, CellChange::Entries(*change));
     }
 }
 
@@ -193,5 +202,5 @@ pub(crate) fn free_table<S: CellStore>(
     ensures cells { S.cells_in store.new ≡ put (cells_with_entries (S.cells_in store.old) (entries_changed entry.now) at) rtt whole.Delegated }
 {
     change_entries_at(store, at, entry);
-    store.put_tag(rtt, Tag::Delegated);
+    store.put(rtt, Cell::Delegated);
 }

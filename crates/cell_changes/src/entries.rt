@@ -2,12 +2,13 @@
 
 ghost use Rattle.std.specs.Prelude.{◌≡◌, IsTrue};
 ghost use Rattle.shape_laws.specs.Whole.{entries_changed};
-ghost use Rattle.cell_changes.specs.Changes.{fits_entries};
+ghost use Rattle.cell_changes.specs.OneCell.{fits_entries};
 
 use rmm_spec::EntryChange;
 use rtt_table::Table;
 
 /// Changes the entries of a table.
+#[inline(always)]
 pub fn change_table(table: &mut Table, change: EntryChange)
     requires { IsTrue (fits_entries change) }
     ensures { table.new ≡ record table.old { entries = entries_changed change table.old.entries } }

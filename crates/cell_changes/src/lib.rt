@@ -5,17 +5,23 @@
 #![tactic(auto)]
 
 mod applying;
+mod cell_change;
 mod cell_store;
+mod cell_view;
 mod change_room;
 mod changing;
 mod entries;
 mod finding;
+mod plain;
 mod rooms;
 
 pub use applying::apply;
+pub use cell_change::{CellChange, change_cell, update_realm};
 pub use cell_store::CellStore;
+pub use cell_view::CellView;
 pub use change_room::Room;
 pub use changing::change_records;
 pub use entries::change_table;
 pub use finding::{TablePlace, number_changed, table_changed};
+pub use plain::plain_cell;
 pub use rooms::room_for;

@@ -1,5 +1,5 @@
 -- A held cell that is changed where it lies: its granule's cell is changed, and no other.
-use Rattle.command_core.proofs.Common.{◌==◌, ◌∙◌, ◌≡◌, List, None, Some, Undelegated, ap, granules_held, is_some, length, subst, sym, ℕ}
+use Rattle.command_core.proofs.Common.{◌==◌, ◌∙◌, ◌≡◌, List, None, Some, Undelegated, ap, granules_held, is_some, length, refl, subst, sym, ℕ}
 use Rattle.std.proofs.Common.{Option, get_or, position}
 use Rattle.std.specs.Prelude.{IsTrue, slice_set, unwrap_or}
 use Rattle.std.proofs.lemmas.List.{length-set}
@@ -9,6 +9,9 @@ use Rattle.rmm_spec.specs.Cell as whole
 use Rattle.rmm_spec.specs.Cell.{put}
 use Rattle.spec_lemmas.proofs.Maps.{put-same}
 use Rattle.shape_laws.specs.Whole.{changed_at}
+use Rattle.cell_changes.specs.declared.cell_change.CellChange.{CellChange}
+use Rattle.cell_changes.specs.declared.cell_change.CellChange.TheVariants.{Realm, Rec, Entries}
+use Rattle.cell_changes.specs.OneCell.{cell_changed}
 use Rattle.granule_cells.specs.declared.cell.Cell.{Cell}
 use Rattle.command_core.specs.declared.held_pairs.HeldPairs.{HeldPairs}
 use Rattle.command_core.specs.Pairs.{granules_held-paired, pair_cells, paired}
@@ -16,16 +19,23 @@ use Rattle.command_core.specs.Seen.{cell_in, cell_of, is_held, known_cell}
 use Rattle.command_core.proofs.Pairs.{cell_in-no_place, cell_in-place, paired-slice_set, position-first}
 use Rattle.command_core.proofs.Stored.{known-replaced}
 
+-- no change is of the host's cells
+host-kept : (change : CellChange) → cell_changed change Undelegated ≡ Undelegated
+host-kept (Realm update) = refl
+host-kept (Rec update) = refl
+host-kept (Entries change) = refl
+
 module _ (s : HeldPairs) (pa granule : ℕ) (same : pa ≡ granule) where
   -- where none is held, nothing is changed
-  pub none-changed : (change : whole.Cell → whole.Cell) → change Undelegated ≡ Undelegated → position (λ x. x == pa) s.granules.items ≡ None
-      → known_cell (pair_cells s) ≡ changed_at (known_cell (pair_cells s)) granule change
+  pub none-changed : (change : CellChange) → position (λ x. x == pa) s.granules.items ≡ None
+      → known_cell (pair_cells s) ≡ changed_at (known_cell (pair_cells s)) granule (cell_changed change)
   unfolding pair_cells
-  none-changed change empty none =
+  none-changed change none =
       let known : ℕ → whole.Cell = known_cell (pair_cells s) in
       let at : known pa ≡ Undelegated =
       ap (λ (o : Option whole.Cell). unwrap_or o Undelegated) (cell_in-no_place s.granules.items s.cells.items pa s.same_count none) in
-      subst (λ g. known ≡ changed_at known g change) same (sym (put-same known pa (change (known pa)) (at ∙ sym (ap change at ∙ empty))))
+      subst (λ g. known ≡ changed_at known g (cell_changed change)) same
+      (sym (put-same known pa (cell_changed change (known pa)) (at ∙ sym (ap (cell_changed change) at ∙ host-kept change))))
 
   module _ (i : ℕ) (at : position (λ x. x == pa) s.granules.items ≡ Some i) (now : List Cell) (is_now : now ≡ s.cells.items) (old new : Cell) where
     -- the granules stay
@@ -52,9 +62,9 @@ module _ (s : HeldPairs) (pa granule : ℕ) (same : pa ≡ granule) where
     place-known found = subst (λ g. known_cell (pair_cells s) g ≡ cell_of (get_or now i old)) same (known-there found)
 
     -- and its change is the granule's
-    pub place-changed : old ≡ get_or now i old → (change : whole.Cell → whole.Cell) → cell_of new ≡ change (cell_of (get_or now i old))
+    pub place-changed : old ≡ get_or now i old → (change : CellChange) → cell_of new ≡ cell_changed change (cell_of (get_or now i old))
         → known_cell (paired s.granules.items (with_items s.cells (slice_set now i new)).items)
-        ≡ changed_at (known_cell (pair_cells s)) granule change
+        ≡ changed_at (known_cell (pair_cells s)) granule (cell_changed change)
     unfolding pair_cells
     place-changed found change made =
         let known : ℕ → whole.Cell = known_cell (pair_cells s) in
@@ -64,5 +74,5 @@ module _ (s : HeldPairs) (pa granule : ℕ) (same : pa ≡ granule) where
         (items-with_items s.cells (slice_set now i new) few ∙ ap (λ (cells : List Cell). slice_set cells i new) is_now)
         ∙ (ap known_cell (paired-slice_set s.granules.items s.cells.items pa i new s.same_count (position-first s.granules.items pa i at) s.distinct)
         ∙ (known-replaced (pair_cells s) pa (cell_of new) held
-        ∙ (ap (put known pa) (made ∙ ap change (sym (known-there found)))
-        ∙ ap (λ g. changed_at known g change) same)))
+        ∙ (ap (put known pa) (made ∙ ap (cell_changed change) (sym (known-there found)))
+        ∙ ap (λ g. changed_at known g (cell_changed change)) same)))

@@ -32,7 +32,10 @@ use Rattle.rtt_table.specs.Shaped.{IsShaped}
 use Rattle.shape_laws.specs.Whole.{copied_table, width_in}
 use Rattle.shape_laws.proofs.Cells.{cell-table}
 use Rattle.shape_laws.proofs.Finds.{table_granule-holds}
-use Rattle.cell_changes.specs.Changes.{CanPutAll, CanUpdate, FitsCells, TakesIndex, fits_entries, is_plain, page_put, table_found}
+use Rattle.cell_changes.specs.declared.cell_change.CellChange.TheVariants.{Realm}
+use Rattle.rmm_spec.specs.declared.change.RealmUpdate.TheVariants.{RecCounted}
+use Rattle.cell_changes.specs.Changes.{CanPutAll, CanUpdate, FitsCells, fits_entries, is_plain, page_put, table_found}
+use Rattle.cell_changes.specs.OneCell.{FitsCell}
 use Rattle.cell_changes.specs.PlaceLaws.{shaped-below, shaped-whole}
 use Rattle.spec_machine.specs.Whole.{count_of}
 use Rattle.spec_machine.proofs.Found.{sound_in}
@@ -124,7 +127,7 @@ realm-there g shaped rd has found is = is ∙ realm_there (state_in g) rd (sound
 
 -- the realm counts the REC that is made
 index-fits : (g : Granules) → IsShapedIn g → (rd rec mpidr flags aux0 aux1 : ℕ) → CanMakeRec (state_in g) rd rec mpidr flags aux0 aux1
-    → TakesIndex (cells_of g.list) rd mpidr
+    → FitsCell (cells_of g.list rd) (Realm (RecCounted mpidr flags))
 unfolding state_in flat_state
 index-fits g shaped rd rec mpidr flags aux0 aux1 can = λ realm is.
     let s = state_in g in

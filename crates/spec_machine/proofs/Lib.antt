@@ -22,3 +22,4 @@ pub mod KeptLists
 pub mod Memory
 pub mod Reached
 pub mod Machines
+pub mod LikeStates

@@ -1,5 +1,5 @@
 -- One cell that is read, or changed by what lies in it.
-use Rattle.spec_machine.proofs.Common.{◌==◌, ◌∙◌, ◌≡◌, Bool, CellList, HeldCells, RealmRecord, Some, ap, cells_of, eqb-true, false, if◌then◌else◌, none-some, place_in, put, refl, same_Some, sym, true, ℕ}
+use Rattle.spec_machine.proofs.Common.{◌≡◌, CellList, HeldCells, RealmRecord, Some, ap, cells_of, none-some, place_in, same_Some, sym, ℕ}
 use Rattle.rmm_spec.specs.State.{RecRecord}
 use Rattle.rmm_spec.specs.Cell as spec
 use Rattle.shape_laws.specs.Whole.{changed_at}
@@ -16,19 +16,6 @@ realm_cell _ r is = absurd (none-some r (sym is))
 pub rec_cell : (c : spec.Cell) (r : RecRecord) → Some r ≡ spec.rec_in c → c ≡ spec.Rec r
 rec_cell (spec.Rec other) r is = ap spec.Rec (sym (same_Some r other is))
 rec_cell _ r is = absurd (none-some r (sym is))
-
--- a cell that stays as it is
-pub put-same : (cells : ℕ → spec.Cell) (granule : ℕ) (c : spec.Cell) → c ≡ cells granule → cells ≡ put cells granule c
-put-same cells granule c is = λ i other. by other (other == granule) refl i
-  where
-    by : (other : ℕ) (b : Bool) → (other == granule) ≡ b → cells other ≡ (if b then c else cells other)
-    by other true here = ap cells (eqb-true other granule here) ∙ sym is
-    by other false apart = refl
-
--- nothing changes where the cell is the host's and the change leaves the host's cells
-pub outside-same : (list : CellList) (granule : ℕ) (change : spec.Cell → spec.Cell) → change spec.Undelegated ≡ spec.Undelegated
-    → cells_of list granule ≡ spec.Undelegated → cells_of list ≡ changed_at (cells_of list) granule change
-outside-same list granule change kept none = put-same (cells_of list) granule _ (ap change none ∙ kept ∙ sym none)
 
 -- the cell at a granule's place is what is kept of the granule
 pub place-cell : (list : CellList) (granule place : ℕ) → IsPlace list granule place → cell_at list.cells place ≡ cells_of list granule

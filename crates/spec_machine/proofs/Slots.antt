@@ -1,19 +1,16 @@
 -- Slots and the RECs beside them: the cells that they stand for, read and changed.
-use Rattle.spec_machine.proofs.Common.{◌*◌, ◌++◌, ◌<◌, ◌==◌, ◌∙◌, ◌∷◌, ◌≡◌, ◌≤◌, AreHoused, Bool, Entry, HeldCells, HousedRec, List, None, RealmRecord, Slot, TableRecord, [], ap, arith, cases_lt, cell_with_realm, eqb-true, false, inl, inr, length, map, none-some, refl, replicate, seen, slice_index_or, suc, sym, true, zero, ℕ}
+use Rattle.spec_machine.proofs.Common.{◌*◌, ◌++◌, ◌<◌, ◌==◌, ◌∙◌, ◌∷◌, ◌≡◌, ◌≤◌, AreHoused, Bool, HeldCells, HousedRec, List, None, RealmRecord, Slot, TableRecord, [], ap, arith, cases_lt, eqb-true, false, inl, inr, length, map, none-some, refl, replicate, seen, slice_index_or, suc, sym, true, zero, ℕ}
 use Rattle.std.proofs.Common.{◌≢◌, ◌⊎◌, slice_set}
 use Rattle.std.specs.List.{sum_by}
 use Rattle.std.proofs.lemmas.Bool.{eqb-false}
-use Rattle.std.proofs.lemmas.List.{get_or_default, get_or-map, get_or-set_other, get_or-set_same, get_or_append_left, length-append, length-map, length-set, map-append, map-set, set-get_or}
+use Rattle.std.proofs.lemmas.List.{get_or_default, get_or-map, get_or-set_other, get_or-set_same, get_or_append_left, length-append, length-map, length-set, map-append, map-set, set-get_or, set-set}
 use Rattle.std.proofs.lemmas.List.Folds.{sum_by-replicate}
 use Rattle.std.proofs.lemmas.List.Sums.{sum_by-append, sum_by-le, sum_by-set}
 use Rattle.std.proofs.Math.Seq.{get_or-append_seam}
-use Rattle.rmm_spec.specs.declared.change.RealmUpdate.{RealmUpdate}
-use Rattle.rmm_spec.specs.declared.change.RecUpdate.{RecUpdate}
 use Rattle.rmm_spec.specs.Cell as spec
 use Rattle.rmm_spec.specs.State.{RecRecord}
-use Rattle.shape_laws.specs.Whole.{cell_with_entries, cell_with_rec}
 use Rattle.spec_machine.specs.declared.slot.Slot.TheVariants.{Undelegated, Rd, Rec, Rtt}
-use Rattle.spec_machine.specs.Held.{cell_at, cells_held, changed_in, held_in, housed_at, nowhere, number_at, number_of, one_of, recs_in, with_cell, AreKept, IsVacated}
+use Rattle.spec_machine.specs.Held.{cell_at, cells_held, changed_in, held_in, housed_at, nowhere, number_at, number_of, one_of, recs_in, with_cell, AreKept}
 use Rattle.spec_machine.proofs.Kept.{read-more}
 
 -- ---- one slot
@@ -55,22 +52,6 @@ not_rec recs _ none = refl
 pub not_table : (recs : List HousedRec) (s : Slot) → ((t : TableRecord) → s ≡ Rtt t → ⊥) → spec.table_in (seen recs s) ≡ None
 not_table recs (Rtt t) none = absurd (none t refl)
 not_table recs _ none = refl
-
--- and no change of that kind changes it
-pub not_realm-same : (recs : List HousedRec) (s : Slot) (update : RealmUpdate) → ((r : RealmRecord) → s ≡ Rd r → ⊥)
-    → cell_with_realm update (seen recs s) ≡ seen recs s
-not_realm-same recs (Rd r) update none = absurd (none r refl)
-not_realm-same recs _ update none = refl
-
-pub not_rec-same : (recs : List HousedRec) (s : Slot) (update : RecUpdate) → ((number : ℕ) → s ≡ Rec number → ⊥)
-    → cell_with_rec update (seen recs s) ≡ seen recs s
-not_rec-same recs (Rec n) update none = absurd (none n refl)
-not_rec-same recs _ update none = refl
-
-pub not_table-same : (recs : List HousedRec) (s : Slot) (change : List Entry → List Entry) → ((t : TableRecord) → s ≡ Rtt t → ⊥)
-    → cell_with_entries change (seen recs s) ≡ seen recs s
-not_table-same recs (Rtt t) change none = absurd (none t refl)
-not_table-same recs _ change none = refl
 
 one_of-le : (n : ℕ) → one_of n ≤ 1
 one_of-le zero = omega arith
@@ -124,7 +105,7 @@ slot-cell {slots = slots} {recs = recs} {place = place} o read is_read =
     ∙ ap (λ (h : HeldCells). cell_at h place) o.is
 
 -- and has its number
-slot-number : (slots : List Slot) (place : ℕ) (read : Slot)
+pub slot-number : (slots : List Slot) (place : ℕ) (read : Slot)
     → place < length slots → read ≡ slice_index_or slots place read → number_of read ≡ number_at slots place
 slot-number [] place read within is = absurd (omega (arith, within))
 slot-number (s ∷ slots) zero read within is = ap number_of is
@@ -177,16 +158,6 @@ unfolding cells_held
 held-set {slots = slots} {recs = recs} {room = room} {place = place} {held = held} o read s change is_read after =
     let to : seen recs s ≡ change (cell_at held place) = after ∙ ap change (slot-cell o read is_read) in
     (λ i. record { items = map-set (seen recs) slots place s i; room = room }) ∙ (λ i. with_cell (o.is i) place (to i))
-
--- a change that leaves the cell changes nothing
-pub held-same : {slots : List Slot} {recs : List HousedRec} {room rec_room place : ℕ} {held : HeldCells}
-    → IsOpened slots recs room rec_room place held
-    → (read : Slot) (change : spec.Cell → spec.Cell) → read ≡ slice_index_or slots place read → change (seen recs read) ≡ seen recs read
-    → held ≡ changed_in held place change
-held-same {place = place} {held = held} o read change is_read same =
-    let at = slot-cell o read is_read in
-    let kept : cell_at held place ≡ change (cell_at held place) = sym at ∙ (sym same ∙ ap change at) in
-    λ i. record { items = (sym (set-get_or held.items place spec.Undelegated) ∙ ap (slice_set held.items place) kept) i; room = held.room }
 
 -- ---- further slots
 
@@ -300,64 +271,39 @@ module _ (slots : List Slot) (recs : List HousedRec) (place number : ℕ) (rec :
           ]
 
   -- and it lies at the place
-  pub held-made : (room : ℕ) (old held : HeldCells) → held_in slots recs room ≡ held → IsVacated old held place
-      → held_in (slice_set slots place (Rec number)) (recs ++ rec ∷ []) room ≡ with_cell old place (spec.Rec rec.rec)
+  pub held-made : (room : ℕ) (held : HeldCells) → held_in slots recs room ≡ held
+      → held_in (slice_set slots place (Rec number)) (recs ++ rec ∷ []) room ≡ with_cell held place (spec.Rec rec.rec)
   unfolding cells_held
-  held-made room old held is vacated =
+  held-made room held is =
       let new = recs ++ rec ∷ [] in
       let cell : seen new (Rec number) ≡ spec.Rec rec.rec = ap (λ (r : HousedRec). spec.Rec r.rec) (made-last number next) in
       let items = map-set (seen new) slots place (Rec number)
       ∙ (ap (slice_set (map (seen new) slots) place) cell
-      ∙ (put-kept slots recs new place (spec.Rec rec.rec) (λ other n apart at. made-same n (are.numbered other n at).0)
-      ∙ (ap (λ (h : HeldCells). slice_set h.items place (spec.Rec rec.rec)) is ∙ vacated.rest (spec.Rec rec.rec)))) in
-      let rooms = ap (λ (h : HeldCells). h.room) is ∙ vacated.room in
-      λ i. record { items = items i; room = rooms i }
+      ∙ put-kept slots recs new place (spec.Rec rec.rec) (λ other n apart at. made-same n (are.numbered other n at).0)) in
+      (λ i. record { items = items i; room = room }) ∙ (λ i. with_cell (is i) place (spec.Rec rec.rec))
 
 -- ---- places without a REC
 
--- a slot without a number stands for no REC
-pub plain-cell : (recs : List HousedRec) (s : Slot) (rec : RecRecord) → number_of s ≡ 0 → seen recs s ≡ spec.Rec rec → ⊥
-plain-cell recs (Rec n) rec plain is = absurd (omega (arith, plain))
-plain-cell recs _ rec plain is = none-some rec (ap spec.rec_in is)
+-- the cells are as many once one is taken out, its place is the host's, and whatever is put in then is put in as it was before
+pub vacated-length : (held : HeldCells) (place : ℕ) → length (with_cell held place spec.Undelegated).items ≡ length held.items
+vacated-length held place = length-set held.items place spec.Undelegated
 
-pub vacated-same : {slots : List Slot} {recs : List HousedRec} {room rec_room place : ℕ} {held : HeldCells}
-    → IsOpened slots recs room rec_room place held
-    → (read : Slot) → read ≡ slice_index_or slots place read → ((number : ℕ) → read ≡ Rec number → ⊥) → IsVacated held held place
-vacated-same {recs = recs} o read is_read none = record {
-  room = refl;
-  size = refl;
-  rest = λ cell. refl;
-  none = λ rec at. plain-cell recs read rec (not_rec-number read none) (slot-cell o read is_read ∙ at);
-}
+pub vacated-cell : (held : HeldCells) (place : ℕ) → place < length held.items
+    → cell_at (with_cell held place spec.Undelegated) place ≡ spec.Undelegated
+vacated-cell held place within = get_or-set_same held.items place spec.Undelegated spec.Undelegated within
 
--- so the slot of a place without a REC has no number
-pub vacated-number : {slots : List Slot} {recs : List HousedRec} {room rec_room place : ℕ} {held : HeldCells}
+pub put-vacated : (held : HeldCells) (place : ℕ) (cell : spec.Cell)
+    → with_cell (with_cell held place spec.Undelegated) place cell ≡ with_cell held place cell
+put-vacated held place cell = λ i. record { items = set-set held.items place spec.Undelegated cell i; room = held.room }
+
+-- the slot of a place without a REC has no number
+pub no_rec-number : {slots : List Slot} {recs : List HousedRec} {room rec_room place : ℕ} {held : HeldCells}
     → IsOpened slots recs room rec_room place held
-    → (old : HeldCells) → IsVacated old held place → number_at slots place ≡ 0
-vacated-number {slots = slots} {recs = recs} {place = place} o old vacated =
+    → spec.rec_in (cell_at held place) ≡ None → number_at slots place ≡ 0
+no_rec-number {slots = slots} {recs = recs} {place = place} o none =
     let read = slice_index_or slots place Undelegated in
     let at = slot-cell o read (get_or_default slots place Undelegated read (in_slots o)) in
-    plain-number recs read (λ rec here. vacated.none rec (sym at ∙ here))
-
--- what is put over it, without a number, leaves the RECs
-pub kept-put : {slots : List Slot} {recs : List HousedRec} {room rec_room place : ℕ} {held : HeldCells} → IsOpened slots recs room rec_room place held
-    → (old : HeldCells) (s : Slot) → IsVacated old held place → number_of s ≡ 0 → AreKept (slice_set slots place s) recs room rec_room
-kept-put {slots = slots} {recs = recs} {place = place} o old s vacated plain = record {
-  housed = housed-set slots recs place s o.are.housed (in_slots o) (plain ∙ sym (vacated-number o old vacated));
-  rooms = o.are.rooms;
-}
-
--- what is no REC is put in
-pub held-put : {slots : List Slot} {recs : List HousedRec} {room rec_room place : ℕ} {held : HeldCells} → IsOpened slots recs room rec_room place held
-    → (old : HeldCells) (s : Slot) → IsVacated old held place → number_of s ≡ 0
-    → held_in (slice_set slots place s) recs room ≡ with_cell old place (seen [] s)
-unfolding cells_held
-held-put {slots = slots} {recs = recs} {room = room} {place = place} o old s vacated plain =
-    let cell : seen recs s ≡ seen [] s = seen-plain [] recs s plain in
-    let items = map-set (seen recs) slots place s ∙ (ap (slice_set (map (seen recs) slots) place) cell
-    ∙ (ap (λ (h : HeldCells). slice_set h.items place (seen [] s)) o.is ∙ vacated.rest (seen [] s))) in
-    let rooms = ap (λ (h : HeldCells). h.room) o.is ∙ vacated.room in
-    λ i. record { items = items i; room = rooms i }
+    plain-number recs read (λ rec here. none-some rec (sym none ∙ ap spec.rec_in (sym at ∙ here)))
 
 -- ---- a REC that is changed where it stands
 
@@ -547,19 +493,13 @@ module _ (slots : List Slot) (recs new : List HousedRec) (place number last home
           ∙ seen-same recs new (slice_index_or slots other Undelegated)
           (λ n has. let one = stays other n apart elsewhere has in stay n one.0 one.1)
 
-  pub vacated-removed : (room : ℕ) (held : HeldCells) → held_in slots recs room ≡ held → IsVacated held (held_in left new room) place
+  pub held-removed : (room : ℕ) (held : HeldCells) → held_in slots recs room ≡ held → held_in left new room ≡ with_cell held place spec.Undelegated
   unfolding cells_held
-  vacated-removed room held is = record {
-    room = ap (λ (h : HeldCells). h.room) is;
-    size = length-held left new ∙ (length-set first place Undelegated ∙ (length-set slots home (Rec number)
-        ∙ (sym (length-held slots recs) ∙ ap (λ (h : HeldCells). length h.items) is)));
-    rest = λ cell.
-        put-agree slots left recs new place cell (length-set first place Undelegated ∙ length-set slots home (Rec number)) others-stay
-        ∙ ap (λ (h : HeldCells). slice_set h.items place cell) is;
-    none = λ rec here. none-some rec (ap spec.rec_in (sym at_place ∙ here));
-  }
-    where
-      at_place : cell_at (held_in left new room) place ≡ spec.Undelegated
-      at_place =
-          get_or-map (seen new) left place Undelegated spec.Undelegated (omega (arith, within-first, length-set first place Undelegated))
-          ∙ ap (seen new) (get_or-set_same first place Undelegated Undelegated within-first)
+  held-removed room held is =
+      let at_place : cell_at (held_in left new room) place ≡ spec.Undelegated =
+      get_or-map (seen new) left place Undelegated spec.Undelegated (omega (arith, within-first, length-set first place Undelegated))
+      ∙ ap (seen new) (get_or-set_same first place Undelegated Undelegated within-first) in
+      let items = sym (set-get_or (map (seen new) left) place spec.Undelegated)
+      ∙ (ap (slice_set (map (seen new) left) place) at_place
+      ∙ put-agree slots left recs new place spec.Undelegated (length-set first place Undelegated ∙ length-set slots home (Rec number)) others-stay) in
+      (λ i. record { items = items i; room = room }) ∙ (λ i. with_cell (is i) place spec.Undelegated)

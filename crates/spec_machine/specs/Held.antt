@@ -3,7 +3,6 @@ use Rattle.std.specs.Prelude.{◌≡◌, ℕ, zero, suc, ◌<◌, ◌≤◌, Lis
 use Rattle.std.specs.List.{sum_by}
 use Rattle.rmm_spec.specs.Cell as spec
 use Rattle.rmm_spec.specs.Lookup.{no_rec}
-use Rattle.rmm_spec.specs.State.{RecRecord}
 use Rattle.spec_machine.specs.declared.slot.HousedRec.{HousedRec}
 use Rattle.spec_machine.specs.declared.slot.Slot.{Slot}
 use Rattle.spec_machine.specs.declared.slot.Slot.TheVariants.{Undelegated, Delegated, Rd, Rec, RecAux, Data, Rtt}
@@ -24,13 +23,6 @@ with_cell held place cell = record { items = slice_set held.items place cell; ro
 -- the cell at a place is changed
 abbrev pub changed_in : HeldCells → ℕ → (spec.Cell → spec.Cell) → HeldCells
 changed_in held place change = with_cell held place (change (cell_at held place))
-
--- A place has no REC any more. Whatever is put in it then is put in as it was before.
-pub record IsVacated (old new : HeldCells) (place : ℕ) : Type 0 where
-  pub room : new.room ≡ old.room
-  pub size : length new.items ≡ length old.items
-  pub rest : (cell : spec.Cell) → slice_set new.items place cell ≡ slice_set old.items place cell
-  pub none : (rec : RecRecord) → cell_at new place ≡ spec.Rec rec → ⊥
 
 -- ---- slots
 

@@ -11,3 +11,4 @@ pub mod Kept
 pub mod Memory
 pub mod Lending
 pub mod Offers
+pub mod Unmeasured

@@ -3,8 +3,9 @@
 ghost use Rattle.std.specs.Prelude.{◌≡◌, ◌≤◌, length};
 ghost use Rattle.granule_places.specs.Placed.{count_in, room_in};
 
-use crate::slot::Slot;
 use crate::slot_list::SlotList;
+use cell_changes::{CellChange, CellStore, CellView};
+use granule_cells::Cell;
 use granule_places::GranulePlaces;
 use memory_map::{Config, GRANULE_BYTES, Pa};
 use realm_desc::{Realm, Rec};
@@ -30,7 +31,6 @@ impl CellList {
     ghost use Rattle.rmm_spec.specs.Cell as spec;
     ghost use Rattle.rmm_spec.specs.Cell.{put, tag_of, realms_of, recs_of, tables_of};
     ghost use Rattle.rmm_spec.specs.Lookup.{is_granule};
-    ghost use Rattle.spec_machine.specs.Held.{number_of, seen};
     ghost use Rattle.spec_machine.specs.Whole.{cells_of};
     ghost use Rattle.spec_machine.specs.Placed.{IsPlace};
     ghost use Rattle.granule_places.specs.Placed.{place_in};
@@ -204,18 +204,6 @@ impl CellList {
             None => None,
         }
     }
-
-    /// Puts what is no REC in the place of a granule's cell.
-    #[inline(always)]
-    pub(crate) fn put(&mut self, granule: u64, slot: Slot)
-        requires granule { IsTrue (is_granule self.old.config.granules granule) }
-        requires plain { number_of slot ≡ 0 }
-        ensures size { self.new.config ≡ self.old.config }
-        ensures cells { cells_of self.new ≡ put (cells_of self.old) granule (seen [] slot) }
-    {
-        let place = self.made_place(granule);
-        self.cells.put(place, slot);
-    }
 }
 
 impl Cells for CellList {
@@ -228,5 +216,41 @@ impl Cells for CellList {
 
     fn table(&self, pa: Pa) -> Option<&Table> {
         self.table_in(pa.address())
+    }
+}
+
+impl CellStore for CellList {
+    ghost use Rattle.rmm_spec.specs.HistoryText.{Config};
+    ghost use Rattle.rmm_spec.specs.Lookup.{is_granule};
+    ghost use Rattle.spec_machine.specs.Whole.{cells_of};
+
+    ghost cells_in = { cells_of };
+
+    ghost Kept = { Config };
+
+    ghost kept = { λ list. list.config };
+
+    ghost has = { λ config. is_granule config.granules };
+
+    #[inline(always)]
+    fn cell(&self, granule: u64) -> CellView<'_> {
+        match self.place(granule) {
+            Some(place) => self.cells.cell(place),
+            None => CellView::Undelegated,
+        }
+    }
+
+    #[inline(always)]
+    fn put(&mut self, granule: u64, cell: Cell) -> Cell {
+        let place = self.made_place(granule);
+        self.cells.put(place, cell)
+    }
+
+    #[inline(always)]
+    fn change(&mut self, granule: u64, change: CellChange) {
+        let Some(place) = self.place(granule) else {
+            return;
+        };
+        self.cells.change(place, change);
     }
 }

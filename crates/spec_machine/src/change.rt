@@ -2,7 +2,8 @@
 
 use crate::beside_changes::{change_beside, change_places};
 use crate::machine::Machine;
-use cell_changes::{CellStore, TablePlace, change_records, room_for, table_changed};
+use cell_changes::{CellStore, TablePlace, change_records, plain_cell, room_for, table_changed};
+use granule_cells::Cell;
 use rmm_spec::{Change, RealmChange, RecChange, Tag};
 use std::alloc::AllocError;
 
@@ -37,7 +38,11 @@ impl Machine {
         requires { CanRetag (state_of self.old) (record { granule = granule; tag = tag }) }
         ensures { state_of self.new ≡ changed (state_of self.old) (Retagged (record { granule = granule; tag = tag })) }
     {
-        self.granules.list.put_tag(granule, tag);
+        // nothing lies there, so that nothing is dropped
+        match self.granules.list.put(granule, plain_cell(tag)) {
+            Cell::Undelegated | Cell::Delegated => {}
+            _ => unreachable!(),
+        }
     }
 
     /// Replaces the records of a realm and of a REC.

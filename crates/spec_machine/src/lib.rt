@@ -16,15 +16,14 @@ mod lending;
 mod machine;
 mod near;
 mod places;
-mod put_cells;
 mod reaching;
 mod reply;
 mod same;
 mod searches;
 mod sight;
 mod slot;
-mod slot_changes;
 mod slot_list;
+mod unmeasured;
 mod walks;
 
 pub use granule_cells::{Cell, CpuPlace, Side};

@@ -1,12 +1,11 @@
 //! Whether a cell is the same as another.
 
-ghost use Rattle.std.specs.Prelude.{◌≡◌, ◌<◌, ℕ, length, IsTrue};
-ghost use Rattle.granule_cells.specs.Seen.{cell_of};
-ghost use Rattle.spec_machine.specs.declared.slot.Slot.TheVariants as kind;
-ghost use Rattle.spec_machine.specs.Held.{seen};
+ghost use Rattle.std.specs.Prelude.{◌≡◌, IsTrue};
+ghost use Rattle.cell_changes.specs.OneCell.{cell_seen};
+ghost use Rattle.spec_machine.specs.Unmeasured.{unmeasured_realm};
 
-use crate::slot::{HousedRec, Slot};
 use crate::slot_list::SlotList;
+use cell_changes::CellView;
 use granule_cells::Cell;
 use measure::Rem;
 use memory_map::Config;
@@ -46,38 +45,53 @@ impl SlotList {
         requires { place < length self.now.items }
         ensures { IsTrue result → cell_of cell.now ≡ cell_at self.now place }
     {
-        is_seen(cell, &self.slots[place], self.recs.as_slice())
+        same_cell(CellView::of(cell), self.cell(place))
     }
 }
 
-// Whether a cell is the one that a slot stands for.
-fn is_seen(cell: &Cell, slot: &Slot, recs: &[HousedRec]) -> bool
-    requires { (number : ℕ) → slot.now ≡ kind.Rec number → number < length recs.now }
-    ensures { IsTrue result → cell_of cell.now ≡ seen recs.now slot.now }
+/// Whether two cells are the same.
+pub(crate) fn same_cell(one: CellView<'_>, other: CellView<'_>) -> bool
+    ensures { IsTrue result → cell_seen one.entry ≡ cell_seen other.entry }
 {
-    match slot {
-        Slot::Undelegated => matches!(cell, Cell::Undelegated),
-        Slot::Delegated => matches!(cell, Cell::Delegated),
-        Slot::RecAux => matches!(cell, Cell::RecAux),
-        Slot::Data => matches!(cell, Cell::Data),
-        Slot::Rd(descriptor) => match cell {
-            Cell::Rd(other) => same_realm(other.realm(), descriptor.realm()),
+    match one {
+        CellView::Undelegated => matches!(other, CellView::Undelegated),
+        CellView::Delegated => matches!(other, CellView::Delegated),
+        CellView::RecAux => matches!(other, CellView::RecAux),
+        CellView::Data => matches!(other, CellView::Data),
+        CellView::Rd(realm) => match other {
+            CellView::Rd(second) => same_realm(realm, second),
             _ => false,
         },
-        Slot::Rec(number) => match cell {
-            Cell::Rec(other) => same_rec(other, &recs[*number].rec),
+        CellView::Rec(rec) => match other {
+            CellView::Rec(second) => same_rec(rec, second),
             _ => false,
         },
-        Slot::Rtt(table) => match cell {
-            Cell::Rtt(other) => same_table(other, table),
+        CellView::Rtt(table) => match other {
+            CellView::Rtt(second) => same_table(table, second),
             _ => false,
         },
     }
+}
+
+fn same_realm(one: &Realm, other: &Realm) -> bool
+    ensures { IsTrue result → one.now ≡ other.now }
+{
+    same_but_measurements(one, other) && have_same_measurements(one, other)
 }
 
 #[tactic(auto, unfolding(realm_desc::specs::View::realm_record))]
-fn same_realm(one: &Realm, other: &Realm) -> bool
-    ensures { IsTrue result → one.now ≡ other.now }
+fn have_same_measurements(one: &Realm, other: &Realm) -> bool
+    ensures rim { IsTrue result → one.now.rim ≡ other.now.rim }
+    ensures rems { IsTrue result → one.now.rems ≡ other.now.rems }
+{
+    same_measurement(one.rim.measurement(), other.rim.measurement())
+        && have_same_rems(&one.rems, &other.rems)
+}
+
+/// Whether all is the same but what was measured.
+#[tactic(auto, unfolding(realm_desc::specs::View::realm_record))]
+pub(crate) fn same_but_measurements(one: &Realm, other: &Realm) -> bool
+    ensures { IsTrue result → unmeasured_realm one.now ≡ unmeasured_realm other.now }
 {
     one.state == other.state
         && same_space(one.space, other.space)
@@ -85,8 +99,6 @@ fn same_realm(one: &Realm, other: &Realm) -> bool
         && same_algorithm(one.algorithm, other.algorithm)
         && one.root == other.root
         && one.next_index == other.next_index
-        && same_measurement(one.rim.measurement(), other.rim.measurement())
-        && have_same_rems(&one.rems, &other.rems)
 }
 
 fn have_same_rems(one: &[Rem], other: &[Rem]) -> bool

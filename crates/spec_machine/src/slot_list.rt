@@ -5,11 +5,14 @@ ghost use Rattle.rmm_spec.specs.Cell as spec;
 ghost use Rattle.spec_machine.specs.declared.slot.Slot.TheVariants.{Undelegated};
 
 use crate::slot::{HousedRec, Slot};
+use cell_changes::{CellChange, CellView};
+use granule_cells::Cell;
 use realm_desc::{Realm, Rec};
 use rmm_spec::Tag;
 use rtt_table::Table;
 use std::alloc::{AllocError, Global};
 use std::marker::Model;
+use std::mem::replace;
 
 /// How many granules get their cells together.
 const BLOCK: usize = 512;
@@ -34,9 +37,11 @@ impl Model for SlotList {
 }
 
 impl SlotList {
-    ghost use Rattle.std.specs.Prelude.{◌≡◌, ◌+◌, ◌<◌, ◌≤◌, ◌++◌, length, replicate, option_copied, IfOk};
+    ghost use Rattle.std.specs.Prelude.{◌≡◌, ◌+◌, ◌<◌, ◌≤◌, ◌++◌, length, replicate, is_some, option_copied, IfOk, IsTrue, None};
     ghost use Rattle.rmm_spec.specs.Cell.{rec_in, realm_in, table_in, tag_of};
-    ghost use Rattle.spec_machine.specs.Held.{cell_at, number_of, seen, with_cell, IsVacated};
+    ghost use Rattle.granule_cells.specs.Seen.{cell_of};
+    ghost use Rattle.cell_changes.specs.OneCell.{cell_changed, cell_seen, FitsCell};
+    ghost use Rattle.spec_machine.specs.Held.{cell_at, changed_in, with_cell};
 
     /// So many places of granules that are all the host's, and room for further ones.
     pub(crate) fn new(alloc: Global, count: usize, room: usize) -> Result<SlotList, AllocError>
@@ -112,48 +117,56 @@ impl SlotList {
         }
     }
 
-    /// Puts in the place what is no REC.
+    /// What lies in the place.
     #[inline(always)]
-    pub(crate) fn put(&mut self, place: usize, slot: Slot)
-        requires within { place < length self.old.items }
-        requires plain { number_of slot ≡ 0 }
-        ensures { self.new ≡ with_cell self.old place (seen [] slot) }
+    pub(crate) fn cell(&self, place: usize) -> CellView<'_>
+        requires { place < length self.now.items }
+        ensures { cell_seen result ≡ cell_at self.now place }
     {
-        self.vacate(place);
-        self.slots[place] = slot;
+        self.slots[place].shown(self.recs.as_slice())
     }
 
-    /// Puts a REC in the place. There is room for it, since not every slot has one yet.
-    pub(crate) fn put_rec(&mut self, place: usize, rec: Rec)
-        requires { place < length self.old.items }
-        ensures { self.new ≡ with_cell self.old place (spec.Rec rec) }
-    {
-        self.vacate(place);
-        let number = self.recs.len();
-        self.recs.push_reserved(HousedRec { rec, home: place });
-        self.slots[place] = Slot::Rec(number);
-    }
-
-    // The place has no REC any more.
+    /// Puts a cell in the place of the one that is there, and returns that.
     #[inline(always)]
-    fn vacate(&mut self, place: usize)
+    pub(crate) fn put(&mut self, place: usize, cell: Cell) -> Cell
         requires { place < length self.old.items }
-        ensures { IsVacated self.old self.new place }
+        ensures put { self.new ≡ with_cell self.old place (cell_of cell) }
+        ensures given { cell_of result ≡ cell_at self.old place }
     {
-        if let Slot::Rec(_) = &self.slots[place] {
+        if let Some(rec) = self.rec(place) {
+            let rec = *rec;
             self.remove_rec(place);
+            self.fill(place, cell);
+            return Cell::Rec(rec);
         }
+        self.fill(place, cell)
     }
 
-    // The same, where it has one: the last REC gets the number that is free then.
+    /// Changes the cell that is there, where it lies. One that isn't what the change means stays.
+    #[inline(always)]
+    pub(crate) fn change(&mut self, place: usize, change: CellChange)
+        requires within { place < length self.old.items }
+        requires fits { FitsCell (cell_at self.old place) change }
+        ensures { self.new ≡ changed_in self.old place (cell_changed change) }
+    {
+        let Slot::Rec(number) = &self.slots[place] else {
+            self.slots[place].change(change);
+            return;
+        };
+        let number = *number;
+        self.recs[number].change(change);
+    }
+
+    // Takes a REC out of its place. The last one gets the number that is free then.
     #[cold]
     #[inline(never)]
     fn remove_rec(&mut self, place: usize)
-        requires { place < length self.old.items }
-        ensures { IsVacated self.old self.new place }
+        requires within { place < length self.old.items }
+        requires rec { IsTrue (is_some (rec_in (cell_at self.old place))) }
+        ensures { self.new ≡ with_cell self.old place spec.Undelegated }
     {
         let Slot::Rec(number) = &self.slots[place] else {
-            return;
+            unreachable!()
         };
         let number = *number;
         let last = self.recs.len() - 1;
@@ -161,6 +174,33 @@ impl SlotList {
         self.slots[home] = Slot::Rec(number);
         self.slots[place] = Slot::Undelegated;
         let _gone = self.recs.swap_remove(number);
+    }
+
+    // Puts a cell in the place of one that is no REC's, and returns that.
+    #[inline(always)]
+    fn fill(&mut self, place: usize, cell: Cell) -> Cell
+        requires within { place < length self.old.items }
+        requires plain { rec_in (cell_at self.old place) ≡ None }
+        ensures put { self.new ≡ with_cell self.old place (cell_of cell) }
+        ensures given { cell_of result ≡ cell_at self.old place }
+    {
+        let slot = match Slot::of(cell) {
+            Ok(slot) => slot,
+            Err(rec) => return self.put_rec(place, rec),
+        };
+        replace(&mut self.slots[place], slot).into_cell()
+    }
+
+    // The same of a REC. There is room for it, since not every slot has one yet.
+    fn put_rec(&mut self, place: usize, rec: Rec) -> Cell
+        requires within { place < length self.old.items }
+        requires plain { rec_in (cell_at self.old place) ≡ None }
+        ensures put { self.new ≡ with_cell self.old place (spec.Rec rec) }
+        ensures given { cell_of result ≡ cell_at self.old place }
+    {
+        let number = self.recs.len();
+        self.recs.push_reserved(HousedRec { rec, home: place });
+        replace(&mut self.slots[place], Slot::Rec(number)).into_cell()
     }
 }
 

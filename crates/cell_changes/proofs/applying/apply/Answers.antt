@@ -20,7 +20,8 @@ returns-in-Some-clause-cells g c =
     let room = subst (λ change. IsRoomFor change c.args.room) t.is c.requires.room in
     let entries = subst (λ (o : Option (List Entry)). IsSomeAnd o (λ (x : List Entry). x ≡ replicate 512 t.entry)) c.into_table.ensures room in
     let of_width : ℕ → Place = λ width. record { rd = t.rd; level = t.level; base = t.number * table_size t.level; width = width } in
-    let place : c.place_of-place.result ≡ of_width (width_in (cells above)) = c.place_of-place.ensures.place ∙ ap of_width c.width_at.ensures in
+    let place : c.place_of-place.result ≡ of_width (width_in (cells above)) =
+    c.place_of-place.ensures.place ∙ ap of_width (c.width_of.ensures ∙ ap width_in c.cell.ensures) in
     let made : c.at.result ≡ copied_table t.rd t.level t.number (width_in (cells above)) t.entry =
     c.at.ensures ∙ (λ i. record { place = place i; entries = entries i }) in
     let linked = changed_at cells above (cell_with_entries (λ entries. slice_set entries (t.number % 512) (Table t.rtt))) in

@@ -1,21 +1,28 @@
-use Rattle.std.proofs.Common.{◌<◌, length, arith}
-use Rattle.spec_machine.proofs.Slots.{held-put, in_slots, kept-put, IsOpened}
+use Rattle.std.proofs.Common.{◌∙◌, ap, arith, length, sym}
+use Rattle.std.specs.Prelude.{is_some}
+use Rattle.rmm_spec.specs.Cell as spec
+use Rattle.granule_cells.specs.Seen.{cell_of}
+use Rattle.spec_machine.specs.Held.{HeldCells, cell_at, with_cell}
+use Rattle.spec_machine.proofs.OneChanged.{rec_cell}
+use Rattle.spec_machine.proofs.Slots.{put-vacated, vacated-cell, vacated-length}
 use Rattle.spec_machine.proofs.slot_list.SlotList.put.Goals as goal
 
-pub index_mut-requires : goal.index_mut-requires
-index_mut-requires c =
-    let within : c.args.place < length c.vacate.new.self.items = omega (arith, c.vacate.ensures.size, c.requires.within) in
-    let o : IsOpened _ _ _ _ _ _ = record { are = c.self.invariant; is = c.self.view_is; within = within } in
-    omega (arith, in_slots o, c.self.inside.slots.ok.0)
+pub remove_rec-requires-clause-rec : goal.remove_rec-requires-clause-rec
+remove_rec-requires-clause-rec c = sym (ap is_some c.in-Some.ensures)
 
-pub invariant_of-self : goal.invariant_of-self
-invariant_of-self c =
-    let within : c.args.place < length c.vacate.new.self.items = omega (arith, c.vacate.ensures.size, c.requires.within) in
-    let o : IsOpened _ _ _ _ _ _ = record { are = c.self.invariant; is = c.self.view_is; within = within } in
-    kept-put o c.args.self.now c.args.slot c.vacate.ensures c.requires.plain
+pub fill-requires : goal.fill-requires
+fill-requires c =
+    let held = c.args.self.now in
+    record {
+      within = omega (arith, c.requires, vacated-length held c.args.place, ap (λ (h : HeldCells). length h.items) c.remove_rec.ensures);
+      plain = ap (λ (h : HeldCells). spec.rec_in (cell_at h c.args.place)) c.remove_rec.ensures
+          ∙ ap spec.rec_in (vacated-cell held c.args.place c.requires);
+    }
 
-pub returns : goal.returns
-returns c =
-    let within : c.args.place < length c.vacate.new.self.items = omega (arith, c.vacate.ensures.size, c.requires.within) in
-    let o : IsOpened _ _ _ _ _ _ = record { are = c.self.invariant; is = c.self.view_is; within = within } in
-    held-put o c.args.self.now c.args.slot c.vacate.ensures c.requires.plain
+pub returns-in-Some-clause-put : goal.returns-in-Some-clause-put
+returns-in-Some-clause-put c =
+    c.fill.ensures.put ∙ ap (λ (h : HeldCells). with_cell h c.args.place (cell_of c.args.cell)) c.remove_rec.ensures
+    ∙ put-vacated c.args.self.now c.args.place (cell_of c.args.cell)
+
+pub returns-in-Some-clause-given : goal.returns-in-Some-clause-given
+returns-in-Some-clause-given c = sym (rec_cell (cell_at c.args.self.now c.args.place) c.in-Some.rec.now c.in-Some.ensures)
