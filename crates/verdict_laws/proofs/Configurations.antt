@@ -1,12 +1,12 @@
--- Two orders of the same calls that lead to one state are continued alike.
+-- Two orders of the same calls are continued alike where runs go on alike from their states, as they do where both lead to one.
 use Rattle.std.proofs.Common.{◌≡◌, ℕ, ◌+◌, inl, inr, List, ◌++◌, length, Some, subst, arith}
 use Rattle.std.specs.List.{slice_get}
 use Rattle.std.proofs.lemmas.Option.{slice_get_within}
 use Rattle.rmm_spec.specs.declared.line.Line.{Line}
 use Rattle.rmm_spec.specs.HistoryText.{History, IsHistory}
 use Rattle.rmm_spec.specs.State.{State, opening}
-use Rattle.rmm_spec.specs.Run.{IsRun}
-use Rattle.rmm_spec.specs.Linearization.{IsFinished, IsNamed, IsLinearization, NamesCall, IsOfItsKind, cpu_named, number_named}
+use Rattle.rmm_spec.specs.Run.{JournalEntry, IsRun}
+use Rattle.rmm_spec.specs.Linearization.{IsFinished, IsNamed, IsLinearization, AreEntriesOf, NamesCall, IsOfItsKind, cpu_named, number_named}
 use Rattle.rmm_laws.proofs.RunLaws.{run-append}
 use Rattle.checker.proofs.Judging.{HasOnePlaces-from_history}
 use Rattle.verdict_laws.specs.Order.{count_of, Reaches, LeadsNowhere}
@@ -14,8 +14,15 @@ use Rattle.verdict_laws.proofs.Moves.{Each, Pairs, Each-from_places, Pairs-from_
 use Rattle.verdict_laws.proofs.Settled.{Apart, behind, in_either, claimed-append, same_state, split_run}
 use Rattle.lemmas.proofs.Elements.{slice_get-append}
 
-module _ (history : History) (is_history : IsHistory history) (one other : List Line) (state : State) (reached : Reaches history one state)
-    (also : Reaches history other state) (counts : (cpu : ℕ) → count_of cpu one ≡ count_of cpu other) where
+-- the runs of what lines claim go on from the one state wherever they do from the other
+abbrev pub GoOnAlike : History → State → State → Type 0
+GoOnAlike history state second =
+    (lines : List Line) (entries : List JournalEntry) (last : State) → AreEntriesOf history.events lines entries → IsRun second entries last
+    → (end : State) × IsRun state entries end
+
+module _ (history : History) (is_history : IsHistory history) (one other : List Line) (state second : State) (reached : Reaches history one state)
+    (also : Reaches history other second) (counts : (cpu : ℕ) → count_of cpu one ≡ count_of cpu other)
+    (goes_on : GoOnAlike history state second) where
   -- the one order names what the other does
   named_alike : (cpu number : ℕ) → IsNamed one cpu number → IsNamed other cpu number
   named_alike cpu number named =
@@ -76,9 +83,10 @@ module _ (history : History) (is_history : IsHistory history) (one other : List 
       let pairs = apart more valid in
       let parts = split_run history.events other more valid.entries (opening history.config) valid.last valid.run.claimed valid.run.run in
       let places = HasOnePlaces-from_history history is_history in
-      let at : parts.middle ≡ state =
-      same_state history.events places other parts.first also.passes.entries (opening history.config) parts.middle state parts.claimed parts.run
+      let at : parts.middle ≡ second =
+      same_state history.events places other parts.first also.passes.entries (opening history.config) parts.middle second parts.claimed parts.run
       also.passes.run.claimed also.passes.run.run in
+      let on = goes_on more parts.rest valid.last parts.later (subst (λ (s : State). IsRun s parts.rest valid.last) at parts.further) in
       record {
         order = record {
           names = record {
@@ -90,13 +98,20 @@ module _ (history : History) (is_history : IsHistory history) (one other : List 
         };
         real_time = λ i j line later below is there. (Pairs-at (Apart history.events) (one ++ more) i j line later pairs below is there).1;
         entries = reached.passes.entries ++ parts.rest;
-        last = valid.last;
+        last = on.0;
         run = record {
           claimed = claimed-append history.events one more reached.passes.entries parts.rest reached.passes.run.claimed parts.later;
-          run = run-append reached.passes.entries parts.rest (opening history.config) state valid.last reached.passes.run.run
-              (subst (λ (s : State). IsRun s parts.rest valid.last) at parts.further);
+          run = run-append reached.passes.entries parts.rest (opening history.config) state on.0 reached.passes.run.run on.1;
         };
       }
 
-  pub nowhere_alike : LeadsNowhere history one → LeadsNowhere history other
-  nowhere_alike nowhere = record { none = λ more valid. nowhere.none more (alike more valid) }
+  -- so that the other leads nowhere where the one does
+  pub nowhere_beside : LeadsNowhere history one → LeadsNowhere history other
+  nowhere_beside nowhere = record { none = λ more valid. nowhere.none more (alike more valid) }
+
+-- two orders that lead to one state
+pub nowhere_alike : (history : History) → IsHistory history → (one other : List Line) (state : State)
+    → Reaches history one state → Reaches history other state
+    → ((cpu : ℕ) → count_of cpu one ≡ count_of cpu other) → LeadsNowhere history one → LeadsNowhere history other
+nowhere_alike history is_history one other state reached also counts =
+    nowhere_beside history is_history one other state state reached also counts (λ lines entries last claimed run. (last, run))

@@ -28,3 +28,8 @@ pub mod Short
 pub mod Moves
 pub mod Settled
 pub mod Configurations
+pub mod UnmeasuredAnswers
+pub mod UnmeasuredChanges
+pub mod Unmeasured
+pub mod UnreadEvents
+pub mod UnreadOrders

@@ -1,4 +1,4 @@
--- A call that was refused, and is refused where an order has come to, may come next at once.
+-- A call that can be left out of each run, and is given its reply where an order has come to, may come next at once, as one that was refused may.
 use Rattle.std.proofs.Common.{◌≡◌, ℕ, zero, suc, ◌+◌, ◌≤◌, ◌⊎◌, inl, inr, List, [], ◌∷◌, ◌++◌, length, Result, Ok, Err, Some, refl, sym, ◌∙◌, ap, subst, arith, append_assoc}
 use Rattle.std.specs.List.{slice_get}
 use Rattle.std.proofs.lemmas.Bool.{cases_lt}
@@ -11,7 +11,6 @@ use Rattle.rmm_spec.specs.declared.line.Line.{Line}
 use Rattle.rmm_spec.specs.declared.line.Line.TheVariants.{Keep, Unfinished}
 use Rattle.rmm_spec.specs.declared.refusal.Refusal.{Refusal}
 use Rattle.rmm_spec.specs.declared.reply.Reply.{Reply}
-use Rattle.rmm_spec.specs.declared.reply.Reply.TheVariants as reply
 use Rattle.rmm_spec.specs.Call.{call_of}
 use Rattle.rmm_spec.specs.HistoryText.{History, IsHistory}
 use Rattle.rmm_spec.specs.State.{State, opening}
@@ -128,48 +127,51 @@ kept_line events (Keep c n) cpu number kind of_cpu numbered finished = ap (λ (x
 kept_line events (Unfinished c n claimed) cpu number kind of_cpu numbered finished =
     absurd (kind (subst (λ (x : ℕ). IsFinished events x n) (sym of_cpu) (subst (λ (x : ℕ). IsFinished events cpu x) (sym numbered) finished)))
 
--- the commits of a run with the one commit first that changes nothing
-record First (events : List Event) (lines front back : List Line) (line : Line) (start last : State) : Type 0 where
+-- each run from the one state that comes to the line's commit goes on from the other without it
+abbrev pub GoesOnWithout : List Event → Line → State → State → Type 0
+GoesOnWithout events line state next =
+    (front back : List Line) (first rest : List JournalEntry) (entry : JournalEntry) (last : State)
+    → AreEntriesOf events front first → IsEntryOf events line entry → AreEntriesOf events back rest
+    → IsRun state (first ++ entry ∷ rest) last → (end : State) × IsRun next (first ++ rest) end
+
+-- the commits of a run in which the line's comes first behind the lines
+record First (events : List Event) (lines front back : List Line) (line : Line) (start : State) : Type 0 where
   entries : List JournalEntry
+  last : State
   claimed : AreEntriesOf events (lines ++ (line ∷ (front ++ back))) entries
   run : IsRun start entries last
 
+-- there is one where the line's comes further behind in a run
 first_run : (events : List Event) → HasOnePlaces events
-    → (lines front back : List Line) (line : Line) (start last state : State) (early : List JournalEntry)
-    → AreEntriesOf events lines early → IsRun start early state → (entry : JournalEntry) → IsEntryOf events line entry → IsRefusal entry.given
-    → Step state entry.cpu entry.command entry.given state
-    → Split events lines (front ++ line ∷ back) start last → First events lines front back line start last
-first_run events one lines front back line start last state early claimed run entry is_entry refused step parts =
-    let at : state ≡ parts.middle = same_state events one lines early parts.first start state parts.middle claimed run parts.claimed parts.run in
-    at_middle (split_run events front (line ∷ back) parts.rest parts.middle last parts.later parts.further)
-    (subst (λ (s : State). Step s entry.cpu entry.command entry.given s) at step)
+    → (lines front back : List Line) (line : Line) (start last state next : State) (early : List JournalEntry)
+    → AreEntriesOf events lines early → IsRun start early state → (entry : JournalEntry) → IsEntryOf events line entry
+    → Step state entry.cpu entry.command entry.given next → GoesOnWithout events line state next
+    → Split events lines (front ++ line ∷ back) start last → First events lines front back line start
+first_run events one lines front back line start last state next early claimed run entry is_entry step goes_on parts =
+    let at : parts.middle ≡ state = same_state events one lines parts.first early start parts.middle state parts.claimed parts.run claimed run in
+    let further = subst (λ (s : State). IsRun s parts.rest last) at parts.further in
+    with_parts (split_run events front (line ∷ back) parts.rest state last parts.later further)
   where
-    at_middle : Split events front (line ∷ back) parts.middle last → Step parts.middle entry.cpu entry.command entry.given parts.middle
-        → First events lines front back line start last
-    at_middle more here = with_rest more.rest more.later more.further
+    with_parts : Split events front (line ∷ back) state last → First events lines front back line start
+    with_parts more = with_rest more.rest more.later more.further
       where
         with_rest : (rest : List JournalEntry)
-            → AreEntriesOf events (line ∷ back) rest → IsRun more.middle rest last → First events lines front back line start last
+            → AreEntriesOf events (line ∷ back) rest → IsRun more.middle rest last → First events lines front back line start
         with_rest [] later further = absurd later
         with_rest (e ∷ es) later further =
-            let same = same_entry events one line e entry later.0 is_entry in
-            let is_refused : IsRefusal e.given = subst IsRefusal (sym same.given) refused in
-            let first : Step parts.middle e.cpu e.command e.given parts.middle =
-            subst (λ (c : ℕ). Step parts.middle c e.command e.given parts.middle) (sym same.cpu)
-            (subst (λ (m : Command). Step parts.middle entry.cpu m e.given parts.middle) (sym same.command)
-            (subst (λ (g : Reply). Step parts.middle entry.cpu entry.command g parts.middle) (sym same.given) here)) in
-            let whole = run-append more.first (e ∷ es) parts.middle more.middle last more.run further in
-            let shorter = run-without more.first es e parts.middle last
-            (λ old new taken. refusal_keeps (outcome old e.cpu (call_of e.command)) old new e.given is_refused taken) whole in
+            let whole = run-append more.first (e ∷ es) state more.middle last more.run further in
+            let shorter = goes_on front back more.first es e last more.claimed later.0 later.1 whole in
             record {
-              entries = parts.first ++ (e ∷ (more.first ++ es));
-              claimed = claimed-append events lines (line ∷ (front ++ back)) parts.first (e ∷ (more.first ++ es)) parts.claimed
-                  (later.0, claimed-append events front back more.first es more.claimed later.1);
-              run = run-append parts.first (e ∷ (more.first ++ es)) start parts.middle last parts.run (parts.middle, first, shorter);
+              entries = early ++ (entry ∷ (more.first ++ es));
+              last = shorter.0;
+              claimed = claimed-append events lines (line ∷ (front ++ back)) early (entry ∷ (more.first ++ es)) claimed
+                  (is_entry, claimed-append events front back more.first es more.claimed later.1);
+              run = run-append early (entry ∷ (more.first ++ es)) start state shorter.0 run (next, step, shorter.1);
             }
 
-module _ (history : History) (is_history : IsHistory history) (lines : List Line) (state : State) (reached : Reaches history lines state)
-    (cpu number : ℕ) (grows : Grows history lines state (Keep cpu number) state) (refused : IsRefusal grows.entry.given) where
+module _ (history : History) (is_history : IsHistory history) (lines : List Line) (state next : State) (reached : Reaches history lines state)
+    (cpu number : ℕ) (grows : Grows history lines state (Keep cpu number) next)
+    (goes_on : GoesOnWithout history.events (Keep cpu number) state next) where
   -- a line behind those that pass names an open call
   names_open : (more : List Line) → IsLinearization history (lines ++ more) → (i : ℕ) (other : Line) → slice_get more i ≡ Some other
       → count_of (cpu_named other) lines ≤ number_named other
@@ -182,7 +184,7 @@ module _ (history : History) (is_history : IsHistory history) (lines : List Line
         (slice_get-append lines more earlier.0 earlier.1 earlier.2) (behind lines more i other is) (earlier.3, earlier.4))
   ]
 
-  -- so that it may come behind the refused one
+  -- so that it may come behind the one that is next
   passes : (front back : List Line)
       → IsLinearization history (lines ++ (front ++ Keep cpu number ∷ back)) → Each (Apart history.events (Keep cpu number)) front
   passes front back valid = Each-from_places (Apart history.events (Keep cpu number)) front (λ i other is. (
@@ -201,7 +203,7 @@ module _ (history : History) (is_history : IsHistory history) (lines : List Line
         omega (arith, late, at, returns.before),
   ))
 
-  -- the refused call may stand first behind the lines
+  -- so that the call which is next may stand first behind the lines
   moved : (front back : List Line) → IsLinearization history (lines ++ (front ++ Keep cpu number ∷ back))
       → IsLinearization history (lines ++ (Keep cpu number ∷ (front ++ back)))
   moved front back valid =
@@ -216,8 +218,8 @@ module _ (history : History) (is_history : IsHistory history) (lines : List Line
       let kinds = Each-moved (IsOfItsKind history.events) lines front back (Keep cpu number)
       (Each-from_places (IsOfItsKind history.events) old valid.order.names.kinds) in
       let first = first_run history.events (HasOnePlaces-from_history history is_history) lines front back
-      (Keep cpu number) (opening history.config) valid.last state
-      reached.passes.entries reached.passes.run.claimed reached.passes.run.run grows.entry grows.is_entry refused grows.step
+      (Keep cpu number) (opening history.config) valid.last state next
+      reached.passes.entries reached.passes.run.claimed reached.passes.run.run grows.entry grows.is_entry grows.step goes_on
       (split_run history.events lines (front ++ Keep cpu number ∷ back) valid.entries
       (opening history.config) valid.last valid.run.claimed valid.run.run) in
       record {
@@ -234,13 +236,13 @@ module _ (history : History) (is_history : IsHistory history) (lines : List Line
         };
         real_time = λ i j line later below is there. (Pairs-at (Apart history.events) new i j line later pairs below is there).1;
         entries = first.entries;
-        last = valid.last;
+        last = first.last;
         run = record { claimed = first.claimed; run = first.run };
       }
 
   -- where it leads nowhere there, all does
-  pub nowhere_settled : LeadsNowhere history (lines ++ Keep cpu number ∷ []) → LeadsNowhere history lines
-  nowhere_settled nowhere = record {
+  pub nowhere_first : LeadsNowhere history (lines ++ Keep cpu number ∷ []) → LeadsNowhere history lines
+  nowhere_first nowhere = record {
     none = λ more valid.
         let finished : IsFinished history.events cpu number = grows.next.kind in
         let named = valid.order.complete cpu number finished in
@@ -258,3 +260,19 @@ module _ (history : History) (is_history : IsHistory history) (lines : List Line
               (subst (IsLinearization history) (sym (append_assoc lines (Keep cpu number ∷ []) (parts.front ++ parts.back))) first)
         ];
   }
+
+module _ (history : History) (is_history : IsHistory history) (lines : List Line) (state : State) (reached : Reaches history lines state)
+    (cpu number : ℕ) (grows : Grows history lines state (Keep cpu number) state) (refused : IsRefusal grows.entry.given) where
+  -- a refused call may be left out of each run
+  refused-left_out : GoesOnWithout history.events (Keep cpu number) state state
+  refused-left_out front back first rest entry last claimed is_entry later run =
+      let places = HasOnePlaces-from_history history is_history in
+      let same = same_entry history.events places (Keep cpu number) entry grows.entry is_entry grows.is_entry in
+      let is_refused : IsRefusal entry.given = subst IsRefusal (sym same.given) refused in
+      let keeps : (old new : State) → Step old entry.cpu entry.command entry.given new → new ≡ old = λ old new taken.
+      refusal_keeps (outcome old entry.cpu (call_of entry.command)) old new entry.given is_refused taken in
+      (last, run-without first rest entry state last keeps run)
+
+  -- so that where it leads nowhere there, all does
+  pub nowhere_settled : LeadsNowhere history (lines ++ Keep cpu number ∷ []) → LeadsNowhere history lines
+  nowhere_settled = nowhere_first history is_history lines state state reached cpu number grows refused-left_out

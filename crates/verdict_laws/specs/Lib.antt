@@ -2,3 +2,4 @@ pub mod Forward
 pub mod Parts
 pub mod Apart
 pub mod Order
+pub mod Unread

@@ -1,13 +1,14 @@
 //! What follows from the definitions of verdicts and orders: each law is the contract of a function that does nothing.
 //! It promises that some verdict is right of any two texts and no two are, so `Judges` leaves a checker nothing to choose; of an order that is
-//! begun, where it leads nowhere and where it is a linearization (`begun`, line by line); and, for a search through a history's events, where a
-//! kept order leads nowhere, and that a call which lends a granule or takes it back passes each call that has nothing to do with the granule.
-//! The search for an order stands on the laws of orders.
+//! begun, where it leads nowhere and where it is a linearization (`begun`, line by line); for a search through a history's events, where a
+//! kept order leads nowhere, and that a call which lends a granule or takes it back passes each call that has nothing to do with the granule;
+//! and that no order is lost where each reading of a measurement extends one. The search for an order stands on the laws of orders.
 #![tactic(auto)]
 
 mod apart;
 mod begun;
 mod exchanges;
+mod unread;
 mod verdicts;
 
 pub use apart::{lending_exchanges, lending_passes};
@@ -24,4 +25,5 @@ pub use exchanges::{
     nowhere_after_each_open_call, nowhere_after_looks, nowhere_at_a_return, nowhere_in_a_group,
     nowhere_in_either_order, nowhere_with_a_movable_call,
 };
+pub use unread::{nowhere_after_an_extension, nowhere_but_for_measurements, nowhere_unread};
 pub use verdicts::{a_verdict_exists, one_verdict};
