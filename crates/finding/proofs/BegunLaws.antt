@@ -7,6 +7,8 @@ use Rattle.rmm_spec.specs.Linearization.{IsLinearization, IsOfItsKind}
 use Rattle.verdict_laws.specs.Order.{count_of, Reaches}
 use Rattle.verdict_laws.proofs.Growth.{Reaches-nil, Reaches-push}
 use Rattle.verdict_laws.proofs.Nowhere.{nowhere_by, nowhere_unless}
+use Rattle.verdict_laws.proofs.UnreadOrders.{nowhere_unmeasured}
+use Rattle.verdict_laws.specs.Unread.{ReadsNothing, unmeasured}
 use Rattle.finding.specs.Attempt.{IsAttempt, MayTry}
 use Rattle.finding.specs.Begun.{Holds, IsGrown, IsLost, IsSoon, Stays}
 use Rattle.finding.specs.Counts.{AreCounts}
@@ -15,7 +17,7 @@ use Rattle.finding.specs.Search.{IsGiven}
 use Rattle.finding.specs.declared.begun.Begun.{Begun}
 use Rattle.finding.proofs.Attempts.{of_a_line}
 use Rattle.finding.proofs.Choices.{rank_pending}
-use Rattle.finding.proofs.KeptLaws.{IsNowhere-of}
+use Rattle.finding.proofs.KeptLaws.{IsNowhere-of, same_counts}
 use Rattle.finding.proofs.Searches.{AreCounts-nil, AreCounts-push, Grows-given}
 use Rattle.finding.proofs.TriedLaws.{Tried-passed, Tried-ended}
 
@@ -46,6 +48,19 @@ pub IsLost-alike : (history : History) (one other : Begun) → one.front.counts 
     → IsLost history one → IsLost history other
 IsLost-alike history one other counts state lost =
     record { nowhere = λ lines holds. lost.nowhere lines (Holds-alike history one other lines counts state holds) }
+
+-- where none is read, the states may differ in measurements
+pub IsLost-like : (history : History) → ReadsNothing history.events → (one other : Begun) → IsBegun history one
+    → one.front.counts ≡ other.front.counts → unmeasured (state_of one.machine) ≡ unmeasured (state_of other.machine) → IsLost history one
+    → IsLost history other
+IsLost-like history reads one other begun counts like lost = record {
+  nowhere = λ lines holds.
+      nowhere_unmeasured history begun.front.is_history reads begun.lines lines (state_of one.machine) (state_of other.machine) begun.holds.reached
+      holds.reached
+      (same_counts history begun.front.is_history begun.lines lines (state_of one.machine) (state_of other.machine) begun.holds.reached holds.reached
+      other.front.counts (subst (λ (cs : List ℕ). AreCounts cs begun.lines) counts begun.holds.counts) holds.counts)
+      like (lost.nowhere begun.lines begun.holds);
+}
 
 -- no line
 pub Holds-nil : (history : History) (begun : Begun)

@@ -25,12 +25,12 @@ module _ (history : History) (is_history : IsHistory history) (lines : List Line
   ]
 
 -- two orders of the same counts have as many calls of each CPU
-same_counts : (history : History) → IsHistory history → (one other : List Line) (state : State)
-    → Reaches history one state → Reaches history other state
+pub same_counts : (history : History) → IsHistory history → (one other : List Line) (state end : State)
+    → Reaches history one state → Reaches history other end
     → (counts : List ℕ) → AreCounts counts one → AreCounts counts other → (cpu : ℕ) → count_of cpu one ≡ count_of cpu other
-same_counts history is_history one other state reached also counts are others cpu = elim (cases_lt cpu 8) [
+same_counts history is_history one other state end reached also counts are others cpu = elim (cases_lt cpu 8) [
   | inl within ↦ sym (are.each cpu within) ∙ others.each cpu within
-  | inr past ↦ no_calls history is_history one state reached cpu past ∙ sym (no_calls history is_history other state also cpu past)
+  | inr past ↦ no_calls history is_history one state reached cpu past ∙ sym (no_calls history is_history other end also cpu past)
 ]
 
 -- where one order leads nowhere, each of its counts and its state does
@@ -38,7 +38,7 @@ pub IsNowhere-of : (history : History) → IsHistory history → (lines : List L
     → AreCounts counts lines → LeadsNowhere history lines → IsNowhere history counts state
 IsNowhere-of history is_history lines state reached counts are nowhere = λ other also others.
     nowhere_alike history is_history lines other state reached also
-    (same_counts history is_history lines other state reached also counts are others) nowhere
+    (same_counts history is_history lines other state state reached also counts are others) nowhere
 
 -- one more is kept
 pub AreNowhere-added : (history : History) (old new : List Configuration) (counts : List ℕ) (state : State)

@@ -15,3 +15,5 @@ pub mod NextLines
 pub mod Rounds
 pub mod Finds
 pub mod GroupLaws
+pub mod UnreadLaws
+pub mod SettledLaws

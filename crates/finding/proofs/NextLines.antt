@@ -1,5 +1,5 @@
 -- What is left behind the next line of an order that is begun.
-use Rattle.finding.proofs.Common.{◌++◌, ◌+◌, ◌<◌, ◌^◌, ◌∙◌, ◌∷◌, ◌≡◌, ◌≤◌, [], Choice, Frame, History, IsFinished, IsHistory, IsLeast, IsNextCall, LeadsNowhere, Line, List, None, Option, Reply, Some, TriedIn, Unfinished, ap, arith, cpu_named, number_named, rank_of, refl, state_of, subst, sym, ℕ}
+use Rattle.finding.proofs.Common.{State, inl, inr, ◌++◌, ◌+◌, ◌<◌, ◌^◌, ◌∙◌, ◌∷◌, ◌≡◌, ◌≤◌, [], Choice, Frame, History, IsFinished, IsHistory, IsLeast, IsNextCall, LeadsNowhere, Line, List, None, Option, Reply, Some, TriedIn, Unfinished, ap, arith, cpu_named, number_named, rank_of, refl, state_of, subst, sym, ℕ}
 use Rattle.std.proofs.Common.{Bool, false, true}
 use Rattle.rmm_spec.specs.declared.line.Line.TheVariants.{Keep}
 use Rattle.rmm_spec.specs.Linearization.{IsOfItsKind, IsReturned}
@@ -17,7 +17,9 @@ use Rattle.finding.proofs.BegunLaws.{MayTry-begun, Tried-attempt}
 use Rattle.finding.proofs.Choices.{returned_first}
 use Rattle.finding.proofs.OfferLaws.{returned_at}
 use Rattle.finding.specs.Search.{IsRefusedHere}
-use Rattle.finding.proofs.Searches.{Grows-refused, IsNextCall-0}
+use Rattle.finding.specs.Settled.{IsExtendedHere, IsSettledHere}
+use Rattle.verdict_laws.proofs.UnreadOrders.{nowhere_extended}
+use Rattle.finding.proofs.Searches.{Grows-refused, Grows-returned, IsNextCall-0}
 use Rattle.finding.proofs.TriedLaws.{IsKept-open, ReturnBehind-called, Tried-passed, counted, each_nowhere, of_machine, too_late}
 
 -- by its parts
@@ -36,7 +38,7 @@ IsSoon-called history is_history begun first is_least from choice next early = �
     choice.places.called choice.cpu choice.number next.places.called.0 next.places.called.1 early
 
 -- a call that is refused as it was changes nothing, so that an order leads nowhere where it does with the call behind it
-pub IsLost-refused : (history : History) → IsHistory history → (begun : Begun) (choice : Choice) → IsNextCall history begun.front.counts 0 choice
+IsLost-refused : (history : History) → IsHistory history → (begun : Begun) (choice : Choice) → IsNextCall history begun.front.counts 0 choice
     → IsSoon history begun choice → IsRefusedHere history (state_of begun.machine) choice
     → ((lines : List Line) → Holds history begun lines → LeadsNowhere history (lines ++ Keep choice.cpu choice.number ∷ []))
     → IsLost history begun
@@ -47,6 +49,38 @@ IsLost-refused history is_history begun choice next soon refused nowhere = recor
       (Grows-refused history is_history lines (state_of begun.machine) begun.front.counts choice holds.counts next (soon lines holds) refused)
       refused.refusal (nowhere lines holds);
 }
+
+-- nor does one that extends a measurement where none is read
+IsLost-extended : (history : History) → IsHistory history → (begun : Begun) (choice : Choice) → IsNextCall history begun.front.counts 0 choice
+    → IsSoon history begun choice → IsExtendedHere history (state_of begun.machine) choice
+    → ((lines : List Line) → Holds history begun lines → LeadsNowhere history (lines ++ Keep choice.cpu choice.number ∷ []))
+    → IsLost history begun
+unfolding Grows-returned
+IsLost-extended history is_history begun choice next soon extended nowhere = record {
+  nowhere = λ lines holds.
+      let grows = Grows-returned history is_history lines (state_of begun.machine) extended.new begun.front.counts choice holds.counts next
+      (soon lines holds) extended.place extended.given extended.is_returned extended.command extended.is_called extended.step in
+      nowhere_extended history lines (state_of begun.machine) extended.new choice.cpu choice.number is_history extended.unread holds.reached grows
+      extended.extends (nowhere lines holds);
+}
+
+-- so that of a call that may come next at once nothing else need be tried
+pub IsLost-settled : (history : History) → IsHistory history → (begun : Begun) (choice : Choice) → IsNextCall history begun.front.counts 0 choice
+    → IsSoon history begun choice → IsSettledHere history (state_of begun.machine) choice
+    → ((lines : List Line) → Holds history begun lines → LeadsNowhere history (lines ++ Keep choice.cpu choice.number ∷ []))
+    → IsLost history begun
+IsLost-settled history is_history begun choice next soon settled nowhere = elim settled [
+  | inl refused ↦ IsLost-refused history is_history begun choice next soon refused nowhere
+  | inr extended ↦ IsLost-extended history is_history begun choice next soon extended nowhere
+]
+
+-- it has returned
+pub IsFinished-settled : (history : History) (state : State) (choice : Choice) → IsSettledHere history state choice
+    → IsFinished history.events choice.cpu choice.number
+IsFinished-settled history state choice settled = elim settled [
+  | inl refused ↦ (refused.place, refused.given, refused.is_returned)
+  | inr extended ↦ (extended.place, extended.given, extended.is_returned)
+]
 
 module _ (history : History) (is_history : IsHistory history) (begun : Begun) (group : ℕ → Bool) (left : Left) where
   module _ (first : Choice) (is_first : IsNextCall history begun.front.counts 0 first)

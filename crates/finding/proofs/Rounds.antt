@@ -1,6 +1,8 @@
 -- Orders that are taken into a round.
-use Rattle.finding.proofs.Common.{◌++◌, ◌∷◌, ◌≡◌, AllLost, Choice, History, IsBegun, IsNextCall, IsRound, Line, List, RoundLost, Some, [], ap, state_of, subst, sym, ℕ}
+use Rattle.finding.proofs.Common.{◌++◌, ◌∷◌, ◌≡◌, AllLost, Choice, History, IsBegun, IsNextCall, IsRound, IsTrue, Line, List, RoundLost, Some, [], ap, state_of, subst, sym, ℕ}
 use Rattle.std.proofs.lemmas.List.Elements.{All-pop, All-push}
+use Rattle.std.proofs.Common.{Bool}
+use Rattle.verdict_laws.specs.Unread.{ReadsNothing}
 use Rattle.finding.specs.Begun.{AllBegun, Covers, Holds, IsLost, IsSoon}
 use Rattle.finding.specs.Front.{IsFront}
 use Rattle.finding.specs.declared.begun.Begun.{Begun}
@@ -32,8 +34,9 @@ AllBegun-pop history old new begun are all = All-pop (IsBegun history) old new (
 module _ (history : History) (old new : Round) (begun : Begun) where
   -- one that has the call
   module _ (lacking : new.lacking.items ≡ old.lacking.items) (next : new.next.items ≡ old.next.items ++ begun ∷ []) where
-    pub IsRound-next : IsRound history old → IsBegun history begun → IsRound history new
-    IsRound-next round is = record {
+    pub IsRound-next : new.unread ≡ old.unread → IsRound history old → IsBegun history begun → IsRound history new
+    IsRound-next unread round is = record {
+      unread = subst (λ (b : Bool). IsTrue b → ReadsNothing history.events) (sym unread) round.unread;
       lacking = subst (AllBegun history) (sym lacking) round.lacking;
       next = AllBegun-push history old.next.items new.next.items begun next round.next is;
     }
@@ -49,8 +52,9 @@ module _ (history : History) (old new : Round) (begun : Begun) where
 
   -- one that lacks it
   module _ (lacking : new.lacking.items ≡ old.lacking.items ++ begun ∷ []) (next : new.next.items ≡ old.next.items) where
-    pub IsRound-lacking : IsRound history old → IsBegun history begun → IsRound history new
-    IsRound-lacking round is = record {
+    pub IsRound-lacking : new.unread ≡ old.unread → IsRound history old → IsBegun history begun → IsRound history new
+    IsRound-lacking unread round is = record {
+      unread = subst (λ (b : Bool). IsTrue b → ReadsNothing history.events) (sym unread) round.unread;
       lacking = AllBegun-push history old.lacking.items new.lacking.items begun lacking round.lacking is;
       next = subst (AllBegun history) (sym next) round.next;
     }

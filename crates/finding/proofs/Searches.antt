@@ -1,5 +1,5 @@
 -- A search as it tries a line, grows by one and takes one back.
-use Rattle.finding.proofs.Common.{◌++◌, ◌+◌, ◌<◌, ◌^◌, ◌∙◌, ◌∷◌, ◌≡◌, ◌≤◌, Choice, Frame, History, IsFinished, IsHistory, IsLeast, IsNextCall, IsSearch, IsTrue, LeadsNowhere, Line, List, None, Option, Passes, Search, Some, State, Tried, Unfinished, [], ap, arith, cases_lt, cpu_named, inl, inr, length, lines_of, number_named, opening, rank_of, refl, slice_get, slice_get_within, state_of, subst, sym, take, ℕ, every}
+use Rattle.finding.proofs.Common.{Reply, ◌++◌, ◌+◌, ◌<◌, ◌^◌, ◌∙◌, ◌∷◌, ◌≡◌, ◌≤◌, Choice, Frame, History, IsFinished, IsHistory, IsLeast, IsNextCall, IsSearch, IsTrue, LeadsNowhere, Line, List, None, Option, Passes, Search, Some, State, Tried, Unfinished, [], ap, arith, cases_lt, cpu_named, inl, inr, length, lines_of, number_named, opening, rank_of, refl, slice_get, slice_get_within, state_of, subst, sym, take, ℕ, every}
 use Rattle.std.proofs.Common.{◌≢◌, zero, suc, ◌-◌, true, false, get_or, set, get_or-set_same, get_or-set_other}
 use Rattle.std.specs.List.{AllByRecursion}
 use Rattle.std.specs.Global.{Box}
@@ -12,7 +12,9 @@ use Rattle.rmm_spec.specs.declared.line.Line.TheVariants.{Keep}
 use Rattle.rmm_spec.specs.CertificateText.{IsLine, IsCertificate}
 use Rattle.rmm_spec.specs.Rows.{ok}
 use Rattle.rmm_spec.specs.FirstFault.{IsRefused}
-use Rattle.rmm_spec.specs.Linearization.{IsLinearization, IsOfItsKind}
+use Rattle.rmm_spec.specs.declared.command.Command.{Command}
+use Rattle.rmm_spec.specs.Step.{Step}
+use Rattle.rmm_spec.specs.Linearization.{IsCalled, IsLinearization, IsOfItsKind, IsReturned}
 use Rattle.lemmas.proofs.Elements.{slice_get_push_cases, slice_get-append, slice_get-push}
 use Rattle.spec_machine.specs.declared.machine.Machine.{Machine}
 use Rattle.verdict_laws.specs.Order.{count_of, Reaches, ReturnBehind, Grows}
@@ -534,26 +536,38 @@ Grows-given history is_history lines state later counts from choice line are nex
   step = given.step;
 }
 
--- a call that is refused here makes the order longer, and changes nothing
-unfoldable pub Grows-refused : (history : History) → IsHistory history
-    → (lines : List Line) (state : State) (counts : List ℕ) (choice : Choice) → AreCounts counts lines
-    → IsNextCall history counts 0 choice → ReturnBehind history.events lines choice.places.called → IsRefusedHere history state choice
-    → Grows history lines state (Keep choice.cpu choice.number) state
-Grows-refused history is_history lines state counts choice are next soon refused = record {
+-- a call that is given here what it returned makes the order longer
+unfoldable pub Grows-returned : (history : History) → IsHistory history
+    → (lines : List Line) (state new : State) (counts : List ℕ) (choice : Choice) → AreCounts counts lines
+    → IsNextCall history counts 0 choice → ReturnBehind history.events lines choice.places.called → (place : ℕ) (given : Reply)
+    → IsReturned history.events place choice.cpu choice.number given → (command : Command)
+    → IsCalled history.events choice.places.called choice.cpu choice.number command → Step state choice.cpu command given new
+    → Grows history lines state (Keep choice.cpu choice.number) new
+Grows-returned history is_history lines state new counts choice are next soon place given is_returned command is_called step = record {
   next = record {
-    known = (choice.places.called, refused.command, refused.is_called);
-    kind = (refused.place, refused.given, refused.is_returned);
+    known = (choice.places.called, command, is_called);
+    kind = (place, given, is_returned);
     numbered = next.numbered
         ∙ are.each choice.cpu (let most = is_history.config.most_cpus in let within = next.of_machine in omega (arith, within, most));
   };
   called = choice.places.called;
-  command = refused.command;
-  is_called = refused.is_called;
+  command = command;
+  is_called = is_called;
   soon = soon;
-  entry = record { cpu = choice.cpu; command = refused.command; given = refused.given };
-  is_entry = record { cpu = refl; called = choice.places.called; is_called = refused.is_called; given = (refused.place, refused.is_returned) };
-  step = refused.step;
+  entry = record { cpu = choice.cpu; command = command; given = given };
+  is_entry = record { cpu = refl; called = choice.places.called; is_called = is_called; given = (place, is_returned) };
+  step = step;
 }
+
+-- one that is refused here changes nothing
+unfoldable pub Grows-refused : (history : History) → IsHistory history
+    → (lines : List Line) (state : State) (counts : List ℕ) (choice : Choice) → AreCounts counts lines
+    → IsNextCall history counts 0 choice → ReturnBehind history.events lines choice.places.called → IsRefusedHere history state choice
+    → Grows history lines state (Keep choice.cpu choice.number) state
+unfolding Grows-returned
+Grows-refused history is_history lines state counts choice are next soon refused =
+    Grows-returned history is_history lines state state counts choice are next soon refused.place refused.given refused.is_returned refused.command
+    refused.is_called refused.step
 
 -- ---- what a search is after each way of a step
 

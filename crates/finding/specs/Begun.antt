@@ -1,5 +1,5 @@
 -- Orders that are begun, by what is held of them: how many calls of each CPU stand there, and the state behind them.
-use Rattle.std.specs.Prelude.{◌≡◌, ℕ, Bool, true, false, List, [], ◌∷◌, ◌++◌, Option, Some, None}
+use Rattle.std.specs.Prelude.{◌≡◌, ℕ, Bool, true, false, List, [], ◌∷◌, ◌++◌, Option, Some, None, IsTrue}
 use Rattle.std.specs.List.{All}
 use Rattle.rmm_spec.specs.declared.line.Line.{Line}
 use Rattle.rmm_spec.specs.HistoryText.{History}
@@ -11,6 +11,7 @@ use Rattle.finding.specs.Counts.{AreCounts}
 use Rattle.finding.specs.Front.{IsFront}
 use Rattle.finding.specs.Tried.{TriedIn}
 use Rattle.verdict_laws.specs.Forward.{IsKept, Passes}
+use Rattle.verdict_laws.specs.Unread.{ReadsNothing}
 use Rattle.finding.specs.declared.begun.Begun.{Begun}
 use Rattle.finding.specs.declared.choice.Choice.{Choice}
 use Rattle.finding.specs.declared.next_line.NextLine.{NextLine}
@@ -93,7 +94,9 @@ AllBegun history orders = All (IsBegun history) orders
 abbrev pub AllLost : History → List Begun → Type 0
 AllLost history orders = All (IsLost history) orders
 
+-- orders may differ in measurements only where none is read
 pub record IsRound (history : History) (round : Round) : Type 0 where
+  pub unread : IsTrue round.unread → ReadsNothing history.events
   pub lacking : AllBegun history round.lacking.items
   pub next : AllBegun history round.next.items
 

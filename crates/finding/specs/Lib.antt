@@ -13,3 +13,4 @@ pub mod Found
 pub mod Told
 pub mod Group
 pub mod Waiting
+pub mod Settled

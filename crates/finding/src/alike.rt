@@ -1,7 +1,7 @@
 //! Orders that stand for others.
 
 ghost use Rattle.std.specs.Prelude.{◌≡◌, ◌<◌, IfOk, IsTrue, OnOk};
-ghost use Rattle.spec_machine.specs.View.{state_of};
+ghost use Rattle.verdict_laws.specs.Unread.{ReadsNothing};
 ghost use Rattle.finding.specs.Begun.{AllBegun, AllLost, IsBegun, IsLost};
 
 use crate::begun::Begun;
@@ -11,16 +11,19 @@ use history::History;
 use rmm_spec::Line;
 use std::alloc::{AllocError, Global};
 
-/// Whether one of the orders is of the same calls to the same state.
+/// Whether one of the orders is of the same calls to the same state, where it may differ in measurements if none is read.
 pub(crate) fn has_alike(
     history: &History,
     begun: &[Begun],
     other: &Begun,
+    unread: bool,
 ) -> Result<bool, AllocError>
+    requires begun { AllBegun history.now.recorded begun.now }
+    requires unread { IsTrue unread → ReadsNothing history.now.recorded.events }
     ensures { IfOk result (λ has. IsTrue has → AllLost history.now.recorded begun.now → IsLost history.now.recorded other.now) }
 {
     'orders: for one in begun {
-        if is_alike(one, other)? {
+        if is_alike(history, one, other, unread)? {
             return Ok(true);
         }
     }
@@ -34,25 +37,37 @@ pub(crate) fn has_beginning(
     history: &History,
     begun: &[Begun],
     other: &Begun,
+    unread: bool,
 ) -> Result<bool, AllocError>
-    requires { AllBegun history.now.recorded begun.now }
+    requires begun { AllBegun history.now.recorded begun.now }
+    requires unread { IsTrue unread → ReadsNothing history.now.recorded.events }
     ensures { IfOk result (λ has. IsTrue has → AllLost history.now.recorded begun.now → IsLost history.now.recorded other.now) }
 {
     'orders: for one in begun {
-        if leads_to(alloc, offers, history, one, other)? {
+        if leads_to(alloc, offers, history, one, other, unread)? {
             return Ok(true);
         }
     }
     Ok(false)
 }
 
-/// Whether both are of the same calls to the same state.
-fn is_alike(one: &Begun, other: &Begun) -> Result<bool, AllocError>
-    ensures counts { IfOk result (λ alike. IsTrue alike → one.now.front.counts ≡ other.now.front.counts) }
-    ensures state { IfOk result (λ alike. IsTrue alike → state_of one.now.machine ≡ state_of other.now.machine) }
+fn are_of_same_calls(one: &Begun, other: &Begun) -> bool
+    ensures { IsTrue result → one.now.front.counts ≡ other.now.front.counts }
 {
-    if one.front.counts != other.front.counts {
+    one.front.counts == other.front.counts
+}
+
+/// Whether both are of the same calls to the same state, which may differ in measurements where none is read.
+fn is_alike(history: &History, one: &Begun, other: &Begun, unread: bool) -> Result<bool, AllocError>
+    requires begun { IsBegun history.now.recorded one.now }
+    requires unread { IsTrue unread → ReadsNothing history.now.recorded.events }
+    ensures { IfOk result (λ alike. IsTrue alike → IsLost history.now.recorded one.now → IsLost history.now.recorded other.now) }
+{
+    if !are_of_same_calls(one, other) {
         return Ok(false);
+    }
+    if unread {
+        return Ok(one.machine.is_like(&other.machine));
     }
     let kept = other.machine.keep(None)?;
     Ok(one.machine.is_at(&kept))
@@ -65,8 +80,10 @@ fn leads_to(
     history: &History,
     one: &Begun,
     other: &Begun,
+    unread: bool,
 ) -> Result<bool, AllocError>
-    requires { IsBegun history.now.recorded one.now }
+    requires begun { IsBegun history.now.recorded one.now }
+    requires unread { IsTrue unread → ReadsNothing history.now.recorded.events }
     ensures { IfOk result (λ leads. IsTrue leads → IsLost history.now.recorded one.now → IsLost history.now.recorded other.now) }
 {
     if !lacks_few(one, other) {
@@ -80,7 +97,7 @@ fn leads_to(
             }
         }
     }
-    is_alike(&longer, other)
+    is_alike(history, &longer, other, unread)
 }
 
 /// Whether the one lacks no more than a call of each CPU, and has none that the other lacks.

@@ -6,7 +6,7 @@ ghost use Rattle.finding.specs.Found.{HasNoneUpTo, IsFound, IsFoundWatched};
 ghost use Rattle.finding.specs.Search.{IsSearch, IsSearched};
 
 use crate::first_part::first_part;
-use crate::forward::{Survey, forward};
+use crate::forward::{Survey, survey_of};
 use crate::guided::{guessed, guided};
 use crate::kept::cells_of;
 use crate::offers::Offers;
@@ -34,13 +34,13 @@ const TO_DECIDE: u64 = 1_000_000_000;
 pub enum Found {
     /// A linearization.
     Order(Certificate),
-    /// No certificate is one; nor is one of the history that ends behind the return at the place, where it is told.
+    /// No certificate is one; nor is one of the history that ends after the return at the place, where it is named.
     None(Option<u32>),
-    /// Neither: so many offers were made within the limit, or until the watch stopped the search.
+    /// Neither: so many steps were tried within the limit, or before the watch stopped the search.
     GaveUp(Offers),
 }
 
-/// Looks for an order of the history's calls that is a linearization, and gives up once so many offers are made.
+/// Looks for an order of the history's calls that is a linearization, and gives up once so many steps are tried.
 pub fn find(alloc: Global, history: &History, limit: u64) -> Result<Found, AllocError>
     ensures { IfOk result (IsFound history.now.recorded limit) }
 {
@@ -121,7 +121,7 @@ fn find_forward<W: Watch>(
 {
     let mut search = search;
     let near = offers_near(history, search.offers.count(), TO_DECIDE, limit);
-    let found = forward(alloc, &mut search.offers, history, near, watch)?;
+    let found = survey_of(alloc, &mut search.offers, history, near, watch)?;
     match found {
         Survey::Lost(place) => {
             let told = told_place(alloc, &mut search.offers, history, limit, place, watch)?;
@@ -171,7 +171,7 @@ fn lost_place<W: Watch>(
 ) -> Result<Option<u32>, AllocError>
     ensures { IfOk result (λ told. IfSome told (HasNoneUpTo history.now.recorded)) }
 {
-    let found = forward(alloc, offers, history, limit, watch)?;
+    let found = survey_of(alloc, offers, history, limit, watch)?;
     match found {
         Survey::Lost(place) => told_place(alloc, offers, history, limit, place, watch),
         _ => Ok(None),
@@ -196,7 +196,7 @@ fn told_place<W: Watch>(
     let Some(part) = first_part(alloc, history, count)? else {
         return Ok(None);
     };
-    let found = forward(alloc, offers, &part, limit, watch)?;
+    let found = survey_of(alloc, offers, &part, limit, watch)?;
     match found {
         Survey::Lost(_) => Ok(Some(place)),
         _ => Ok(None),

@@ -39,33 +39,6 @@ impl Round {
     ghost use Rattle.finding.specs.Waiting.{IsWaitingLost, MayWait, Moves};
     ghost use Rattle.finding.specs.declared.search.Left.{Left};
 
-    /// Takes a copy of the order that is longer by a line, where the machine gives its call the reply.
-    fn take_longer(
-        &mut self,
-        alloc: Global,
-        offers: &mut Offers,
-        history: &History,
-        begun: &Begun,
-        choice: Choice,
-        line: &Line,
-    ) -> Result<(), AllocError>
-        requires round { IsRound history.now.recorded self.old }
-        requires begun { IsBegun history.now.recorded begun.now }
-        requires stands { (group : ℕ → Bool) × (old new : Left) × MayStand history.now.recorded begun.now group old choice line.now new }
-        ensures round { OnOk result (IsRound history.now.recorded self.new) }
-        ensures covers { OnOk result (Covers history.now.recorded self.old self.new) }
-        ensures taken { OnOk result (RoundLost history.now.recorded self.new → (lines : List Line) → Holds history.now.recorded begun.now lines
-            → LeadsNowhere history.now.recorded (lines ++ line.now ∷ [])) }
-    {
-        let mut longer = begun.copy(alloc)?;
-        let given = longer.grow(offers, history, choice, line)?;
-        if given {
-            self.take(alloc, offers, history, longer)?;
-            return Ok(());
-        }
-        Ok(())
-    }
-
     /// Takes the order that is longer by the line that waits, if one does, and leaves the order as it is.
     fn take_waiting(
         &mut self,
@@ -107,13 +80,7 @@ impl Round {
         let Some(Waiting { choice, line }) = waiting else {
             return Ok(());
         };
-        let mut longer = begun;
-        let given = longer.grow(offers, history, choice, &line)?;
-        if given {
-            self.take(alloc, offers, history, longer)?;
-            return Ok(());
-        }
-        Ok(())
+        self.take_grown(alloc, offers, history, begun, choice, &line)
     }
 
     /// Lets the line of a call wait, unless it is refused, and takes the one that waited before.

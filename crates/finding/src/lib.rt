@@ -1,8 +1,8 @@
 //! Finds an order of a history's calls that is a linearization, from the history alone, or that there is none.
 //! It promises that the order found is a linearization, and that where none is told no certificate at all is one, nor of the events up to
 //! the place that is told. It tries depth first, begins anew with a guess where that leads nowhere a few times, and at last looks return
-//! by return at all orders that are possible still; it gives up only where it has made as many offers as it may, or whoever follows it said so.
-//! The program `rmmfind` depends on it.
+//! by return at all orders that are possible still, first with no measurement read; it gives up only where it has tried as many steps as it
+//! may, or whoever follows it said so. The program `rmmfind` depends on it.
 #![tactic(auto)]
 
 mod alike;
@@ -22,6 +22,7 @@ mod group;
 mod group_lines;
 mod guided;
 mod kept;
+mod longer;
 mod longest;
 mod marks;
 mod next_line;
@@ -31,8 +32,10 @@ mod refused;
 mod restoring;
 mod round;
 mod search;
+mod settled;
 mod survivors;
 mod told;
+mod unread;
 mod watch;
 
 pub use certificate::Certificate;

@@ -1,17 +1,17 @@
 //! From the orders that have all calls which returned before a return to those that have its call too.
 
-ghost use Rattle.std.specs.Prelude.{IfOk, IfSome};
+ghost use Rattle.std.specs.Prelude.{IfOk, IfSome, IsTrue};
+ghost use Rattle.verdict_laws.specs.Unread.{ReadsNothing};
 ghost use Rattle.finding.specs.Begun.{AllBegun, AllLost, IsBegun, IsRound, RoundLost};
 
 use crate::alike::{has_alike, has_beginning};
 use crate::begun::Begun;
-use crate::choice::{Choice, PENDING, rank};
-use crate::group::{Group, group_at};
+use crate::choice::{PENDING, rank};
+use crate::group::group_at;
 use crate::offers::Offers;
-use crate::refused::refused_choice;
+use crate::settled::settled_choice;
 use crate::watch::{Advance, Pace, Watch};
 use history::History;
-use rmm_spec::Line;
 use std::alloc::{AllocError, Global};
 
 /// How many orders that lack a call are kept.
@@ -27,17 +27,15 @@ const DEPTH: u32 = 9;
 #[derive(Drop)]
 pub(crate) struct Round {
     pub(crate) place: u32,
+    // set only where no call reads a measurement, so that orders which differ in measurements alone stand for each other
+    pub(crate) unread: bool,
     pub(crate) lacking: Vec<Begun>,
     pub(crate) next: Vec<Begun>,
 }
 
 impl Round {
-    ghost use Rattle.std.specs.Prelude.{◌≡◌, ◌<◌, ℕ, true, IfOk, IfSome, IsTrue, OnOk};
-    ghost use Rattle.finding.specs.Begun.{Covers, IsBegun, IsGroup, IsLost, IsRound, IsSoon, RoundLost};
-    ghost use Rattle.finding.specs.Search.{IsRefusedHere};
-    ghost use Rattle.spec_machine.specs.View.{state_of};
-    ghost use Rattle.finding.specs.Group.{is_inside};
-    ghost use Rattle.finding.specs.Choice.{IsLeast, IsNextCall, rank_of};
+    ghost use Rattle.std.specs.Prelude.{IfOk, IfSome, IsTrue, OnOk};
+    ghost use Rattle.finding.specs.Begun.{Covers, IsBegun, IsLost, IsRound, RoundLost};
 
     /// Takes an order, unless another stands for it.
     pub(crate) fn take(
@@ -74,7 +72,14 @@ impl Round {
         ensures covers { OnOk result (Covers history.now.recorded self.old self.new) }
         ensures taken { OnOk result (RoundLost history.now.recorded self.new → IsLost history.now.recorded begun) }
     {
-        let stands = has_beginning(alloc, offers, history, self.next.as_slice(), &begun)?;
+        let stands = has_beginning(
+            alloc,
+            offers,
+            history,
+            self.next.as_slice(),
+            &begun,
+            self.unread,
+        )?;
         if stands {
             return Ok(());
         }
@@ -90,75 +95,11 @@ impl Round {
         ensures covers { OnOk result (Covers history.now.recorded self.old self.new) }
         ensures taken { OnOk result (RoundLost history.now.recorded self.new → IsLost history.now.recorded begun) }
     {
-        let stands = has_alike(history, self.lacking.as_slice(), &begun)?;
+        let stands = has_alike(history, self.lacking.as_slice(), &begun, self.unread)?;
         if stands {
             return Ok(());
         }
         self.lacking.push(begun)?;
-        Ok(())
-    }
-
-    /// Takes the order that is longer by a call which is refused here, as it was. That changes nothing, so that nothing else need be tried.
-    fn take_refused(
-        &mut self,
-        alloc: Global,
-        offers: &mut Offers,
-        history: &History,
-        begun: Begun,
-        choice: Choice,
-    ) -> Result<(), AllocError>
-        requires round { IsRound history.now.recorded self.old }
-        requires begun { IsBegun history.now.recorded begun }
-        requires next { IsNextCall history.now.recorded begun.front.counts 0 choice }
-        requires soon { IsSoon history.now.recorded begun choice }
-        requires refused { IsRefusedHere history.now.recorded (state_of begun.machine) choice }
-        ensures round { OnOk result (IsRound history.now.recorded self.new) }
-        ensures covers { OnOk result (Covers history.now.recorded self.old self.new) }
-        ensures taken { OnOk result (RoundLost history.now.recorded self.new → IsLost history.now.recorded begun) }
-    {
-        let line = Line::Keep {
-            cpu: choice.cpu,
-            number: choice.number,
-        };
-        let mut longer = begun;
-        let given = longer.grow(offers, history, choice, &line)?;
-        if given {
-            self.take(alloc, offers, history, longer)?;
-            return Ok(());
-        }
-        Ok(())
-    }
-
-    /// Takes the order that is longer by the call that returned, where no other need come before it.
-    fn take_only(
-        &mut self,
-        alloc: Global,
-        offers: &mut Offers,
-        history: &History,
-        begun: Begun,
-        group: Group,
-    ) -> Result<(), AllocError>
-        requires round { IsRound history.now.recorded self.old }
-        requires begun { IsBegun history.now.recorded begun }
-        requires first { IsNextCall history.now.recorded begun.front.counts 0 group.first }
-        requires least { IsLeast history.now.recorded.events begun.front.counts 0 history.now.recorded.config.cpus (rank_of group.first) }
-        requires returned { rank_of group.first < 1000000 }
-        requires group { IsGroup history.now.recorded begun group.first (is_inside group) }
-        requires alone { (cpu : ℕ) → cpu < 8 → is_inside group cpu ≡ true → cpu ≡ group.first.cpu }
-        ensures round { OnOk result (IsRound history.now.recorded self.new) }
-        ensures covers { OnOk result (Covers history.now.recorded self.old self.new) }
-        ensures taken { OnOk result (RoundLost history.now.recorded self.new → IsLost history.now.recorded begun) }
-    {
-        let line = Line::Keep {
-            cpu: group.first.cpu,
-            number: group.first.number,
-        };
-        let mut longer = begun;
-        let given = longer.grow(offers, history, group.first, &line)?;
-        if given {
-            self.take(alloc, offers, history, longer)?;
-            return Ok(());
-        }
         Ok(())
     }
 
@@ -182,8 +123,8 @@ impl Round {
         if rank(&first) >= PENDING {
             return Ok(false);
         }
-        if let Some(choice) = refused_choice(history, &begun.machine, &begun.front, rank(&first)) {
-            self.take_refused(alloc, offers, history, begun, choice)?;
+        if let Some(choice) = settled_choice(history, &begun, rank(&first), self.unread) {
+            self.take_settled(alloc, offers, history, begun, choice)?;
             return Ok(true);
         }
         let group = group_at(history, &begun, first);
@@ -218,12 +159,14 @@ impl Round {
     {
         let Round {
             place,
+            unread,
             lacking,
             next,
         } = self;
         let mut left = lacking;
         let mut round = Round {
             place,
+            unread,
             lacking: Vec::new(alloc),
             next,
         };
@@ -253,23 +196,22 @@ fn is_up_to(history: &History, begun: &Begun, place: u32) -> bool
     }
 }
 
-/// The orders that lack no call which returned up to the place: where they lead nowhere, those that were kept do. None where there are too
+/// The orders that lack no call which returned up to the round's place: where they lead nowhere, all of the round do. None where there are too
 /// many, or the watch stops it.
 pub(crate) fn next_orders<W: Watch>(
     alloc: Global,
     offers: &mut Offers,
     history: &History,
-    kept: Vec<Begun>,
-    place: u32,
+    first: Round,
     watch: &mut W,
     pace: &mut Pace,
 ) -> Result<Option<Vec<Begun>>, AllocError>
-    requires { AllBegun history.now.recorded kept.items }
+    requires { IsRound history.now.recorded first }
     ensures begun { IfOk result (λ orders. IfSome orders (λ next. AllBegun history.now.recorded next.items)) }
     ensures covers { IfOk result (λ orders. IfSome orders
-        (λ next. AllLost history.now.recorded next.items → AllLost history.now.recorded kept.items)) }
+        (λ next. AllLost history.now.recorded next.items → RoundLost history.now.recorded first)) }
 {
-    let mut round = sorted(alloc, history, kept, place)?;
+    let mut round = first;
     'depths: for _depth in 0..DEPTH {
         if round.lacking.is_empty() {
             return Ok(Some(round.next));
@@ -283,19 +225,22 @@ pub(crate) fn next_orders<W: Watch>(
 }
 
 /// The orders that lack a call which returned up to the place, and the others.
-fn sorted(
+pub(crate) fn sorted(
     alloc: Global,
     history: &History,
     kept: Vec<Begun>,
     place: u32,
+    unread: bool,
 ) -> Result<Round, AllocError>
-    requires { AllBegun history.now.recorded kept.items }
+    requires kept { AllBegun history.now.recorded kept.items }
+    requires unread { IsTrue unread → ReadsNothing history.now.recorded.events }
     ensures round { IfOk result (IsRound history.now.recorded) }
     ensures covers { IfOk result (λ round. RoundLost history.now.recorded round → AllLost history.now.recorded kept.items) }
 {
     let mut left = kept;
     let mut round = Round {
         place,
+        unread,
         lacking: Vec::new(alloc),
         next: Vec::new(alloc),
     };

@@ -10,6 +10,7 @@ use crate::first_part::first_part;
 use crate::forward::{Survey, forward};
 use crate::guided::order_of;
 use crate::offers::Offers;
+use crate::unread::unread;
 use crate::watch::Watch;
 use certificate::Certificate;
 use history::History;
@@ -35,14 +36,31 @@ pub fn orders_before<W: Watch>(
     let Some(part) = first_part(alloc, history, count)? else {
         return Ok(Vec::new(alloc));
     };
+    let orders = kept_orders(alloc, &part, limit, watch)?;
+    first_orders(alloc, history, orders.as_slice(), limit, watch)
+}
+
+/// Orders that are kept of all calls that returned, or of those of the history without readings, where too many would be.
+fn kept_orders<W: Watch>(
+    alloc: Global,
+    history: &History,
+    limit: u64,
+    watch: &mut W,
+) -> Result<Vec<Begun>, AllocError> {
     let mut offers = Offers::none();
-    match forward(alloc, &mut offers, &part, limit, watch)? {
-        Survey::Kept(orders) => first_orders(alloc, history, orders.as_slice(), limit, watch),
+    if let Survey::Kept(orders) = forward(alloc, &mut offers, history, limit / 2, watch)? {
+        return Ok(orders);
+    }
+    let Some(unread) = unread(alloc, history)? else {
+        return Ok(Vec::new(alloc));
+    };
+    match forward(alloc, &mut offers, &unread, limit, watch)? {
+        Survey::Kept(orders) => Ok(orders),
         _ => Ok(Vec::new(alloc)),
     }
 }
 
-/// The lines of the first orders.
+/// The lines of the first orders whose calls are all given their replies: one of the history without readings may have a reading that isn't.
 fn first_orders<W: Watch>(
     alloc: Global,
     history: &History,
@@ -58,6 +76,9 @@ fn first_orders<W: Watch>(
             return Ok(told);
         }
         let lines = order_of(alloc, history, order, limit, watch)?;
+        if lines.len() < order.cpus.len() {
+            continue;
+        }
         told.push(lines)?;
     }
     Ok(told)

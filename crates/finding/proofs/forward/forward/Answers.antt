@@ -22,10 +22,10 @@ returns-then-is_empty g c =
     let same : next.len ≡ length next.items = omega (arith, next.ok.0) in
     let empty : next.len ≡ 0 = eqb-true next.len 0 (sym c.is_empty.ensures ∙ c.if-is_empty.true) in
     c.places.invariant.covers
-    ((rw c.in-Some.is at c.in_ok-next.ensures.covers) (λ k d within. absurd (omega (arith, within, same, empty))))
+    (c.in_ok-round.ensures.covers ((rw c.in-Some.is at c.in_ok-next.ensures.covers) (λ k d within. absurd (omega (arith, within, same, empty)))))
 
 pub places-preserved : goal.places-preserved
 places-preserved g c = record {
   begun = rw c.in-Some.is at c.in_ok-next.ensures.begun;
-  covers = λ lost. c.places.invariant.covers ((rw c.in-Some.is at c.in_ok-next.ensures.covers) lost);
+  covers = λ lost. c.places.invariant.covers (c.in_ok-round.ensures.covers ((rw c.in-Some.is at c.in_ok-next.ensures.covers) lost));
 }

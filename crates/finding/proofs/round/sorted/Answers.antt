@@ -10,7 +10,7 @@ orders-preserved-in-Continue-1 c =
     let begun = c.in-Some.begun in
     let popped = AllBegun-pop history c.orders.left.items c.pop.new.self.items begun c.in-Some.ensures.items c.orders.invariant.left in
     record {
-      round = IsRound-next history old _ begun refl c.in_ok-push.ensures.items c.orders.invariant.round popped.1;
+      round = IsRound-next history old _ begun refl c.in_ok-push.ensures.items refl c.orders.invariant.round popped.1;
       left = popped.0;
       covers = λ lost left.
           c.orders.invariant.covers (Covers-next history old _ begun refl c.in_ok-push.ensures.items lost)
@@ -25,7 +25,7 @@ orders-preserved c =
     let begun = c.in-Some.begun in
     let popped = AllBegun-pop history c.orders.left.items c.pop.new.self.items begun c.in-Some.ensures.items c.orders.invariant.left in
     record {
-      round = IsRound-lacking history old _ begun c.in_ok-push-2.ensures.items refl c.orders.invariant.round popped.1;
+      round = IsRound-lacking history old _ begun c.in_ok-push-2.ensures.items refl refl c.orders.invariant.round popped.1;
       left = popped.0;
       covers = λ lost left.
           c.orders.invariant.covers (Covers-lacking history old _ begun c.in_ok-push-2.ensures.items refl lost)

@@ -6,7 +6,11 @@ use Rattle.finding.proofs.round.Round.deeper.Goals as goal
 
 pub orders-init : goal.orders-init
 orders-init g c = record {
-  round = record { lacking = rw c.new.ensures.items (All-nil (IsBegun c.args.history.now.recorded)); next = c.requires.next };
+  round = record {
+    unread = c.requires.unread;
+    lacking = rw c.new.ensures.items (All-nil (IsBegun c.args.history.now.recorded));
+    next = c.requires.next;
+  };
   left = c.requires.lacking;
   covers = λ lost left. record { lacking = left; next = lost.next };
 }

@@ -9,8 +9,8 @@ take_only-requires-clause-returned c = rw c.group_at-group.ensures.first (omega 
 pub take_group-requires-clause-returned : goal.take_group-requires-clause-returned
 take_group-requires-clause-returned c = rw c.group_at-group.ensures.first (omega (arith, c.rank.ensures.rank, c.if-rank-ge-PENDING.false))
 
-pub take_refused-requires-clause-soon : goal.take_refused-requires-clause-soon
-take_refused-requires-clause-soon c =
+pub take_settled-requires-clause-soon : goal.take_settled-requires-clause-soon
+take_settled-requires-clause-soon c =
     IsSoon-called c.args.history.now.recorded c.requires.begun.front.is_history c.args.begun c.in-Some.first c.in-Some.ensures.least 0
-    c.in-Some-refused_choice.choice c.in-Some-refused_choice.ensures.next
-    (rw c.rank-2.ensures.rank at c.in-Some-refused_choice.ensures.bound)
+    c.in-Some-settled_choice.choice c.in-Some-settled_choice.ensures.next
+    (rw c.rank-2.ensures.rank at c.in-Some-settled_choice.ensures.bound)

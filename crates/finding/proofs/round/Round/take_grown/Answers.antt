@@ -1,0 +1,19 @@
+-- The machine gives the reply or refuses it.
+use Rattle.finding.proofs.round.Round.take_grown.Goals as goal
+
+pub take-requires-clause-begun : goal.take-requires-clause-begun
+take-requires-clause-begun c = (rw c.if-given.true at c.in_ok-given.ensures).begun
+
+pub returns-then-given : goal.returns-then-given
+returns-then-given c =
+    let grown = rw c.if-given.true at c.in_ok-given.ensures in
+    record {
+      round = c.in_ok-take.ensures.round;
+      covers = c.in_ok-take.ensures.covers;
+      taken = λ lost lines holds. grown.behind lines holds (c.in_ok-take.ensures.taken lost);
+    }
+
+pub returns : goal.returns
+returns c =
+    let stays = rw c.if-given.false at c.in_ok-given.ensures in
+    record { round = c.requires.round; covers = λ lost. lost; taken = λ lost. stays.refused }

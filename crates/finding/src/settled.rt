@@ -1,0 +1,87 @@
+//! Calls that may come next at once, since they change nothing that is looked at.
+
+ghost use Rattle.std.specs.Prelude.{◌≡◌, ◌≤◌, IfSome, IsTrue};
+ghost use Rattle.history.specs.Calls.{ArePlacesOf};
+ghost use Rattle.rmi_view.specs.Seen.{command_seen};
+ghost use Rattle.spec_machine.specs.View.{state_of};
+ghost use Rattle.verdict_laws.specs.Unread.{ReadsNothing, is_extending};
+ghost use Rattle.finding.specs.Choice.{IsNextCall};
+ghost use Rattle.finding.specs.Front.{IsFront};
+ghost use Rattle.finding.specs.Settled.{IsExtendedHere, IsSettledHere};
+
+use crate::begun::Begun;
+use crate::choice::{Choice, cpus_of};
+use crate::refused::refused_choice;
+use history::History;
+use rmi_view::CommandRef;
+use rmm_spec::{Accepted, FunctionId, Reply};
+
+/// A CPU's next call that was made by the bound and has returned, with the refusal that the specification gives it here or, where no measurement
+/// is read, as an extension of one with its reply.
+pub(crate) fn settled_choice(
+    history: &History,
+    begun: &Begun,
+    bound: u32,
+    unread: bool,
+) -> Option<Choice>
+    requires front { IsFront history.now.recorded begun.now.front }
+    requires unread { IsTrue unread → ReadsNothing history.now.recorded.events }
+    ensures next { IfSome result (IsNextCall history.now.recorded begun.now.front.counts 0) }
+    ensures bound { IfSome result (λ choice. choice.places.called ≤ bound) }
+    ensures settled { IfSome result (IsSettledHere history.now.recorded (state_of begun.now.machine)) }
+{
+    match refused_choice(history, &begun.machine, &begun.front, bound) {
+        Some(choice) => Some(choice),
+        None if unread => extended_choice(history, begun, bound),
+        None => None,
+    }
+}
+
+/// The first CPU's next call that was made by the bound, and has returned as an extension of a measurement that is given here.
+fn extended_choice(history: &History, begun: &Begun, bound: u32) -> Option<Choice>
+    requires front { IsFront history.now.recorded begun.now.front }
+    requires unread { ReadsNothing history.now.recorded.events }
+    ensures next { IfSome result (IsNextCall history.now.recorded begun.now.front.counts 0) }
+    ensures bound { IfSome result (λ choice. choice.places.called ≤ bound) }
+    ensures extended { IfSome result (IsExtendedHere history.now.recorded (state_of begun.now.machine)) }
+{
+    for cpu in 0..cpus_of(history) {
+        let Some(choice) = begun.front.next(history, cpu) else {
+            continue;
+        };
+        if choice.places.called <= bound && is_extended(history, begun, choice) {
+            return Some(choice);
+        }
+    }
+    None
+}
+
+fn is_extending(command: CommandRef<'_>) -> bool
+    ensures { result ≡ is_extending (command_seen command.entry) }
+{
+    matches!(command.function, FunctionId::MeasurementExtend)
+}
+
+/// Whether the call has returned as an extension of a measurement that is given here.
+fn is_extended(history: &History, begun: &Begun, choice: Choice) -> bool
+    requires places { ArePlacesOf history.now.recorded.events choice.cpu choice.number choice.places }
+    requires unread { ReadsNothing history.now.recorded.events }
+    ensures { IsTrue result → IsExtendedHere history.now.recorded (state_of begun.now.machine) choice }
+{
+    let Some(returned) = choice.places.returned else {
+        return false;
+    };
+    let Some(command) = history.command_at(choice.places.called as usize) else {
+        unreachable!()
+    };
+    if !is_extending(command) {
+        return false;
+    }
+    let Some(reply) = history.reply_at(returned as usize) else {
+        unreachable!()
+    };
+    match begun.machine.outcome(choice.cpu, &command.to_command()) {
+        Ok(Accepted::Done { words, .. }) => reply.is(&Reply::Ok(words)),
+        _ => false,
+    }
+}
