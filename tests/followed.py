@@ -3,7 +3,7 @@
 
 usage: followed.py [--find PATH] [SEED]
 
-Of a history of 1,000 lines with one reply changed in the middle (`parallel` of bench/others.py) `gave up` has to come once the seconds
+Of a history of 1,000 lines with another reading of a measurement in the middle (`recs` of bench/others.py) `gave up` has to come once the seconds
 have passed, and of its report no later than once more as many. Where standard error is a terminal, lines there have to tell how far the search is,
 the last of them erased; where it is a pipe, nothing. It stops at the first answer that is another, or that comes at another time.
 """
@@ -18,7 +18,7 @@ import tempfile
 import time
 
 from places import built
-from others import changed_at, lines_of
+from others import MEASUREMENT_READ, lines_of
 
 LINES = 1000
 LATE = 1.5
@@ -48,13 +48,25 @@ def expect(holds, what, *values):
         sys.exit(f"{what}: {values}")
 
 
+def read_otherwise(history, place):
+    """The history with another word in the first reading that returns at the place or after it."""
+    calls = [line.split() for line in history if line.startswith("c ")]
+    reads = {(cpu, number) for _, cpu, number, function, *_ in calls if function == MEASUREMENT_READ}
+    for at in range(place, len(history)):
+        kind, cpu, number, *reply = history[at].split()
+        if kind == "r" and (cpu, number) in reads and reply[0] == "ok":
+            other = " ".join([kind, cpu, number, "ok", f"{int(reply[1], 16) ^ 1:x}", *reply[2:]])
+            return [*history[:at], other, *history[at + 1:]]
+    raise ValueError("no reading returns there")
+
+
 def main():
     parser = argparse.ArgumentParser(usage=__doc__)
     parser.add_argument("--find", default=built("rmmfind"))
     parser.add_argument("seed", type=int, nargs="?", default=1)
     words = parser.parse_args()
     draw = random.Random(words.seed)
-    history = changed_at(lines_of("parallel", LINES, draw), LINES // 2, draw)
+    history = read_otherwise(lines_of("recs", LINES, draw), LINES // 2)
     with tempfile.NamedTemporaryFile("w", encoding="ascii", newline="\n", suffix=".history") as file:
         file.write("".join(f"{line}\n" for line in history))
         file.flush()
