@@ -91,6 +91,14 @@ impl Columns {
         !are_like(&self.kinds, first) && are_unlike(&self.kinds, first)
     }
 
+    /// Whether the entries are the same, told by the columns.
+    pub fn is_same(&self, other: &Self) -> bool
+        ensures { IsTrue result → self.now ≡ other.now }
+    {
+        same_kinds(&self.kinds, &other.kinds)
+            && self.addresses.as_slice() == other.addresses.as_slice()
+    }
+
     /// Changes the RIPAS of the entries from `from` up to but not `to`, of those that have one.
     pub fn set_ripas(&mut self, from: usize, to: usize, ripas: Ripas)
         requires order { from ≤ to }
@@ -132,6 +140,17 @@ fn fill(kinds: &mut [Kind], kind: Kind)
     for old in kinds.iter_mut() {
         *old = kind;
     }
+}
+
+// Whether all kinds are the same. It looks at all of them too.
+fn same_kinds(one: &[Kind; ENTRIES], other: &[Kind; ENTRIES]) -> bool
+    ensures { IsTrue result → one.now ≡ other.now }
+{
+    let mut same = true;
+    for index in 0..ENTRIES {
+        same &= one[index] == other[index];
+    }
+    same
 }
 
 // Whether each entry is of the given kind. It looks at all of them, so that many are compared at a time.

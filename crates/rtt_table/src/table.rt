@@ -139,6 +139,14 @@ impl Table {
         true
     }
 
+    /// Whether the other has the same entries at the same place.
+    pub fn is_same(&self, other: &Self) -> bool
+        ensures { IsTrue result → self.now ≡ other.now }
+    {
+        same_place(self.body.place, other.body.place)
+            && self.body.columns.is_same(&other.body.columns)
+    }
+
     /// Changes the RIPAS of the entries from `from` up to but not `to`, of those that have one.
     pub fn set_ripas(&mut self, from: usize, to: usize, ripas: Ripas)
         requires order { from ≤ to }
@@ -147,6 +155,15 @@ impl Table {
     {
         self.body.columns.set_ripas(from, to, ripas);
     }
+}
+
+fn same_place(one: Place, other: Place) -> bool
+    ensures { IsTrue result → one ≡ other }
+{
+    one.rd == other.rd
+        && one.level == other.level
+        && one.base == other.base
+        && one.width == other.width
 }
 
 // A count after one entry went and another came.

@@ -10,11 +10,7 @@ use granule_cells::Cell;
 use measure::Rem;
 use memory_map::Config;
 use realm_desc::{HashAlgorithm, PendingExit, Realm, Rec, RipasRequest, Space};
-use rmm_spec::{Measurement, Place, Version};
-use rtt_table::Table;
-
-/// How many entries a table has.
-const ENTRIES: usize = 512;
+use rmm_spec::{Measurement, Version};
 
 /// Whether two machines have the same size and rules.
 pub(crate) fn same_config(one: &Config, other: &Config) -> bool
@@ -67,7 +63,7 @@ pub(crate) fn same_cell(one: CellView<'_>, other: CellView<'_>) -> bool
             _ => false,
         },
         CellView::Rtt(table) => match other {
-            CellView::Rtt(second) => same_table(table, second),
+            CellView::Rtt(second) => table.is_same(second),
             _ => false,
         },
     }
@@ -190,32 +186,4 @@ fn same_exit(one: Option<PendingExit>, other: Option<PendingExit>) -> bool
         (Some(PendingExit::HostCall(one)), Some(PendingExit::HostCall(other))) => one == other,
         _ => false,
     }
-}
-
-fn same_table(one: &Table, other: &Table) -> bool
-    ensures { IsTrue result → one.now ≡ other.now }
-{
-    same_place(one.place(), other.place()) && have_same_entries(one, other)
-}
-
-fn same_place(one: Place, other: Place) -> bool
-    ensures { IsTrue result → one ≡ other }
-{
-    one.rd == other.rd
-        && one.level == other.level
-        && one.base == other.base
-        && one.width == other.width
-}
-
-fn have_same_entries(one: &Table, other: &Table) -> bool
-    ensures { IsTrue result → one.now.entries ≡ other.now.entries }
-{
-    let _fact = one.is_whole();
-    let _fact = other.is_whole();
-    for index in 0..ENTRIES {
-        if one.entry(index) != other.entry(index) {
-            return false;
-        }
-    }
-    true
 }
