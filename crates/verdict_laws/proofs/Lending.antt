@@ -1,6 +1,7 @@
--- A call that lends a granule or takes it back, and a call that is apart from the granule, come either way round.
-use Rattle.std.proofs.Common.{◌≡◌, ℕ, ◌==◌, Bool, true, false, not, ◌&&◌, if◌then◌else◌, [], Some, None, refl, sym, ◌∙◌, subst}
+-- A call that lends a granule or takes it back, and a call that neither names the granule nor gives it back, come either way round.
+use Rattle.std.proofs.Common.{◌≡◌, ℕ, ◌==◌, Bool, true, false, not, ◌&&◌, if◌then◌else◌, [], inl, inr, Some, None, refl, sym, ◌∙◌, ap, subst}
 use Rattle.std.specs.Prelude.{Result, Ok, Err}
+use Rattle.std.proofs.lemmas.Bool.{and_parts, not-true}
 use Rattle.std.proofs.lemmas.Option.{same_Some}
 use Rattle.rmm_spec.specs.declared.accepted.Accepted.{Accepted}
 use Rattle.rmm_spec.specs.declared.call.Call.{Call}
@@ -18,12 +19,18 @@ use Rattle.rmm_spec.specs.Change.{changed}
 use Rattle.rmm_spec.specs.State.{State}
 use Rattle.rmm_spec.specs.Update.{with_tag}
 use Rattle.rmm_spec.specs.Sound.{IsSound}
+use Rattle.rmm_spec.specs.Locks.{is_named}
+use Rattle.rmm_spec.specs.Ownership.{is_accepted}
 use Rattle.rmm_spec.specs.Lookup.{has_tag, tag_number, is_granule, is_inside}
 use Rattle.rmm_spec.specs.Rows.{done}
 use Rattle.rmm_spec.specs.Step.{CarriesOut, Step, outcome, answer_of, commands}
 use Rattle.rmm_spec.specs.Step.Terms.{class_of, named, words_of}
-use Rattle.verdict_laws.specs.Apart.{lent, is_apart_from}
-use Rattle.verdict_laws.proofs.SparedCalls.{Leaves, step_leaves, step_swapped}
+use Rattle.lemmas.proofs.Tests.{both_ways}
+use Rattle.spec_lemmas.proofs.TagLaws.{tag-has_tag}
+use Rattle.rmm_laws.proofs.RowLaws.{refusal-refuses}
+use Rattle.rmm_laws.proofs.Ties.{IsUnused}
+use Rattle.verdict_laws.specs.Apart.{frees_unnamed, is_apart_from, lent}
+use Rattle.verdict_laws.proofs.SparedCalls.{FreesOthers, Leaves, step_leaves, step_swapped}
 
 -- what a lending leads to, by whether the CPU is inside of a REC, and whether the granule has the tag that is needed
 abbrev lending_found : Bool → Bool → ℕ → Tag → Result Accepted Refusal
@@ -34,6 +41,7 @@ lending_found inside has granule tag =
 -- A call that lends the granule: the tag that it needs, the tag that it puts, and what it leads to in each state.
 record IsLending (granule : ℕ) (c : Call) : Type 0 where
   needed : Tag
+  unused : IsUnused needed
   put : Tag
   found : (s : State) (cpu : ℕ) → outcome s cpu c ≡ lending_found (is_inside s cpu) (has_tag s granule needed) granule put
 
@@ -42,11 +50,13 @@ IsLending-from_lent : (granule : ℕ) (c : Call) → lent c ≡ Some granule →
 unfolding lent outcome answer_of commands class_of words_of named
 IsLending-from_lent granule (call.GranuleDelegate g) lends = record {
   needed = Undelegated;
+  unused = inl refl;
   put = Delegated;
   found = λ s cpu. rw (← same_Some g granule lends) refl;
 }
 IsLending-from_lent granule (call.GranuleUndelegate g) lends = record {
   needed = Delegated;
+  unused = inr refl;
   put = Undelegated;
   found = λ s cpu. rw (← same_Some g granule lends) refl;
 }
@@ -61,8 +71,30 @@ lending_same granule cpu c s t lending leaves =
     granule lending.put)
     ∙ sym (lending.found s cpu)
 
+-- a lending that is refused isn't carried out
+refused_undone : {A : Type 0} (s new : State) (given : Reply) (refused : Refusal) → is_accepted given ≡ true
+    → CarriesOut (Err refused) s given new → A
+refused_undone s new given refused accepted carried = both_ways (sym (ap is_accepted carried.0) ∙ accepted) (refusal-refuses refused)
+
+-- where a lending is carried out, the granule was unused
+lent_unused : (s new : State) (cpu granule : ℕ) (c : Call) (given : Reply) → lent c ≡ Some granule → is_accepted given ≡ true
+    → CarriesOut (outcome s cpu c) s given new → IsUnused (s.tag granule)
+lent_unused s new cpu granule c given lends accepted carried =
+    by (is_inside s cpu) (has_tag s granule lending.needed) refl
+    (subst (λ (r : Result Accepted Refusal). CarriesOut r s given new) (lending.found s cpu) carried)
+  where
+    lending : IsLending granule c
+    lending = IsLending-from_lent granule c lends
+
+    by : (inside has : Bool) → has_tag s granule lending.needed ≡ has → CarriesOut (lending_found inside has granule lending.put) s given new
+        → IsUnused (s.tag granule)
+    by true has is carried = refused_undone s new given (Misplaced OwnOutside) accepted carried
+    by false true is carried = subst IsUnused (sym (tag-has_tag s granule lending.needed is)) lending.unused
+    by false false is carried = refused_undone s new given (Input GranState) accepted carried
+
 module _ (old middle new : State) (cpu other : ℕ) (one two : Command) (given answered : Reply) (granule : ℕ)
-    (sound : IsSound old) (differ : ¬ (cpu ≡ other)) (lends : lent (call_of one) ≡ Some granule) (apart : is_apart_from (call_of two) granule ≡ true)
+    (sound : IsSound old) (differ : ¬ (cpu ≡ other)) (lends : lent (call_of one) ≡ Some granule)
+    (unnamed : is_named (named (call_of two)) granule ≡ false) (frees : FreesOthers old granule (call_of two))
     (first : Step old cpu one given middle) (second : Step middle other two answered new) where
   -- what the lending leads to, it leads to behind the other call
   again : (between : State) → Step old other two answered between
@@ -70,7 +102,7 @@ module _ (old middle new : State) (cpu other : ℕ) (one two : Command) (given a
   again between earlier carried =
       subst (λ (r : Result Accepted Refusal). CarriesOut r between given new)
       (sym (lending_same granule cpu (call_of one) old between (IsLending-from_lent granule (call_of one) lends)
-      (step_leaves old granule cpu other sound differ two answered between apart earlier))) carried
+      (step_leaves old granule cpu other sound differ two answered between unnamed frees earlier))) carried
 
   -- where it is refused
   refused_turned : (refused : Refusal) → outcome old cpu (call_of one) ≡ Err refused
@@ -92,7 +124,7 @@ module _ (old middle new : State) (cpu other : ℕ) (one two : Command) (given a
       let carried : CarriesOut found old given middle = subst (λ (r : Result Accepted Refusal). CarriesOut r old given middle) is first in
       let later : Step (with_tag old granule tag) other two answered new =
       subst (λ (s : State). Step s other two answered new) carried.1 second in
-      let parts = step_swapped old granule cpu other sound differ two tag answered new apart later in (
+      let parts = step_swapped old granule cpu other sound differ two tag answered new unnamed frees later in (
         parts.0,
         parts.1,
         again parts.0 parts.1 (subst (λ (r : Result Accepted Refusal). CarriesOut r parts.0 given new) (sym is) (carried.0, parts.2)),
@@ -106,7 +138,27 @@ module _ (old middle new : State) (cpu other : ℕ) (one two : Command) (given a
   turned_by false false tag is = refused_turned (Input GranState) is
 
   -- both come the other way round
-  pub lending_turned : (between : State) × Step old other two answered between × Step between cpu one given new
-  lending_turned =
+  turned : (between : State) × Step old other two answered between × Step between cpu one given new
+  turned =
       let lending = IsLending-from_lent granule (call_of one) lends in
       turned_by (is_inside old cpu) (has_tag old granule lending.needed) lending.put (lending.found old cpu)
+
+-- where the other call is apart from the granule
+pub lending_turned : (old middle new : State) (cpu other : ℕ) (one two : Command) (given answered : Reply) (granule : ℕ)
+    → IsSound old → ¬ (cpu ≡ other) → lent (call_of one) ≡ Some granule → is_apart_from (call_of two) granule ≡ true
+    → Step old cpu one given middle → Step middle other two answered new
+    → (between : State) × Step old other two answered between × Step between cpu one given new
+lending_turned old middle new cpu other one two given answered granule sound differ lends apart =
+    let names = is_named (named (call_of two)) granule in
+    let parts = and_parts (not names) (not (frees_unnamed (call_of two))) apart in
+    turned old middle new cpu other one two given answered granule sound differ lends
+    (not-true names parts.0) (inl (not-true (frees_unnamed (call_of two)) parts.1))
+
+-- where the lending is carried out, and the other call doesn't name the granule
+pub done_lending_turned : (old middle new : State) (cpu other : ℕ) (one two : Command) (given answered : Reply) (granule : ℕ)
+    → IsSound old → ¬ (cpu ≡ other) → lent (call_of one) ≡ Some granule → is_accepted given ≡ true
+    → is_named (named (call_of two)) granule ≡ false → Step old cpu one given middle → Step middle other two answered new
+    → (between : State) × Step old other two answered between × Step between cpu one given new
+done_lending_turned old middle new cpu other one two given answered granule sound differ lends accepted unnamed first second =
+    turned old middle new cpu other one two given answered granule sound differ lends unnamed
+    (inr (lent_unused old middle cpu granule (call_of one) given lends accepted first)) first second

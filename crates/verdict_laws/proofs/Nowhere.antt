@@ -21,7 +21,7 @@ pub none-from_nowhere : (history : History) (lines : List Line) → LeadsNowhere
 none-from_nowhere history lines nowhere = nowhere.none lines
 
 -- the line stands behind the lines, whatever follows
-line_stands : (lines : List Line) (line : Line) (more : List Line) → slice_get ((lines ++ line ∷ []) ++ more) (length lines) ≡ Some line
+pub line_stands : (lines : List Line) (line : Line) (more : List Line) → slice_get ((lines ++ line ∷ []) ++ more) (length lines) ≡ Some line
 line_stands lines line more = slice_get-append (lines ++ line ∷ []) more (length lines) line (slice_get-push lines line)
 
 -- the lines come before it

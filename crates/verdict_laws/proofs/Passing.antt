@@ -1,4 +1,4 @@
--- A line whose call lends a granule or takes it back passes a line whose call is apart from the granule.
+-- Lines pass each other whose calls have nothing to do with each other.
 use Rattle.std.proofs.Common.{◌≡◌, ℕ, List, [], ◌∷◌, ◌++◌, refl, sym, ◌∙◌, subst}
 use Rattle.lemmas.proofs.Tests.{keys_apart}
 use Rattle.rmm_spec.specs.declared.event.Event.{Event}
@@ -8,13 +8,15 @@ use Rattle.rmm_spec.specs.State.{State, opening}
 use Rattle.rmm_spec.specs.Sound.{IsSound}
 use Rattle.rmm_spec.specs.Step.{Step}
 use Rattle.rmm_spec.specs.Run.{JournalEntry, IsRun}
-use Rattle.rmm_spec.specs.Linearization.{AreEntriesOf, cpu_named}
+use Rattle.rmm_spec.specs.Linearization.{AreEntriesOf, IsEntryOf, cpu_named}
 use Rattle.rmm_laws.proofs.RunLaws.{run-append}
 use Rattle.rmm_laws.proofs.Runs.{opened_run_sound}
-use Rattle.verdict_laws.specs.Apart.{Lends, IsApart}
+use Rattle.verdict_laws.specs.Apart.{Lends, IsApart, IsCarriedOut, NamesOthers}
 use Rattle.verdict_laws.specs.Forward.{AreOpen, Gives, IsKept, Passes}
+use Rattle.verdict_laws.specs.Separate.{AreSeparateLines}
 use Rattle.verdict_laws.proofs.Counted.{count_of-none}
-use Rattle.verdict_laws.proofs.Lending.{lending_turned}
+use Rattle.verdict_laws.proofs.Lending.{done_lending_turned, lending_turned}
+use Rattle.verdict_laws.proofs.SeparateCalls.{separate_turned}
 
 -- open calls are of CPUs of their own
 open_apart : (events : List Event) (place : ℕ) (lines before : List Line) (line other : Line)
@@ -31,29 +33,65 @@ given_sound history place lines before state old kept given =
     opened_run_sound history.config (passes.entries ++ given.entries) old
     (run-append passes.entries given.entries (opening history.config) state old passes.run.run given.run)
 
--- so the two commits of the lines come the other way round
-pub Passes-from_lending : (history : History) (place : ℕ) (lines : List Line) (state : State) (line other : Line) (granule : ℕ)
-    → IsKept history place lines state → Lends history.events line granule → IsApart history.events other granule
-    → Passes history place lines state line other
-Passes-from_lending history place lines state line other granule kept lends apart before old new are_open earlier given =
-    turned given.entries given.claimed given.run
+-- two commits come the other way round where their steps do
+gives_turned : (events : List Event) (line other : Line) (old new : State)
+    → ((e f : JournalEntry) (middle : State) → IsEntryOf events line e → IsEntryOf events other f
+    → Step old e.cpu e.command e.given middle → Step middle f.cpu f.command f.given new
+    → (between : State) × Step old f.cpu f.command f.given between × Step between e.cpu e.command e.given new)
+    → Gives events old (line ∷ other ∷ []) new → Gives events old (other ∷ line ∷ []) new
+gives_turned events line other old new exchange given = turned given.entries given.claimed given.run
   where
-    turned : (entries : List JournalEntry) → AreEntriesOf history.events (line ∷ other ∷ []) entries → IsRun old entries new
-        → Gives history.events old (other ∷ line ∷ []) new
+    turned : (entries : List JournalEntry) → AreEntriesOf events (line ∷ other ∷ []) entries → IsRun old entries new
+        → Gives events old (other ∷ line ∷ []) new
     turned [] claimed run = absurd claimed
     turned (e ∷ []) claimed run = absurd claimed.1
     turned (e ∷ f ∷ g ∷ more) claimed run = absurd claimed.1.1
     turned (e ∷ f ∷ []) claimed run =
-        let one = claimed.0 in
-        let two = claimed.1.0 in
         let second : Step run.0 f.cpu f.command f.given new =
         subst (λ (s : State). Step run.0 f.cpu f.command f.given s) (sym run.2.2) run.2.1 in
-        let parts = lending_turned old run.0 new e.cpu f.cpu e.command f.command e.given f.given granule
-        (given_sound history place lines before state old kept earlier)
-        (λ same. open_apart history.events place lines before line other are_open (sym one.cpu ∙ same ∙ two.cpu))
-        (lends one.called e.command one.is_called) (apart two.called f.command two.is_called) run.1 second in
+        let parts = exchange e f run.0 claimed.0 claimed.1.0 run.1 second in
         record {
           entries = f ∷ e ∷ [];
-          claimed = (two, (one, tt));
+          claimed = (claimed.1.0, (claimed.0, tt));
           run = (parts.0, parts.1, (new, parts.2, refl));
         }
+
+-- a line passes another where their steps on two CPUs, from a sound state, come the other way round
+Passes-from_exchange : (history : History) (place : ℕ) (lines : List Line) (state : State) (line other : Line)
+    → IsKept history place lines state
+    → ((e f : JournalEntry) (old middle new : State) → IsEntryOf history.events line e → IsEntryOf history.events other f
+    → IsSound old → ¬ (e.cpu ≡ f.cpu) → Step old e.cpu e.command e.given middle → Step middle f.cpu f.command f.given new
+    → (between : State) × Step old f.cpu f.command f.given between × Step between e.cpu e.command e.given new)
+    → Passes history place lines state line other
+Passes-from_exchange history place lines state line other kept exchange before old new are_open earlier given =
+    gives_turned history.events line other old new
+    (λ e f middle one two. exchange e f old middle new one two (given_sound history place lines before state old kept earlier)
+    (λ same. open_apart history.events place lines before line other are_open (sym one.cpu ∙ same ∙ two.cpu)))
+    given
+
+-- a line whose call lends a granule or takes it back passes one whose call is apart from the granule
+pub Passes-from_lending : (history : History) (place : ℕ) (lines : List Line) (state : State) (line other : Line) (granule : ℕ)
+    → IsKept history place lines state → Lends history.events line granule → IsApart history.events other granule
+    → Passes history place lines state line other
+Passes-from_lending history place lines state line other granule kept lends apart =
+    Passes-from_exchange history place lines state line other kept
+    (λ e f old middle new one two sound differ. lending_turned old middle new e.cpu f.cpu e.command f.command e.given f.given granule
+    sound differ (lends one.called e.command one.is_called) (apart two.called f.command two.is_called))
+
+-- where it is carried out, it passes one whose call doesn't name the granule
+pub Passes-from_done_lending : (history : History) (place : ℕ) (lines : List Line) (state : State) (line other : Line) (granule : ℕ)
+    → IsKept history place lines state → Lends history.events line granule → IsCarriedOut history.events line
+    → NamesOthers history.events other granule → Passes history place lines state line other
+Passes-from_done_lending history place lines state line other granule kept lends done others =
+    Passes-from_exchange history place lines state line other kept
+    (λ e f old middle new one two sound differ. done_lending_turned old middle new e.cpu f.cpu e.command f.command e.given f.given granule
+    sound differ (lends one.called e.command one.is_called) (done e.given one.given) (others two.called f.command two.is_called))
+
+-- so does one whose call is separate from the other's
+pub Passes-from_separate : (history : History) (place : ℕ) (lines : List Line) (state : State) (line other : Line)
+    → AreSeparateLines history.events line other → Passes history place lines state line other
+Passes-from_separate history place lines state line other separate before old new are_open earlier given =
+    gives_turned history.events line other old new
+    (λ e f middle one two first second. separate_turned old middle new e.cpu f.cpu e.command f.command e.given f.given
+    (separate one.called two.called e.command f.command e.given f.given one.is_called one.given two.is_called two.given) first second)
+    given

@@ -90,7 +90,7 @@ refusal_keeps (Ok (accepted.Done words change)) old new given refused carried = 
 refusal_keeps (Ok (accepted.Reaches stretch)) old new given refused carried = absurd (subst IsRefusal carried.1.1 refused)
 
 -- a commit that changes nothing may be left out of a run
-run-without : (front back : List JournalEntry) (entry : JournalEntry) (start last : State)
+pub run-without : (front back : List JournalEntry) (entry : JournalEntry) (start last : State)
     → ((old new : State) → Step old entry.cpu entry.command entry.given new → new ≡ old)
     → IsRun start (front ++ entry ∷ back) last → IsRun start (front ++ back) last
 run-without [] back entry start last keeps run = subst (λ (s : State). IsRun s back last) (keeps start run.0 run.1) run.2

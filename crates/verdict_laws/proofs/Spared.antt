@@ -10,9 +10,9 @@ use Rattle.rmm_spec.specs.declared.change.RealmUpdate.TheVariants as realm_updat
 use Rattle.rmm_spec.specs.declared.change.RecChange.{RecChange}
 use Rattle.rmm_spec.specs.declared.change.TagChange.{TagChange}
 use Rattle.rmm_spec.specs.declared.tag.Tag.{Tag}
-use Rattle.rmm_spec.specs.declared.tag.Tag.TheVariants.{Rd, Rec, RecAux, Rtt}
+use Rattle.rmm_spec.specs.declared.tag.Tag.TheVariants.{Delegated, Rd, Rec, RecAux, Rtt}
 use Rattle.rmm_spec.specs.State.{State, RecRecord}
-use Rattle.rmm_spec.specs.Update.{with_tag, with_realm, with_root, with_rec, with_table}
+use Rattle.rmm_spec.specs.Update.{with_tag, with_realm, without_realm, with_root, with_rec, without_rec, with_table, without_table}
 use Rattle.rmm_spec.specs.Change.{changed, new_realm, new_rec, realm_updated, rec_updated, with_tag_change, with_realm_change, with_rec_change, with_entry_change}
 use Rattle.rmm_spec.specs.Lookup.{any_below, is_cpu, runs_on, is_inside, no_rec, realm_at, rec_at}
 use Rattle.lemmas.proofs.Tests.{both_ways}
@@ -31,18 +31,19 @@ SparesRec recs cpu None = Unit {0}
 SparesRec recs cpu (Some change) =
     let old = unwrap_or (recs change.rec) no_rec in is_cpu cpu (rec_updated change.update old).cpu ≡ is_cpu cpu old.cpu
 
--- The tag of the granule isn't put, and no REC comes to run on the CPU or leaves it. Kinds that free what isn't named spare nothing.
+-- the tag of the granule isn't put, and no REC comes to run on the CPU or leaves it
 abbrev pub Spares : State → ℕ → ℕ → Change → Type 0
 Spares s granule cpu Unchanged = Unit {0}
 Spares s granule cpu (Retagged change) = (change.granule == granule) ≡ false
 Spares s granule cpu (RealmMade rd root width level vmid algo) = ((rd == granule) ≡ false) × ((root == granule) ≡ false)
-Spares s granule cpu (RealmDestroyed rd root) = ⊥
+Spares s granule cpu (RealmDestroyed rd root) = ((rd == granule) ≡ false) × ((root == granule) ≡ false)
 Spares s granule cpu (RecMade rd rec mpidr flags aux0 aux1) =
     ((rec == granule) ≡ false) × ((aux0 == granule) ≡ false) × ((aux1 == granule) ≡ false) × (runs_on cpu (s.rec rec) ≡ false)
-Spares s granule cpu (RecDestroyed rec aux0 aux1) = ⊥
+Spares s granule cpu (RecDestroyed rec aux0 aux1) =
+    ((rec == granule) ≡ false) × ((aux0 == granule) ≡ false) × ((aux1 == granule) ≡ false) × (runs_on cpu (s.rec rec) ≡ false)
 Spares s granule cpu (RecordsChanged realm rec) = SparesRec s.rec cpu rec
 Spares s granule cpu (TableMade rd level number rtt entry) = (rtt == granule) ≡ false
-Spares s granule cpu (TableDestroyed rd level number rtt entry) = ⊥
+Spares s granule cpu (TableDestroyed rd level number rtt entry) = (rtt == granule) ≡ false
 Spares s granule cpu (EntriesChanged rd level entries page realm rec) = SparesTag granule page × SparesRec s.rec cpu rec
 
 -- ---- the granule's tag may be put before the change or behind it
@@ -60,6 +61,13 @@ with_tag-swapped : (s : State) (granule other : ℕ) (tag given : Tag) → (othe
 with_tag-swapped s granule other tag given apart = λ i. record s {
   tag = λ g. swapped_by (g == other) (g == granule) given tag (s.tag g) (λ hit. rw (eqb-true g other hit) apart) i;
 }
+
+-- behind two
+with_tag-swapped_twice : (s : State) (granule one two : ℕ) (tag first second : Tag) → (one == granule) ≡ false → (two == granule) ≡ false
+    → with_tag (with_tag (with_tag s granule tag) one first) two second ≡ with_tag (with_tag (with_tag s one first) two second) granule tag
+with_tag-swapped_twice s granule one two tag first second apart other =
+    ap (λ (u : State). with_tag u two second) (with_tag-swapped s granule one tag first apart)
+    ∙ with_tag-swapped (with_tag s one first) granule two tag second other
 
 -- behind the tag of a page, if there is one
 tag_change-swapped : (s : State) (granule : ℕ) (tag : Tag) (change : Option TagChange) → SparesTag granule change
@@ -102,20 +110,24 @@ changed-swapped s granule cpu tag Unchanged spares = refl
 changed-swapped s granule cpu tag (Retagged change) spares = with_tag-swapped s granule change.granule tag change.tag spares
 changed-swapped s granule cpu tag (RealmMade rd root width level vmid algo) spares =
     let made : State → State = λ u. with_root (with_realm u rd (new_realm root width level vmid algo)) rd level root in
-    ap (λ (u : State). made (with_tag u root Rtt)) (with_tag-swapped s granule rd tag Rd spares.0)
-    ∙ ap made (with_tag-swapped (with_tag s rd Rd) granule root tag Rtt spares.1)
-changed-swapped s granule cpu tag (RealmDestroyed rd root) spares = absurd spares
+    ap made (with_tag-swapped_twice s granule rd root tag Rd Rtt spares.0 spares.1)
+changed-swapped s granule cpu tag (RealmDestroyed rd root) spares =
+    ap (λ (u : State). without_realm u rd) (with_tag-swapped_twice s granule rd root tag Delegated Delegated spares.0 spares.1)
 changed-swapped s granule cpu tag (RecMade rd rec mpidr flags aux0 aux1) spares =
     let counted = realm_updated (realm_update.RecCounted mpidr flags) (realm_at s rd) in
     let made : State → State = λ u. with_rec (with_realm u rd counted) rec (new_rec rd mpidr flags aux0 aux1) in
-    ap (λ (u : State). made (with_tag (with_tag u aux0 RecAux) aux1 RecAux)) (with_tag-swapped s granule rec tag Rec spares.0)
-    ∙ ap (λ (u : State). made (with_tag u aux1 RecAux)) (with_tag-swapped (with_tag s rec Rec) granule aux0 tag RecAux spares.1)
+    ap (λ (u : State). made (with_tag u aux1 RecAux)) (with_tag-swapped_twice s granule rec aux0 tag Rec RecAux spares.0 spares.1)
     ∙ ap made (with_tag-swapped (with_tag (with_tag s rec Rec) aux0 RecAux) granule aux1 tag RecAux spares.2)
-changed-swapped s granule cpu tag (RecDestroyed rec aux0 aux1) spares = absurd spares
+changed-swapped s granule cpu tag (RecDestroyed rec aux0 aux1) spares =
+    ap (λ (u : State). without_rec (with_tag u aux1 Delegated) rec)
+    (with_tag-swapped_twice s granule rec aux0 tag Delegated Delegated spares.0 spares.1)
+    ∙ ap (λ (u : State). without_rec u rec)
+    (with_tag-swapped (with_tag (with_tag s rec Delegated) aux0 Delegated) granule aux1 tag Delegated spares.2)
 changed-swapped s granule cpu tag (RecordsChanged realm rec) spares = records-swapped s granule tag realm rec
 changed-swapped s granule cpu tag (TableMade rd level number rtt entry) spares =
     ap (λ (u : State). with_table u rd level number rtt entry) (with_tag-swapped s granule rtt tag Rtt spares)
-changed-swapped s granule cpu tag (TableDestroyed rd level number rtt entry) spares = absurd spares
+changed-swapped s granule cpu tag (TableDestroyed rd level number rtt entry) spares =
+    ap (λ (u : State). without_table u rd level number entry) (with_tag-swapped s granule rtt tag Delegated spares)
 changed-swapped s granule cpu tag (EntriesChanged rd level entries page realm rec) spares =
     let tagged = with_tag_change s page in
     ap (λ (u : State). with_entry_change (with_rec_change (with_realm_change u realm) rec) rd level entries)
@@ -151,9 +163,10 @@ runs_on-read recs cpu rec = by (recs rec)
 abbrev pub RunAlike : ℕ → State → State → Type 0
 RunAlike cpu s t = (g : ℕ) → runs_on cpu (t.rec g) ≡ runs_on cpu (s.rec g)
 
--- where a record is put that runs there as the one before
-put_rec-runs : (s : State) (cpu rec : ℕ) (new : RecRecord) → runs_on cpu (Some new) ≡ runs_on cpu (s.rec rec) → RunAlike cpu s (with_rec s rec new)
-put_rec-runs s cpu rec new same g = by_address (λ found. runs_on cpu found ≡ runs_on cpu (s.rec g)) g rec (Some new) (s.rec g)
+-- where a record is put that runs there as the one before, or none
+put_rec-runs : (s : State) (cpu rec : ℕ) (new : Option RecRecord) → runs_on cpu new ≡ runs_on cpu (s.rec rec)
+    → (g : ℕ) → runs_on cpu (if g == rec then new else s.rec g) ≡ runs_on cpu (s.rec g)
+put_rec-runs s cpu rec new same g = by_address (λ found. runs_on cpu found ≡ runs_on cpu (s.rec g)) g rec new (s.rec g)
     (λ here. same ∙ ap (λ a. runs_on cpu (s.rec a)) (sym here)) (λ _. refl)
 
 -- where one is replaced, or none
@@ -161,7 +174,7 @@ rec_change-runs : (s : State) (cpu : ℕ) (change : Option RecChange) → Spares
 unfolding rec_at
 rec_change-runs s cpu None spares g = refl
 rec_change-runs s cpu (Some change) spares g =
-    put_rec-runs s cpu change.rec (rec_updated change.update (rec_at s change.rec)) (spares ∙ sym (runs_on-read s.rec cpu change.rec)) g
+    put_rec-runs s cpu change.rec (Some (rec_updated change.update (rec_at s change.rec))) (spares ∙ sym (runs_on-read s.rec cpu change.rec)) g
 
 -- behind the record of a realm
 realm_change-runs : (s : State) (cpu : ℕ) (realm : Option RealmChange) (rec : Option RecChange) → SparesRec s.rec cpu rec
@@ -186,13 +199,13 @@ unfolding changed
 changed-runs s granule cpu Unchanged spares g = refl
 changed-runs s granule cpu (Retagged change) spares g = refl
 changed-runs s granule cpu (RealmMade rd root width level vmid algo) spares g = refl
-changed-runs s granule cpu (RealmDestroyed rd root) spares g = absurd spares
+changed-runs s granule cpu (RealmDestroyed rd root) spares g = refl
 changed-runs s granule cpu (RecMade rd rec mpidr flags aux0 aux1) spares g =
-    put_rec-runs s cpu rec (new_rec rd mpidr flags aux0 aux1) (sym spares.3) g
-changed-runs s granule cpu (RecDestroyed rec aux0 aux1) spares g = absurd spares
+    put_rec-runs s cpu rec (Some (new_rec rd mpidr flags aux0 aux1)) (sym spares.3) g
+changed-runs s granule cpu (RecDestroyed rec aux0 aux1) spares g = put_rec-runs s cpu rec None (sym spares.3) g
 changed-runs s granule cpu (RecordsChanged realm rec) spares g = realm_change-runs s cpu realm rec spares g
 changed-runs s granule cpu (TableMade rd level number rtt entry) spares g = refl
-changed-runs s granule cpu (TableDestroyed rd level number rtt entry) spares g = absurd spares
+changed-runs s granule cpu (TableDestroyed rd level number rtt entry) spares g = refl
 changed-runs s granule cpu (EntriesChanged rd level entries page realm rec) spares g =
     entry_change-runs (with_rec_change (with_realm_change (with_tag_change s page) realm) rec) cpu rd level entries g
     ∙ page-runs s cpu page realm rec spares.1 g

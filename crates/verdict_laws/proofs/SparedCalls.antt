@@ -1,8 +1,8 @@
--- A call of another CPU that is apart from a granule leaves the granule's tag, and whether the CPU is inside of a REC.
-use Rattle.std.proofs.Common.{◌≡◌, ℕ, ◌==◌, Bool, true, false, not, if◌then◌else◌, IsTrue, List, [], ◌∷◌, Option, Some, None, refl, sym, ◌∙◌, ap, subst, eqb-true}
+-- A call of another CPU that neither names a granule nor gives it back leaves the granule's tag, and whether the CPU is inside of a REC.
+use Rattle.std.proofs.Common.{◌≡◌, ℕ, ◌-◌, ◌==◌, Bool, true, false, if◌then◌else◌, IsTrue, List, [], ◌∷◌, ◌⊎◌, inl, inr, Option, Some, None, refl, sym, ◌∙◌, ap, subst, eqb-true}
 use Rattle.std.specs.Prelude.{Result, Ok, Err, is_none, unwrap_or}
 use Rattle.std.specs.List.{AllByRecursion}
-use Rattle.std.proofs.lemmas.Bool.{and_parts, not-true, or_parts, ne_eqb}
+use Rattle.std.proofs.lemmas.Bool.{or_parts, ne_eqb}
 use Rattle.rmm_spec.specs.declared.accepted.Accepted.{Accepted}
 use Rattle.rmm_spec.specs.declared.accepted.Accepted.TheVariants.{Done, Reaches}
 use Rattle.rmm_spec.specs.declared.call.Call.{Call}
@@ -20,6 +20,7 @@ use Rattle.rmm_spec.specs.Update.{with_tag}
 use Rattle.rmm_spec.specs.Sound.{IsSound}
 use Rattle.rmm_spec.specs.Locks.{is_named}
 use Rattle.rmm_spec.specs.Lookup.{has_tag, is_cpu, runs_on, is_inside, rec_inside, rec_at, no_rec}
+use Rattle.rmm_spec.specs.Walk.{entry_number, reach}
 use Rattle.rmm_spec.specs.Rows.{Needed}
 use Rattle.rmm_spec.specs.Step.Front.{with_front}
 use Rattle.rmm_spec.specs.Step.Terms.{class_of, named}
@@ -33,7 +34,9 @@ use Rattle.rmm_laws.proofs.RowLaws.{front-rest}
 use Rattle.rmm_laws.proofs.Searches.{inside_runs}
 use Rattle.rmm_laws.proofs.StepLaws.{step-keeps}
 use Rattle.rmm_laws.proofs.Tags.{has_tag-other}
-use Rattle.verdict_laws.specs.Apart.{frees_unnamed, is_apart_from}
+use Rattle.rmm_laws.proofs.Ties.{IsUnused}
+use Rattle.verdict_laws.specs.Apart.{frees_unnamed}
+use Rattle.verdict_laws.proofs.GivenBack.{aux_apart, page_apart, root_apart, table_apart}
 use Rattle.verdict_laws.proofs.Retags.{AreKeptAt, IsReached-tags, outcome-tags}
 use Rattle.verdict_laws.proofs.Spared.{RunAlike, Spares, changed-runs, changed-swapped, changed-tag, is_inside-alike, runs_on-read}
 
@@ -46,6 +49,14 @@ AreOthers-from_unnamed : (granule : ℕ) (names : List Needed) → is_named name
 AreOthers-from_unnamed granule [] unnamed = tt
 AreOthers-from_unnamed granule (n ∷ names) unnamed =
     let parts = or_parts (n.granule == granule) (is_named names granule) unnamed in (parts.0, AreOthers-from_unnamed granule names parts.1)
+
+-- what the call may give back without naming it is another granule: there is none, or the granule is unused
+abbrev pub FreesOthers : State → ℕ → Call → Type 0
+FreesOthers s granule c = (frees_unnamed c ≡ false) ⊎ IsUnused (s.tag granule)
+
+-- where the call may give back what it doesn't name, the granule is unused
+unused_still : (s : State) (granule : ℕ) → (true ≡ false) ⊎ IsUnused (s.tag granule) → IsUnused (s.tag granule)
+unused_still s granule frees = elim frees [ inl never ↦ both_ways refl never | inr unused ↦ unused ]
 
 -- what is accepted spares the granule and the CPU, whatever end a reply gives
 abbrev SparesAll : State → ℕ → ℕ → Accepted → Type 0
@@ -90,7 +101,7 @@ module _ (s : State) (granule cpu other : ℕ) (sound : IsSound s) (differ : ¬ 
       runs_elsewhere cpu other (unwrap_or (s.rec rec) no_rec).cpu differ (sym (runs_on-read s.rec other rec) ∙ inside_runs s other inside)
 
   -- where its rows hold, what is done spares the granule and this CPU
-  call_spares : (c : Call) → frees_unnamed c ≡ false → AreOthers granule (named c) → IsTrue (is_placed s other (class_of c))
+  call_spares : (c : Call) → FreesOthers s granule c → AreOthers granule (named c) → IsTrue (is_placed s other (class_of c))
       → AllByRecursion (λ (n : Needed). IsTrue (has_tag s n.granule n.tag)) (named c) → AllHold (behind s other c).0
       → SparesAll s granule cpu (behind s other c).1
   unfolding frees_unnamed behind named class_of rec_updated reached_change rec_at
@@ -113,16 +124,23 @@ module _ (s : State) (granule cpu other : ℕ) (sound : IsSound s) (differ : ¬ 
   call_spares call.CpuOff frees apart placed tags rows = refl
   call_spares call.SystemOff frees apart placed tags rows = refl
   call_spares call.Exit frees apart placed tags rows = sym (inside_elsewhere placed)
-  call_spares (call.DataDestroy rd ipa) frees apart placed tags rows = both_ways refl frees
-  call_spares (call.RealmDestroy rd) frees apart placed tags rows = both_ways refl frees
-  call_spares (call.RecDestroy rec) frees apart placed tags rows = both_ways refl frees
-  call_spares (call.RttRemove removal rd ipa level) frees apart placed tags rows = both_ways refl frees
+  call_spares (call.DataDestroy rd ipa) frees apart placed tags rows =
+      let level = reach s rd ipa 3 in
+      (page_apart s granule sound (unused_still s granule frees) rd level (entry_number level ipa) rows.1.1.0, tt)
+  call_spares (call.RealmDestroy rd) frees apart placed tags rows =
+      (apart.0, root_apart s granule sound (unused_still s granule frees) rd tags.0)
+  call_spares (call.RecDestroy rec) frees apart placed tags rows =
+      let aux = aux_apart s granule sound (unused_still s granule frees) rec tags.0 in
+      (apart.0, aux.0, aux.1, runs_on-read s.rec cpu rec ∙ idle_elsewhere cpu (unwrap_or (s.rec rec) no_rec).cpu rows.0)
+  call_spares (call.RttRemove removal rd ipa level) frees apart placed tags rows =
+      let up = reach s rd ipa (level - 1) in
+      table_apart s granule sound (unused_still s granule frees) rd up (entry_number up ipa) rows.1.1.1.0
   call_spares _ frees apart placed tags rows = tt
 
   -- ---- what a call leads to
 
   -- by whether the call is placed
-  spares_by : (c : Call) → frees_unnamed c ≡ false → AreOthers granule (named c) → (placed : Bool) → is_placed s other (class_of c) ≡ placed
+  spares_by : (c : Call) → FreesOthers s granule c → AreOthers granule (named c) → (placed : Bool) → is_placed s other (class_of c) ≡ placed
       → (found : Result Accepted Refusal)
       → (if placed then answer_of s other c else Err (Misplaced (misplacement (is_inside s other) (class_of c)))) ≡ found
       → SparesFound s granule cpu found
@@ -135,28 +153,20 @@ module _ (s : State) (granule cpu other : ℕ) (sound : IsSound s) (differ : ¬ 
       absurd (let bad : Err (Misplaced (misplacement (is_inside s other) (class_of c))) ≡ Ok accepted = leads in cc)
   spares_by c frees apart _ placed (Err refused) leads = tt
 
-  module _ (c : Call) (apart : is_apart_from c granule ≡ true) where
-    -- what is apart from the granule names others, and frees nothing unnamed
-    apart_parts : (AreOthers granule (named c)) × (frees_unnamed c ≡ false)
-    apart_parts =
-        let parts = and_parts (not (is_named (named c) granule)) (not (frees_unnamed c)) apart in (
-          AreOthers-from_unnamed granule (named c) (not-true (is_named (named c) granule) parts.0),
-          not-true (frees_unnamed c) parts.1,
-        )
+  -- what the call leads to spares the granule and this CPU
+  outcome_spares : (c : Call) → is_named (named c) granule ≡ false → FreesOthers s granule c → SparesFound s granule cpu (outcome s other c)
+  unfolding outcome
+  outcome_spares c unnamed frees =
+      spares_by c frees (AreOthers-from_unnamed granule (named c) unnamed) (is_placed s other (class_of c)) refl (outcome s other c) refl
 
-    -- what the call leads to spares the granule and this CPU
-    outcome_spares : SparesFound s granule cpu (outcome s other c)
-    unfolding outcome
-    outcome_spares = spares_by c apart_parts.1 apart_parts.0 (is_placed s other (class_of c)) refl (outcome s other c) refl
-
-    -- and is the same whatever the granule's tag is
-    outcome_retagged : (tag : Tag) → outcome (with_tag s granule tag) other c ≡ outcome s other c
-    outcome_retagged tag =
-        outcome-tags s (λ g. if g == granule then tag else s.tag g) other c (each (named c) apart_parts.0)
-      where
-        each : (names : List Needed) → AreOthers granule names → AreKeptAt s (λ g. if g == granule then tag else s.tag g) names
-        each [] others = tt
-        each (n ∷ names) others = (rw others.0 refl, each names others.1)
+  -- and is the same whatever the granule's tag is
+  outcome_retagged : (c : Call) (tag : Tag) → is_named (named c) granule ≡ false → outcome (with_tag s granule tag) other c ≡ outcome s other c
+  outcome_retagged c tag unnamed =
+      outcome-tags s (λ g. if g == granule then tag else s.tag g) other c (each (named c) (AreOthers-from_unnamed granule (named c) unnamed))
+    where
+      each : (names : List Needed) → AreOthers granule names → AreKeptAt s (λ g. if g == granule then tag else s.tag g) names
+      each [] others = tt
+      each (n ∷ names) others = (rw others.0 refl, each names others.1)
 
   -- ---- steps
 
@@ -174,12 +184,12 @@ module _ (s : State) (granule cpu other : ℕ) (sound : IsSound s) (differ : ¬ 
       (changed-tag s granule cpu change (spares carried.0), changed-runs s granule cpu change (spares carried.0))
 
   -- so does a step, which leaves this CPU inside of a REC or outside
-  pub step_leaves : (command : Command) (given : Reply) (new : State) → is_apart_from (call_of command) granule ≡ true
-      → Step s other command given new → Leaves s granule cpu new
-  step_leaves command given new apart step =
+  pub step_leaves : (command : Command) (given : Reply) (new : State) → is_named (named (call_of command)) granule ≡ false
+      → FreesOthers s granule (call_of command) → Step s other command given new → Leaves s granule cpu new
+  step_leaves command given new unnamed frees step =
       let c = call_of command in
       let same = (step-keeps s new other command given step).config in
-      let alike = carried_alike (outcome s other c) given new (outcome_spares c apart) step in
+      let alike = carried_alike (outcome s other c) given new (outcome_spares c unnamed frees) step in
       record { config = same; tag = alike.0; inside = is_inside-alike s new cpu same alike.1 }
 
   -- where the granule's tag was put before, it may be put behind
@@ -196,11 +206,11 @@ module _ (s : State) (granule cpu other : ℕ) (sound : IsSound s) (differ : ¬ 
       (changed s change, (top, (reached, carried.1.1, refl)), carried.1.2 ∙ changed-swapped s granule cpu tag change (spares top))
 
   -- in a step
-  pub step_swapped : (command : Command) (tag : Tag) (given : Reply) (new : State) → is_apart_from (call_of command) granule ≡ true
-      → Step (with_tag s granule tag) other command given new
+  pub step_swapped : (command : Command) (tag : Tag) (given : Reply) (new : State) → is_named (named (call_of command)) granule ≡ false
+      → FreesOthers s granule (call_of command) → Step (with_tag s granule tag) other command given new
       → (between : State) × Step s other command given between × (new ≡ with_tag between granule tag)
-  step_swapped command tag given new apart step =
+  step_swapped command tag given new unnamed frees step =
       let c = call_of command in
       let found : CarriesOut (outcome s other c) (with_tag s granule tag) given new =
-      subst (λ (r : Result Accepted Refusal). CarriesOut r (with_tag s granule tag) given new) (outcome_retagged c apart tag) step in
-      carried_swapped (outcome s other c) tag given new (outcome_spares c apart) found
+      subst (λ (r : Result Accepted Refusal). CarriesOut r (with_tag s granule tag) given new) (outcome_retagged c tag unnamed) step in
+      carried_swapped (outcome s other c) tag given new (outcome_spares c unnamed frees) found

@@ -5,10 +5,12 @@ use Rattle.rmm_spec.specs.declared.call.Call.TheVariants.{GranuleDelegate, Granu
 use Rattle.rmm_spec.specs.declared.command.Command.{Command}
 use Rattle.rmm_spec.specs.declared.event.Event.{Event}
 use Rattle.rmm_spec.specs.declared.line.Line.{Line}
+use Rattle.rmm_spec.specs.declared.reply.Reply.{Reply}
 use Rattle.rmm_spec.specs.Call.{call_of}
 use Rattle.rmm_spec.specs.Locks.{is_named}
 use Rattle.rmm_spec.specs.Step.Terms.{named}
-use Rattle.rmm_spec.specs.Linearization.{IsCalled, cpu_named, number_named}
+use Rattle.rmm_spec.specs.Linearization.{IsCalled, IsReplyOf, cpu_named, number_named}
+use Rattle.rmm_spec.specs.Ownership.{is_accepted}
 
 -- the granule that a call lends to the realm world or takes back, where it does
 unfoldable pub lent : Call → Option ℕ
@@ -38,3 +40,13 @@ abbrev pub IsApart : List Event → Line → ℕ → Type 0
 IsApart events line granule =
     (called : ℕ) (command : Command) → IsCalled events called (cpu_named line) (number_named line) command
     → is_apart_from (call_of command) granule ≡ true
+
+-- the line's call doesn't name the granule
+abbrev pub NamesOthers : List Event → Line → ℕ → Type 0
+NamesOthers events line granule =
+    (called : ℕ) (command : Command) → IsCalled events called (cpu_named line) (number_named line) command
+    → is_named (named (call_of command)) granule ≡ false
+
+-- the line's call is carried out
+abbrev pub IsCarriedOut : List Event → Line → Type 0
+IsCarriedOut events line = (given : Reply) → IsReplyOf events line given → is_accepted given ≡ true

@@ -1,11 +1,12 @@
 //! The laws of orders that are begun.
 
-ghost use Rattle.std.specs.Prelude.{◌≡◌, ℕ, ◌<◌, ◌≤◌, List, [], ◌∷◌, ◌++◌, length};
+ghost use Rattle.std.specs.Prelude.{◌≡◌, ℕ, ◌<◌, ◌≤◌, true, List, [], ◌∷◌, ◌++◌, length};
 ghost use Rattle.rmm_spec.specs.declared.line.Line.{Line};
 ghost use Rattle.rmm_spec.specs.declared.line.Line.TheVariants as line;
 ghost use Rattle.rmm_spec.specs.HistoryText.{History, IsHistory};
 ghost use Rattle.rmm_spec.specs.State.{State, opening};
 ghost use Rattle.rmm_spec.specs.Linearization.{IsFinished, IsLinearization, ReturnsBefore, cpu_named, number_named};
+ghost use Rattle.verdict_laws.specs.Looking.{is_looking};
 ghost use Rattle.verdict_laws.specs.Order.{GivesNowhere, Grows, HasOpen, IsNext, IsRefusal, LeadsNowhere, Reaches, count_of};
 
 /// Where the order without a line leads nowhere, no certificate at all is a linearization.
@@ -60,6 +61,14 @@ pub fn nowhere_by_replies()
 pub fn nowhere_after_a_refusal()
     ensures { (history : History) (lines : List Line) (state : State) (cpu number : ℕ) → IsHistory history
         → Reaches history lines state → (grows : Grows history lines state (line.Keep cpu number) state) → IsRefusal grows.entry.given
+        → LeadsNowhere history (lines ++ line.Keep cpu number ∷ []) → LeadsNowhere history lines }
+{}
+
+/// A finished call that changes nothing, whatever is replied, that can come next and is given its reply there, may come next at once: where it
+/// leads nowhere, the order leads nowhere.
+pub fn nowhere_after_a_look()
+    ensures { (history : History) (lines : List Line) (state new : State) (cpu number : ℕ) → IsHistory history
+        → Reaches history lines state → (grows : Grows history lines state (line.Keep cpu number) new) → is_looking grows.entry.command ≡ true
         → LeadsNowhere history (lines ++ line.Keep cpu number ∷ []) → LeadsNowhere history lines }
 {}
 

@@ -1,21 +1,24 @@
 //! What follows from the definitions of verdicts and orders: each law is the contract of a function that does nothing.
 //! It promises that some verdict is right of any two texts and no two are, so `Judges` leaves a checker nothing to choose; of an order that is
 //! begun, where it leads nowhere and where it is a linearization (`begun`, line by line); for a search through a history's events, where a
-//! kept order leads nowhere, and that a call which lends a granule or takes it back passes each call that has nothing to do with the granule;
-//! and that no order is lost where each reading of a measurement extends one. The search for an order stands on the laws of orders.
+//! kept order leads nowhere, and which calls pass others: those of other granules, and those on the tables of other realms; that no order is lost
+//! where each reading of a measurement extends one, and that a register's own calls are a run of it. The search for an order stands on these.
 #![tactic(auto)]
 
 mod apart;
 mod begun;
 mod exchanges;
+mod registers;
+mod separate;
 mod unread;
 mod verdicts;
 
-pub use apart::{lending_exchanges, lending_passes};
+pub use apart::{done_lending_exchanges, done_lending_passes, lending_exchanges, lending_passes};
 pub use begun::{
-    grown_order_is_linearization, no_line_reaches_opening, nowhere_after_a_refusal,
-    nowhere_after_each_next, nowhere_by_configuration, nowhere_by_replies, nowhere_past_a_return,
-    nowhere_unless_next, one_line_more, open_beginning_is_no_order, orders_are_short,
+    grown_order_is_linearization, no_line_reaches_opening, nowhere_after_a_look,
+    nowhere_after_a_refusal, nowhere_after_each_next, nowhere_by_configuration, nowhere_by_replies,
+    nowhere_past_a_return, nowhere_unless_next, one_line_more, open_beginning_is_no_order,
+    orders_are_short,
 };
 pub use exchanges::{
     a_returning_call_is_open, all_kept_behind_a_call, all_kept_behind_a_return,
@@ -25,5 +28,10 @@ pub use exchanges::{
     nowhere_after_each_open_call, nowhere_after_looks, nowhere_at_a_return, nowhere_in_a_group,
     nowhere_in_either_order, nowhere_with_a_movable_call,
 };
+pub use registers::{
+    nowhere_without_possibilities, register_after_a_return, register_after_another_event,
+    register_at_first, register_runs,
+};
+pub use separate::{separate_calls_exchange, separate_calls_pass};
 pub use unread::{nowhere_after_an_extension, nowhere_but_for_measurements, nowhere_unread};
 pub use verdicts::{a_verdict_exists, one_verdict};
