@@ -1,0 +1,7 @@
+mod Firsts
+mod Grown
+pub mod Elements
+pub mod CallLaws
+pub mod CpuLaws
+pub mod OpenLaws
+pub mod SlotLaws
