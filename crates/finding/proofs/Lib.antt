@@ -17,3 +17,4 @@ pub mod Finds
 pub mod GroupLaws
 pub mod UnreadLaws
 pub mod SettledLaws
+pub mod SeparateLaws

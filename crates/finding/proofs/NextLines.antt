@@ -17,7 +17,8 @@ use Rattle.finding.proofs.BegunLaws.{MayTry-begun, Tried-attempt}
 use Rattle.finding.proofs.Choices.{returned_first}
 use Rattle.finding.proofs.OfferLaws.{returned_at}
 use Rattle.finding.specs.Search.{IsRefusedHere}
-use Rattle.finding.specs.Settled.{IsExtendedHere, IsSettledHere}
+use Rattle.finding.specs.Settled.{IsGivenHere, IsSettledHere}
+use Rattle.verdict_laws.proofs.Looked.{nowhere_looked}
 use Rattle.verdict_laws.proofs.UnreadOrders.{nowhere_extended}
 use Rattle.finding.proofs.Searches.{Grows-refused, Grows-returned, IsNextCall-0}
 use Rattle.finding.proofs.TriedLaws.{IsKept-open, ReturnBehind-called, Tried-passed, counted, each_nowhere, of_machine, too_late}
@@ -50,18 +51,22 @@ IsLost-refused history is_history begun choice next soon refused nowhere = recor
       refused.refusal (nowhere lines holds);
 }
 
--- nor does one that extends a measurement where none is read
-IsLost-extended : (history : History) → IsHistory history → (begun : Begun) (choice : Choice) → IsNextCall history begun.front.counts 0 choice
-    → IsSoon history begun choice → IsExtendedHere history (state_of begun.machine) choice
+-- nor does one that only looks, or that extends a measurement where none is read
+IsLost-given : (history : History) → IsHistory history → (begun : Begun) (choice : Choice) → IsNextCall history begun.front.counts 0 choice
+    → IsSoon history begun choice → IsGivenHere history (state_of begun.machine) choice
     → ((lines : List Line) → Holds history begun lines → LeadsNowhere history (lines ++ Keep choice.cpu choice.number ∷ []))
     → IsLost history begun
 unfolding Grows-returned
-IsLost-extended history is_history begun choice next soon extended nowhere = record {
+IsLost-given history is_history begun choice next soon given nowhere = record {
   nowhere = λ lines holds.
-      let grows = Grows-returned history is_history lines (state_of begun.machine) extended.new begun.front.counts choice holds.counts next
-      (soon lines holds) extended.place extended.given extended.is_returned extended.command extended.is_called extended.step in
-      nowhere_extended history lines (state_of begun.machine) extended.new choice.cpu choice.number is_history extended.unread holds.reached grows
-      extended.extends (nowhere lines holds);
+      let grows = Grows-returned history is_history lines (state_of begun.machine) given.new begun.front.counts choice holds.counts next
+      (soon lines holds) given.place given.given given.is_returned given.command given.is_called given.step in
+      elim given.at_once [
+        | inl looks ↦ nowhere_looked history is_history lines (state_of begun.machine) holds.reached choice.cpu choice.number given.new grows looks
+            (nowhere lines holds)
+        | inr extends ↦ nowhere_extended history lines (state_of begun.machine) given.new choice.cpu choice.number is_history extends.0 holds.reached
+            grows extends.1 (nowhere lines holds)
+      ];
 }
 
 -- so that of a call that may come next at once nothing else need be tried
@@ -71,7 +76,7 @@ pub IsLost-settled : (history : History) → IsHistory history → (begun : Begu
     → IsLost history begun
 IsLost-settled history is_history begun choice next soon settled nowhere = elim settled [
   | inl refused ↦ IsLost-refused history is_history begun choice next soon refused nowhere
-  | inr extended ↦ IsLost-extended history is_history begun choice next soon extended nowhere
+  | inr given ↦ IsLost-given history is_history begun choice next soon given nowhere
 ]
 
 -- it has returned
@@ -79,7 +84,7 @@ pub IsFinished-settled : (history : History) (state : State) (choice : Choice) �
     → IsFinished history.events choice.cpu choice.number
 IsFinished-settled history state choice settled = elim settled [
   | inl refused ↦ (refused.place, refused.given, refused.is_returned)
-  | inr extended ↦ (extended.place, extended.given, extended.is_returned)
+  | inr given ↦ (given.place, given.given, given.is_returned)
 ]
 
 module _ (history : History) (is_history : IsHistory history) (begun : Begun) (group : ℕ → Bool) (left : Left) where

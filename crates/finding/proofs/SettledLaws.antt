@@ -14,26 +14,24 @@ use Rattle.rmm_spec.specs.Linearization.{IsCalled, IsReturned}
 use Rattle.rmm_spec.specs.Step.{CarriesOut, outcome}
 use Rattle.history.specs.Calls.{ArePlacesOf}
 use Rattle.spec_lemmas.proofs.Calls.{told_at_call, told_at_return}
-use Rattle.verdict_laws.specs.Unread.{ReadsNothing, is_extending}
-use Rattle.finding.specs.Settled.{IsExtendedHere}
+use Rattle.finding.specs.Settled.{ComesAtOnce, IsGivenHere}
 use Rattle.finding.proofs.OfferLaws.{returned_at}
 
 module _ (history : History) (state : State) (choice : Choice) (returned : ℕ) (command : Command) (given : Reply) where
-  -- an extension returned what the specification gives it in the state
-  pub IsExtended-given : ReadsNothing history.events → ArePlacesOf history.events choice.cpu choice.number choice.places
+  -- a call returned what the specification gives it in the state
+  pub IsGiven-here : ArePlacesOf history.events choice.cpu choice.number choice.places
       → choice.places.returned ≡ Some returned → (c : ℕ) × (n : ℕ) × IsCalled history.events choice.places.called c n command
-      → (c : ℕ) × (n : ℕ) × IsReturned history.events returned c n given → is_extending command ≡ true
+      → (c : ℕ) × (n : ℕ) × IsReturned history.events returned c n given → ComesAtOnce history.events command
       → (words : ArrayVec ℕ) (change : Change) → outcome state choice.cpu (call_of command) ≡ Ok (Done words change) → given ≡ reply.Ok words
-      → IsExtendedHere history state choice
-  IsExtended-given unread are some made told extends words change out same = record {
-    unread = unread;
+      → IsGivenHere history state choice
+  IsGiven-here are some made told at_once words change out same = record {
     place = returned;
     given = given;
     is_returned = told_at_return history.events returned choice.cpu choice.number given
         (returned_at history.events choice.cpu choice.number returned choice.places are some) told;
     command = command;
     is_called = told_at_call history.events choice.places.called choice.cpu choice.number command are.called made;
-    extends = extends;
+    at_once = at_once;
     new = changed state change;
     step = subst (λ (led : Result Accepted Refusal). CarriesOut led state given (changed state change)) (sym out) (same, refl);
   }

@@ -9,7 +9,7 @@ use crate::choice::{cpus_of, rank};
 use crate::offers::Offers;
 use history::History;
 use rmm_spec::Line;
-use std::alloc::{AllocError, Global};
+use std::alloc::AllocError;
 
 /// Whether one of the orders is of the same calls to the same state, where it may differ in measurements if none is read.
 pub(crate) fn has_alike(
@@ -32,7 +32,6 @@ pub(crate) fn has_alike(
 
 /// Whether one of the orders leads to the same state as the other, by calls that it lacks.
 pub(crate) fn has_beginning(
-    alloc: Global,
     offers: &mut Offers,
     history: &History,
     begun: &[Begun],
@@ -44,7 +43,7 @@ pub(crate) fn has_beginning(
     ensures { IfOk result (λ has. IsTrue has → AllLost history.now.recorded begun.now → IsLost history.now.recorded other.now) }
 {
     'orders: for one in begun {
-        if leads_to(alloc, offers, history, one, other, unread)? {
+        if leads_to(offers, history, one, other, unread)? {
             return Ok(true);
         }
     }
@@ -75,7 +74,6 @@ fn is_alike(history: &History, one: &Begun, other: &Begun, unread: bool) -> Resu
 
 /// Whether the one leads to the same state as the other, by calls that it lacks: no more than one of each CPU.
 fn leads_to(
-    alloc: Global,
     offers: &mut Offers,
     history: &History,
     one: &Begun,
@@ -89,7 +87,7 @@ fn leads_to(
     if !lacks_few(one, other) {
         return Ok(false);
     }
-    let mut longer = one.copy(alloc)?;
+    let mut longer = one.copy()?;
     'cpus: for cpu in 0..cpus_of(history) {
         if longer.front.counts[cpu as usize] < other.front.counts[cpu as usize] {
             if !takes_next(offers, history, &mut longer, cpu)? {
@@ -137,5 +135,6 @@ fn takes_next(
         cpu: choice.cpu,
         number: choice.number,
     };
-    begun.grow(offers, history, choice, &line)
+    let last = begun.last;
+    begun.grow(offers, history, choice, &line, last)
 }

@@ -2,6 +2,7 @@
 
 ghost use Rattle.std.specs.Prelude.{◌≡◌};
 ghost use Rattle.rmm_spec.specs.Locks as locks;
+ghost use Rattle.rmm_spec.specs.Step.Terms as terms;
 ghost use Rattle.verdict_laws.specs.Apart as spec;
 
 use command_words::{Name, named};
@@ -22,7 +23,14 @@ pub(crate) fn lent(call: &Call) -> Option<u64>
 pub(crate) fn is_apart_from(call: &Call, granule: u64) -> bool
     ensures { result ≡ spec.is_apart_from call.now granule }
 {
-    !is_named(named(call).as_slice(), granule) && !frees_unnamed(call)
+    !names(call, granule) && !frees_unnamed(call)
+}
+
+/// Whether a call names the granule.
+pub(crate) fn names(call: &Call, granule: u64) -> bool
+    ensures { result ≡ locks.is_named (terms.named call.now) granule }
+{
+    is_named(named(call).as_slice(), granule)
 }
 
 /// Whether a granule is named.

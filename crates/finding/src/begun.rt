@@ -6,6 +6,7 @@ use crate::choice::Choice;
 use crate::front::Front;
 use crate::offering::offer;
 use crate::offers::Offers;
+use crate::trail::Trail;
 use history::History;
 use rmm_spec::Line;
 use spec_machine::Machine;
@@ -16,8 +17,15 @@ use std::alloc::{AllocError, Global};
 pub(crate) struct Begun {
     pub(crate) front: Front,
     pub(crate) machine: Machine,
-    // the CPUs of the calls in their order, of which no clause speaks: a search takes them for a guess
-    pub(crate) cpus: Vec<u8>,
+    // the step of its last call
+    pub(crate) last: usize,
+}
+
+/// Orders that are kept, and their calls.
+#[derive(Drop)]
+pub(crate) struct Orders {
+    pub(crate) begun: Vec<Begun>,
+    pub(crate) trail: Trail,
 }
 
 impl Begun {
@@ -38,31 +46,31 @@ impl Begun {
         Ok(Begun {
             front: Front::new(history),
             machine,
-            cpus: Vec::new(alloc),
+            last: 0,
         })
     }
 
     /// The same order once more.
-    pub(crate) fn copy(&self, alloc: Global) -> Result<Begun, AllocError>
+    pub(crate) fn copy(&self) -> Result<Begun, AllocError>
         ensures front { IfOk result (λ begun. begun.front ≡ self.now.front) }
         ensures state { IfOk result (λ begun. state_of begun.machine ≡ state_of self.now.machine) }
     {
         let machine = self.machine.copy()?;
-        let cpus = self.cpus.to_vec(alloc)?;
         Ok(Begun {
             front: same_front(&self.front),
             machine,
-            cpus,
+            last: self.last,
         })
     }
 
-    /// Makes the order longer by the line of a call, where the machine gives the call its reply, and returns whether it did.
+    /// Makes the order longer by the line of a call, which is the given step, where the machine gives the call its reply, and returns whether it did.
     pub(crate) fn grow(
         &mut self,
         offers: &mut Offers,
         history: &History,
         choice: Choice,
         line: &Line,
+        last: usize,
     ) -> Result<bool, AllocError>
         requires begun { IsBegun history.now.recorded self.old }
         requires next { IsNextCall history.now.recorded self.old.front.counts 0 choice }
@@ -77,7 +85,7 @@ impl Begun {
         let given = offer(offers, &mut self.machine, history, choice, line)?;
         if given {
             self.front.set(history, choice.cpu, choice.number + 1);
-            self.cpus.push(choice.cpu)?;
+            self.last = last;
         }
         Ok(given)
     }

@@ -21,7 +21,7 @@ use std::cmp::min;
 const FIRST_KEPT: usize = 8;
 
 /// How many it finds from a guess on before it looks at orders return by return.
-const GUESSED_KEPT: usize = 256;
+const GUESSED_KEPT: usize = 16;
 
 /// How many cells may be copied to name a return once it is known that there is no order.
 const TO_NAME: u64 = 1_000_000_000;
@@ -124,11 +124,12 @@ fn find_forward<W: Watch>(
     let found = survey_of(alloc, &mut search.offers, history, near, watch)?;
     match found {
         Survey::Lost(place) => {
-            let told = told_place(alloc, &mut search.offers, history, limit, place, watch)?;
+            let twice = min(limit, search.offers.count().saturating_mul(2));
+            let told = told_place(alloc, &mut search.offers, history, twice, place, watch)?;
             Ok(Found::None(told))
         }
         Survey::Kept(orders) => {
-            let found = guided(alloc, history, orders.as_slice(), limit, watch)?;
+            let found = guided(alloc, history, &orders, limit, watch)?;
             match found {
                 Some(certificate) => Ok(Found::Order(certificate)),
                 None => find_rest(alloc, history, search, limit, watch),

@@ -3,11 +3,11 @@
 ghost use Rattle.std.specs.Prelude.{◌≡◌, ◌<◌, false, true, IfNone, IfSome, IsTrue};
 ghost use Rattle.finding.specs.Begun.{IsBegun, IsGroup};
 ghost use Rattle.finding.specs.Choice.{IsNextCall};
-ghost use Rattle.finding.specs.Group.{IsNextApart, LendsNext, PassInside, PassesInside, is_inside};
+ghost use Rattle.finding.specs.Group.{PassInside, PassesCpu, PassesInside, is_inside};
 
-use crate::apart::{is_apart_from, lent};
 use crate::begun::Begun;
 use crate::choice::{Choice, cpus_of};
+use crate::passing::passes_next;
 use history::History;
 
 /// The open call that returned first, and the CPUs outside of its group.
@@ -117,53 +117,25 @@ fn passes_inside(history: &History, begun: &Begun, group: Group, cpu: u8) -> boo
     requires cpu { cpu < history.now.recorded.config.cpus }
     ensures { IsTrue result → PassesInside history.now.recorded begun.now (is_inside group) cpu history.now.recorded.config.cpus }
 {
-    let Some(granule) = lent_next(history, begun, cpu) else {
-        return false;
-    };
     for other in 0..cpus_of(history) {
-        if !stays_apart(history, begun, group, other, granule) {
+        if !passes_where_inside(history, begun, group, cpu, other) {
             return false;
         }
     }
     true
 }
 
-/// Whether the CPU is outside, or its next call has nothing to do with the granule.
-fn stays_apart(history: &History, begun: &Begun, group: Group, cpu: u8, granule: u64) -> bool
+/// Whether the other CPU is outside, or the open call of the one may as well come behind its open call.
+fn passes_where_inside(history: &History, begun: &Begun, group: Group, cpu: u8, other: u8) -> bool
     requires begun { IsBegun history.now.recorded begun.now }
     requires cpu { cpu < history.now.recorded.config.cpus }
-    ensures { IsTrue result → is_inside group cpu ≡ true → IsNextApart history.now.recorded begun.now cpu granule }
+    requires other { other < history.now.recorded.config.cpus }
+    ensures { IsTrue result → is_inside group other ≡ true → PassesCpu history.now.recorded begun.now cpu other }
 {
     let _fact = cpus_of(history);
-    if group.has(cpu) {
-        is_next_apart(history, begun, cpu, granule)
+    if group.has(other) {
+        passes_next(history, begun, cpu, other)
     } else {
         true
-    }
-}
-
-/// The granule that the next call of a CPU lends or takes back, where it does.
-fn lent_next(history: &History, begun: &Begun, cpu: u8) -> Option<u64>
-    requires begun { IsBegun history.now.recorded begun.now }
-    requires cpu { cpu < history.now.recorded.config.cpus }
-    ensures { IfSome result (LendsNext history.now.recorded begun.now cpu) }
-{
-    let choice = begun.front.next(history, cpu)?;
-    let command = history.command_at(choice.places.called as usize)?;
-    lent(&command.call())
-}
-
-/// Whether the next call of a CPU, if there is one, has nothing to do with the granule.
-fn is_next_apart(history: &History, begun: &Begun, cpu: u8, granule: u64) -> bool
-    requires begun { IsBegun history.now.recorded begun.now }
-    requires cpu { cpu < history.now.recorded.config.cpus }
-    ensures { IsTrue result → IsNextApart history.now.recorded begun.now cpu granule }
-{
-    let Some(choice) = begun.front.next(history, cpu) else {
-        return true;
-    };
-    match history.command_at(choice.places.called as usize) {
-        Some(command) => is_apart_from(&command.call(), granule),
-        None => false,
     }
 }

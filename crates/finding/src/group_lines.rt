@@ -10,7 +10,7 @@ use crate::round::Round;
 use crate::search::Left;
 use history::History;
 use rmm_spec::Line;
-use std::alloc::{AllocError, Global};
+use std::alloc::AllocError;
 
 /// How many lines are tried behind an order.
 const LINES: u32 = 4096;
@@ -42,7 +42,6 @@ impl Round {
     /// Takes the order that is longer by the line that waits, if one does, and leaves the order as it is.
     fn take_waiting(
         &mut self,
-        alloc: Global,
         offers: &mut Offers,
         history: &History,
         begun: &Begun,
@@ -58,13 +57,12 @@ impl Round {
         let Some(Waiting { choice, line }) = waiting else {
             return Ok(());
         };
-        self.take_longer(alloc, offers, history, begun, choice, &line)
+        self.take_longer(offers, history, begun, choice, &line)
     }
 
     /// Takes the order that is longer by the line that waits, if one does.
     fn take_last(
         &mut self,
-        alloc: Global,
         offers: &mut Offers,
         history: &History,
         begun: Begun,
@@ -80,13 +78,12 @@ impl Round {
         let Some(Waiting { choice, line }) = waiting else {
             return Ok(());
         };
-        self.take_grown(alloc, offers, history, begun, choice, &line)
+        self.take_grown(offers, history, begun, choice, &line)
     }
 
     /// Lets the line of a call wait, unless it is refused, and takes the one that waited before.
     fn take_later(
         &mut self,
-        alloc: Global,
         offers: &mut Offers,
         history: &History,
         begun: &Begun,
@@ -108,14 +105,13 @@ impl Round {
         if is_line_refused(offers, &begun.machine, history, next.choice, &next.line) {
             return Ok(waiting);
         }
-        self.take_waiting(alloc, offers, history, begun, waiting)?;
+        self.take_waiting(offers, history, begun, waiting)?;
         Ok(Some(next))
     }
 
     /// Takes the orders that are longer by the next line, but for the last, and returns whether none is left.
     fn take_line(
         &mut self,
-        alloc: Global,
         offers: &mut Offers,
         history: &History,
         begun: &Begun,
@@ -140,7 +136,7 @@ impl Round {
             NextLine::Passed(left) => Ok((false, Stand { left, waiting })),
             NextLine::Line { choice, line, left } => {
                 let next = Waiting { choice, line };
-                let waiting = self.take_later(alloc, offers, history, begun, waiting, next)?;
+                let waiting = self.take_later(offers, history, begun, waiting, next)?;
                 Ok((false, Stand { left, waiting }))
             }
         }
@@ -149,7 +145,6 @@ impl Round {
     /// Takes the orders that are longer by a line of the group, but for the last, and returns whether none is left.
     fn take_lines(
         &mut self,
-        alloc: Global,
         offers: &mut Offers,
         history: &History,
         begun: &Begun,
@@ -175,7 +170,7 @@ impl Round {
             waiting: None,
         };
         'lines: for _line in 0..LINES {
-            let (all, behind) = self.take_line(alloc, offers, history, begun, group, stand)?;
+            let (all, behind) = self.take_line(offers, history, begun, group, stand)?;
             if all {
                 let Stand { waiting, .. } = behind;
                 return Ok((true, waiting));
@@ -188,7 +183,6 @@ impl Round {
     /// Takes each order that is longer by a line of the group, and returns whether these are all.
     pub(crate) fn take_group(
         &mut self,
-        alloc: Global,
         offers: &mut Offers,
         history: &History,
         begun: Begun,
@@ -204,8 +198,8 @@ impl Round {
         ensures covers { OnOk result (Covers history.now.recorded self.old self.new) }
         ensures taken { IfOk result (λ all. IsTrue all → RoundLost history.now.recorded self.new → IsLost history.now.recorded begun) }
     {
-        let (all, waiting) = self.take_lines(alloc, offers, history, &begun, group)?;
-        self.take_last(alloc, offers, history, begun, waiting)?;
+        let (all, waiting) = self.take_lines(offers, history, &begun, group)?;
+        self.take_last(offers, history, begun, waiting)?;
         Ok(all)
     }
 }

@@ -6,7 +6,7 @@ ghost use Rattle.rmm_spec.specs.Linearization.{IsLinearization};
 ghost use Rattle.rmm_spec.specs.State.{State};
 ghost use Rattle.finding.specs.Search.{IsSearch};
 
-use crate::begun::Begun;
+use crate::begun::Orders;
 use crate::earlier::Earlier;
 use crate::longest::goes_on;
 use crate::search::{Progress, Search};
@@ -20,16 +20,17 @@ use std::alloc::{AllocError, Global};
 pub(crate) fn guided<W: Watch>(
     alloc: Global,
     history: &History,
-    orders: &[Begun],
+    orders: &Orders,
     limit: u64,
     watch: &mut W,
 ) -> Result<Option<Certificate>, AllocError>
     ensures { IfOk result (λ found. IfSome found (λ certificate. IsLinearization history.now.recorded certificate.lines)) }
 {
-    let Some(order) = orders.first() else {
+    let Some(order) = orders.begun.first() else {
         return Ok(None);
     };
-    let search = led(alloc, history, order.cpus.as_slice(), limit, watch)?;
+    let cpus = orders.trail.cpus_up_to(alloc, order.last)?;
+    let search = led(alloc, history, cpus.as_slice(), limit, watch)?;
     ended(alloc, history, search, limit)
 }
 
@@ -52,17 +53,17 @@ pub(crate) fn guessed<W: Watch>(
     led(alloc, history, cpus.as_slice(), limit, watch)
 }
 
-/// The lines that a search comes to which tries the order's calls first.
+/// The lines that a search comes to which tries the calls of the CPUs first.
 pub(crate) fn order_of<W: Watch>(
     alloc: Global,
     history: &History,
-    order: &Begun,
+    cpus: &[u8],
     limit: u64,
     watch: &mut W,
 ) -> Result<Certificate, AllocError>
     ensures { IfOk result (λ certificate. (state : State) × Passes history.now.recorded certificate.lines state) }
 {
-    let search = led(alloc, history, order.cpus.as_slice(), limit, watch)?;
+    let search = led(alloc, history, cpus, limit, watch)?;
     search.certificate(alloc, history)
 }
 

@@ -1,8 +1,8 @@
 //! Finds an order of a history's calls that is a linearization, from the history alone, or that there is none.
 //! It promises that the order found is a linearization, and that where none is told no certificate at all is one, nor of the events up to
 //! the place that is told. It tries depth first, begins anew with a guess where that leads nowhere a few times, and at last looks return
-//! by return at all orders that are possible still, first with no measurement read; it gives up only where it has tried as many steps as it
-//! may, or whoever follows it said so. The program `rmmfind` depends on it.
+//! by return: at each measurement's own calls, then at all orders that are possible still, first with no measurement read. It gives up only where
+//! it has tried as many steps as it may, or whoever follows it said so. The program `rmmfind` depends on it.
 #![tactic(auto)]
 
 mod alike;
@@ -28,13 +28,16 @@ mod marks;
 mod next_line;
 mod offering;
 mod offers;
+mod passing;
 mod refused;
 mod restoring;
 mod round;
 mod search;
+mod separate;
 mod settled;
 mod survivors;
 mod told;
+mod trail;
 mod unread;
 mod watch;
 

@@ -7,7 +7,7 @@ use crate::offers::Offers;
 use crate::round::Round;
 use history::History;
 use rmm_spec::Line;
-use std::alloc::{AllocError, Global};
+use std::alloc::AllocError;
 
 impl Round {
     ghost use Rattle.std.specs.Prelude.{◌≡◌, ◌<◌, ℕ, Bool, true, List, [], ◌∷◌, ◌++◌, OnOk};
@@ -24,7 +24,6 @@ impl Round {
     /// Takes the order that is longer by the line of a call, where the machine gives the call the reply.
     pub(crate) fn take_grown(
         &mut self,
-        alloc: Global,
         offers: &mut Offers,
         history: &History,
         begun: Begun,
@@ -44,9 +43,10 @@ impl Round {
             → LeadsNowhere history.now.recorded (lines ++ line.now ∷ [])) }
     {
         let mut longer = begun;
-        let given = longer.grow(offers, history, choice, line)?;
+        let last = self.trail.push(longer.last, choice.cpu)?;
+        let given = longer.grow(offers, history, choice, line, last)?;
         if given {
-            self.take(alloc, offers, history, longer)?;
+            self.take(offers, history, longer)?;
             return Ok(());
         }
         Ok(())
@@ -55,7 +55,6 @@ impl Round {
     /// Takes a copy of the order that is longer by a line, where the machine gives its call the reply.
     pub(crate) fn take_longer(
         &mut self,
-        alloc: Global,
         offers: &mut Offers,
         history: &History,
         begun: &Begun,
@@ -70,14 +69,13 @@ impl Round {
         ensures taken { OnOk result (RoundLost history.now.recorded self.new → (lines : List Line) → Holds history.now.recorded begun.now lines
             → LeadsNowhere history.now.recorded (lines ++ line.now ∷ [])) }
     {
-        let copy = begun.copy(alloc)?;
-        self.take_grown(alloc, offers, history, copy, choice, line)
+        let copy = begun.copy()?;
+        self.take_grown(offers, history, copy, choice, line)
     }
 
     /// Takes the order that is longer by a call which may come next at once, so that nothing else need be tried.
     pub(crate) fn take_settled(
         &mut self,
-        alloc: Global,
         offers: &mut Offers,
         history: &History,
         begun: Begun,
@@ -96,13 +94,12 @@ impl Round {
             cpu: choice.cpu,
             number: choice.number,
         };
-        self.take_grown(alloc, offers, history, begun, choice, &line)
+        self.take_grown(offers, history, begun, choice, &line)
     }
 
     /// Takes the order that is longer by the call that returned, where no other need come before it.
     pub(crate) fn take_only(
         &mut self,
-        alloc: Global,
         offers: &mut Offers,
         history: &History,
         begun: Begun,
@@ -123,6 +120,6 @@ impl Round {
             cpu: group.first.cpu,
             number: group.first.number,
         };
-        self.take_grown(alloc, offers, history, begun, group.first, &line)
+        self.take_grown(offers, history, begun, group.first, &line)
     }
 }

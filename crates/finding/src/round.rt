@@ -5,17 +5,18 @@ ghost use Rattle.verdict_laws.specs.Unread.{ReadsNothing};
 ghost use Rattle.finding.specs.Begun.{AllBegun, AllLost, IsBegun, IsRound, RoundLost};
 
 use crate::alike::{has_alike, has_beginning};
-use crate::begun::Begun;
+use crate::begun::{Begun, Orders};
 use crate::choice::{PENDING, rank};
 use crate::group::group_at;
 use crate::offers::Offers;
 use crate::settled::settled_choice;
+use crate::trail::Trail;
 use crate::watch::{Advance, Pace, Watch};
 use history::History;
 use std::alloc::{AllocError, Global};
 
 /// How many orders that lack a call are kept.
-const LACKING: usize = 2048;
+const LACKING: usize = 512;
 
 /// How many orders that lack none are kept.
 const NEXT: usize = 256;
@@ -31,6 +32,7 @@ pub(crate) struct Round {
     pub(crate) unread: bool,
     pub(crate) lacking: Vec<Begun>,
     pub(crate) next: Vec<Begun>,
+    pub(crate) trail: Trail,
 }
 
 impl Round {
@@ -40,7 +42,6 @@ impl Round {
     /// Takes an order, unless another stands for it.
     pub(crate) fn take(
         &mut self,
-        alloc: Global,
         offers: &mut Offers,
         history: &History,
         begun: Begun,
@@ -52,7 +53,7 @@ impl Round {
         ensures taken { OnOk result (RoundLost history.now.recorded self.new → IsLost history.now.recorded begun) }
     {
         if is_up_to(history, &begun, self.place) {
-            self.take_next(alloc, offers, history, begun)
+            self.take_next(offers, history, begun)
         } else {
             self.take_lacking(history, begun)
         }
@@ -61,7 +62,6 @@ impl Round {
     /// Takes an order that lacks no call, unless another leads to it.
     fn take_next(
         &mut self,
-        alloc: Global,
         offers: &mut Offers,
         history: &History,
         begun: Begun,
@@ -72,14 +72,7 @@ impl Round {
         ensures covers { OnOk result (Covers history.now.recorded self.old self.new) }
         ensures taken { OnOk result (RoundLost history.now.recorded self.new → IsLost history.now.recorded begun) }
     {
-        let stands = has_beginning(
-            alloc,
-            offers,
-            history,
-            self.next.as_slice(),
-            &begun,
-            self.unread,
-        )?;
+        let stands = has_beginning(offers, history, self.next.as_slice(), &begun, self.unread)?;
         if stands {
             return Ok(());
         }
@@ -106,7 +99,6 @@ impl Round {
     /// Takes each order that is longer by a line, and returns whether these are all.
     fn take_each(
         &mut self,
-        alloc: Global,
         offers: &mut Offers,
         history: &History,
         begun: Begun,
@@ -124,15 +116,15 @@ impl Round {
             return Ok(false);
         }
         if let Some(choice) = settled_choice(history, &begun, rank(&first), self.unread) {
-            self.take_settled(alloc, offers, history, begun, choice)?;
+            self.take_settled(offers, history, begun, choice)?;
             return Ok(true);
         }
         let group = group_at(history, &begun, first);
         if group.is_alone() {
-            self.take_only(alloc, offers, history, begun, group)?;
+            self.take_only(offers, history, begun, group)?;
             return Ok(true);
         }
-        self.take_group(alloc, offers, history, begun, group)
+        self.take_group(offers, history, begun, group)
     }
 
     /// How far it is, with one order at hand and so many left to make longer.
@@ -162,6 +154,7 @@ impl Round {
             unread,
             lacking,
             next,
+            trail,
         } = self;
         let mut left = lacking;
         let mut round = Round {
@@ -169,12 +162,13 @@ impl Round {
             unread,
             lacking: Vec::new(alloc),
             next,
+            trail,
         };
         'orders: while let Some(begun) = left.pop() {
             if pace.is_due_at(offers.count()) && !watch.goes_on(round.advance(left.len())) {
                 return Ok(None);
             }
-            let all = round.take_each(alloc, offers, history, begun)?;
+            let all = round.take_each(offers, history, begun)?;
             if !all {
                 return Ok(None);
             }
@@ -205,16 +199,17 @@ pub(crate) fn next_orders<W: Watch>(
     first: Round,
     watch: &mut W,
     pace: &mut Pace,
-) -> Result<Option<Vec<Begun>>, AllocError>
+) -> Result<Option<Orders>, AllocError>
     requires { IsRound history.now.recorded first }
-    ensures begun { IfOk result (λ orders. IfSome orders (λ next. AllBegun history.now.recorded next.items)) }
+    ensures begun { IfOk result (λ orders. IfSome orders (λ next. AllBegun history.now.recorded next.begun.items)) }
     ensures covers { IfOk result (λ orders. IfSome orders
-        (λ next. AllLost history.now.recorded next.items → RoundLost history.now.recorded first)) }
+        (λ next. AllLost history.now.recorded next.begun.items → RoundLost history.now.recorded first)) }
 {
     let mut round = first;
     'depths: for _depth in 0..DEPTH {
         if round.lacking.is_empty() {
-            return Ok(Some(round.next));
+            let Round { next, trail, .. } = round;
+            return Ok(Some(Orders { begun: next, trail }));
         }
         let Some(deeper) = round.deeper(alloc, offers, history, watch, pace)? else {
             return Ok(None);
@@ -228,21 +223,25 @@ pub(crate) fn next_orders<W: Watch>(
 pub(crate) fn sorted(
     alloc: Global,
     history: &History,
-    kept: Vec<Begun>,
+    kept: Orders,
     place: u32,
     unread: bool,
 ) -> Result<Round, AllocError>
-    requires kept { AllBegun history.now.recorded kept.items }
+    requires kept { AllBegun history.now.recorded kept.begun.items }
     requires unread { IsTrue unread → ReadsNothing history.now.recorded.events }
     ensures round { IfOk result (IsRound history.now.recorded) }
-    ensures covers { IfOk result (λ round. RoundLost history.now.recorded round → AllLost history.now.recorded kept.items) }
+    ensures covers { IfOk result (λ round. RoundLost history.now.recorded round → AllLost history.now.recorded kept.begun.items) }
 {
-    let mut left = kept;
+    let Orders {
+        begun: mut left,
+        trail,
+    } = kept;
     let mut round = Round {
         place,
         unread,
         lacking: Vec::new(alloc),
         next: Vec::new(alloc),
+        trail,
     };
     'orders: while let Some(begun) = left.pop() {
         if is_up_to(history, &begun, place) {

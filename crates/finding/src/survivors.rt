@@ -5,11 +5,12 @@ ghost use Rattle.std.specs.List.{All};
 ghost use Rattle.rmm_spec.specs.FirstFault.{Passes};
 ghost use Rattle.rmm_spec.specs.State.{State};
 
-use crate::begun::Begun;
+use crate::begun::Orders;
 use crate::first_part::first_part;
 use crate::forward::{Survey, forward};
 use crate::guided::order_of;
 use crate::offers::Offers;
+use crate::trail::Trail;
 use crate::unread::unread;
 use crate::watch::Watch;
 use certificate::Certificate;
@@ -37,7 +38,7 @@ pub fn orders_before<W: Watch>(
         return Ok(Vec::new(alloc));
     };
     let orders = kept_orders(alloc, &part, limit, watch)?;
-    first_orders(alloc, history, orders.as_slice(), limit, watch)
+    first_orders(alloc, history, &orders, limit, watch)
 }
 
 /// Orders that are kept of all calls that returned, or of those of the history without readings, where too many would be.
@@ -46,17 +47,24 @@ fn kept_orders<W: Watch>(
     history: &History,
     limit: u64,
     watch: &mut W,
-) -> Result<Vec<Begun>, AllocError> {
+) -> Result<Orders, AllocError> {
     let mut offers = Offers::none();
     if let Survey::Kept(orders) = forward(alloc, &mut offers, history, limit / 2, watch)? {
         return Ok(orders);
     }
     let Some(unread) = unread(alloc, history)? else {
-        return Ok(Vec::new(alloc));
+        return Ok(no_orders(alloc));
     };
     match forward(alloc, &mut offers, &unread, limit, watch)? {
         Survey::Kept(orders) => Ok(orders),
-        _ => Ok(Vec::new(alloc)),
+        _ => Ok(no_orders(alloc)),
+    }
+}
+
+fn no_orders(alloc: Global) -> Orders {
+    Orders {
+        begun: Vec::new(alloc),
+        trail: Trail::new(alloc),
     }
 }
 
@@ -64,19 +72,20 @@ fn kept_orders<W: Watch>(
 fn first_orders<W: Watch>(
     alloc: Global,
     history: &History,
-    orders: &[Begun],
+    orders: &Orders,
     limit: u64,
     watch: &mut W,
 ) -> Result<Vec<Certificate>, AllocError>
     ensures { IfOk result (λ told. All (λ order. (state : State) × Passes history.now.recorded order.lines state) told.items) }
 {
     let mut told = Vec::new(alloc);
-    'orders: for order in orders {
+    'orders: for order in orders.begun.as_slice() {
         if told.len() >= MOST {
             return Ok(told);
         }
-        let lines = order_of(alloc, history, order, limit, watch)?;
-        if lines.len() < order.cpus.len() {
+        let cpus = orders.trail.cpus_up_to(alloc, order.last)?;
+        let lines = order_of(alloc, history, cpus.as_slice(), limit, watch)?;
+        if lines.len() < cpus.len() {
             continue;
         }
         told.push(lines)?;

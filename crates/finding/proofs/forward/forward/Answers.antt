@@ -9,16 +9,16 @@ pub places-init : goal.places-init
 places-init g c =
     let history = c.args.history.now.recorded in
     record {
-      begun = AllBegun-push history c.new-kept.result.items c.push.new.self.items c.in_ok-opening.opening c.in_ok-push.ensures.items
-          (rw c.new-kept.ensures.items (All-nil (IsBegun history))) c.in_ok-opening.ensures.begun;
+      begun = AllBegun-push history c.new-begun.result.items c.push.new.self.items c.in_ok-opening.opening c.in_ok-push.ensures.items
+          (rw c.new-begun.ensures.items (All-nil (IsBegun history))) c.in_ok-opening.ensures.begun;
       covers = λ lost.
           c.in_ok-opening.ensures.lost
-          (AllLost-pop history c.push.new.self.items c.new-kept.result.items c.in_ok-opening.opening c.in_ok-push.ensures.items lost).1;
+          (AllLost-pop history c.push.new.self.items c.new-begun.result.items c.in_ok-opening.opening c.in_ok-push.ensures.items lost).1;
     }
 
 pub returns-then-is_empty : goal.returns-then-is_empty
 returns-then-is_empty g c =
-    let next = c.in-Some.next in
+    let next = c.in-Some.next.begun in
     let same : next.len ≡ length next.items = omega (arith, next.ok.0) in
     let empty : next.len ≡ 0 = eqb-true next.len 0 (sym c.is_empty.ensures ∙ c.if-is_empty.true) in
     c.places.invariant.covers

@@ -5,6 +5,6 @@ use Rattle.finding.proofs.forward.forward.Given as goal
 
 abbrev pub invariant-places : goal.invariant-places
 invariant-places g l = record {
-  begun : AllBegun l.history.recorded l.kept.items;
-  covers : AllLost l.history.recorded l.kept.items → LeadsNowhere l.history.recorded [];
+  begun : AllBegun l.history.recorded l.kept.begun.items;
+  covers : AllLost l.history.recorded l.kept.begun.items → LeadsNowhere l.history.recorded [];
 }

@@ -1,9 +1,9 @@
--- The CPUs so far that are inside have nothing to do with the granule.
+-- CPU by CPU.
 use Rattle.std.proofs.Common.{◌≡◌, ◌<◌, true, ℕ}
-use Rattle.finding.specs.Group.{IsNextApart, is_inside}
+use Rattle.finding.specs.Group.{PassesCpu, is_inside}
 use Rattle.finding.proofs.group.passes_inside.Given as goal
 
 abbrev pub invariant-loop-other : goal.invariant-loop-other
 invariant-loop-other l = record {
-  apart : (other : ℕ) → other < l.other → is_inside l.group other ≡ true → IsNextApart l.history.recorded l.begun other l.granule;
+  passes : (other : ℕ) → other < l.other → is_inside l.group other ≡ true → PassesCpu l.history.recorded l.begun l.cpu other;
 }

@@ -7,7 +7,7 @@ abbrev pub invariant-orders : goal.invariant-orders
 invariant-orders l = record {
   round : IsRound l.history.recorded l.round;
   left : AllBegun l.history.recorded l.left.items;
-  covers : RoundLost l.history.recorded l.round → AllLost l.history.recorded l.left.items → AllLost l.history.recorded l.fn.kept.items;
+  covers : RoundLost l.history.recorded l.round → AllLost l.history.recorded l.left.items → AllLost l.history.recorded l.fn.kept.begun.items;
 }
 
 abbrev pub decreases-orders : goal.decreases-orders

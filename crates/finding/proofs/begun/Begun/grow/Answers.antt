@@ -14,8 +14,8 @@ overflow_add-choice c =
 pub set-requires-clause-cpu : goal.set-requires-clause-cpu
 set-requires-clause-cpu c = (of_a_line c.args.history.now.recorded c.requires.begun.front.is_history c.args.choice c.requires.next.places).0
 
-pub returns-in_ok-push : goal.returns-in_ok-push
-returns-in_ok-push c =
+pub returns-then-given : goal.returns-then-given
+returns-then-given c =
     rw c.if-given.true
     (IsGrown-given c.args.history.now.recorded c.requires.begun.front.is_history
     c.args.self.now _ c.args.choice c.args.line.now c.requires.next c.requires.of_cpu

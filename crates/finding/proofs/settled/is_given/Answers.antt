@@ -6,8 +6,8 @@ use Rattle.rmm_spec.specs.declared.command.Command.{Command}
 use Rattle.rmm_spec.specs.Call.{call_of}
 use Rattle.rmm_spec.specs.Step.{outcome}
 use Rattle.rmi_view.specs.Seen.{command_seen, reply_seen}
-use Rattle.finding.proofs.SettledLaws.{IsExtended-given}
-use Rattle.finding.proofs.settled.is_extended.Goals as goal
+use Rattle.finding.proofs.SettledLaws.{IsGiven-here}
+use Rattle.finding.proofs.settled.is_given.Goals as goal
 
 pub returns-in-Ok-Done : goal.returns-in-Ok-Done
 returns-in-Ok-Done c = λ same.
@@ -16,7 +16,7 @@ returns-in-Ok-Done c = λ same.
     let command = command_seen c.in-Some-command_at.command in
     let out = ap (λ (m : Command). outcome state choice.cpu (call_of m)) (sym c.to_command.ensures)
     ∙ (sym c.outcome.ensures ∙ (c.in-Ok-Done.is ∙ ap (λ (a : Accepted). Ok a) c.in-Ok-Done.field-0-is)) in
-    IsExtended-given c.args.history.now.recorded state choice c.in-Some.returned command (reply_seen c.in-Some-reply_at.reply) c.requires.unread
+    IsGiven-here c.args.history.now.recorded state choice c.in-Some.returned command (reply_seen c.in-Some-reply_at.reply)
     c.requires.places c.in-Some.is c.in-Some-command_at.ensures.some c.in-Some-reply_at.ensures.some
-    (sym c.is_extending.ensures ∙ c.if-not-is_extending.false) c.in-Ok-Done.words c.in-Ok-Done.field-0-1 out
+    (c.comes_at_once.ensures c.if-not-comes_at_once.false) c.in-Ok-Done.words c.in-Ok-Done.field-0-1 out
     (c.is.ensures.0 same)

@@ -1,7 +1,7 @@
 -- What the call's command lends.
 use Rattle.rmi_view.specs.Seen.{command_seen}
 use Rattle.finding.proofs.GroupLaws.{LendsNext-lent}
-use Rattle.finding.proofs.group.lent_next.Goals as goal
+use Rattle.finding.proofs.passing.lent_next.Goals as goal
 
 pub returns : goal.returns
 returns c =

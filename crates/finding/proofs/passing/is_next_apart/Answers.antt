@@ -2,7 +2,7 @@
 use Rattle.std.proofs.Common.{sym, ◌∙◌}
 use Rattle.rmi_view.specs.Seen.{command_seen}
 use Rattle.finding.proofs.GroupLaws.{IsNextApart-command}
-use Rattle.finding.proofs.group.is_next_apart.Goals as goal
+use Rattle.finding.proofs.passing.is_next_apart.Goals as goal
 
 pub returns-in-Some-command_at : goal.returns-in-Some-command_at
 returns-in-Some-command_at c = λ apart.
