@@ -124,8 +124,8 @@ fn find_forward<W: Watch>(
     let found = survey_of(alloc, &mut search.offers, history, near, watch)?;
     match found {
         Survey::Lost(place) => {
-            let twice = min(limit, search.offers.count().saturating_mul(2));
-            let told = told_place(alloc, &mut search.offers, history, twice, place, watch)?;
+            let near = offers_near(history, search.offers.count(), TO_NAME, limit);
+            let told = told_place(alloc, &mut search.offers, history, near, place, watch)?;
             Ok(Found::None(told))
         }
         Survey::Kept(orders) => {
