@@ -7,6 +7,7 @@ Eight CPUs call all the time, on 4,096 granules. Under `few` they delegate and u
 and each return may be delayed by up to 64 events. Under `recs` one realm has a REC on each CPU, and these extend and read the same
 four registers. Under `parallel` all give pages to one new realm and set its RIPAS. A reply is changed at the beginning, in the
 middle or at the end; it may be right in another order. What was found is printed with the time, beside that of a check of a good history.
+The loads of generate.py can be named too.
 """
 import argparse
 import os
@@ -22,7 +23,9 @@ sys.path.append(os.path.join(HERE, "../tests"))
 from compare import changed_reply
 from functions import (DATA_CREATE, DATA_DESTROY, EXIT, GRANULE_DELEGATE, GRANULE_UNDELEGATE, MEASUREMENT_EXTEND, MEASUREMENT_READ,
                        REALM_ACTIVATE, REALM_CREATE, REC_CREATE, REC_ENTER, RTT_CREATE, RTT_INIT_RIPAS)
+from generate import run
 from lives import CPUS, GRANULES
+from loads import LOADS as DRAWN
 from machine import Machine
 from tables import ENTRIES, LAST_LEVEL, PAGE_BYTES
 
@@ -112,8 +115,10 @@ LOADS = {"few": (Few, 1), "late": (Many, 64), "recs": (Recs, 1), "parallel": (Pa
 
 def lines_of(load, count, draw):
     """A good history: each reply is the machine's at the commit."""
-    kind, delay = LOADS[load]
     machine = Machine(GRANULES)
+    if load not in LOADS:
+        return run(machine, DRAWN[load](machine, draw), CPUS, count, draw)[0]
+    kind, delay = LOADS[load]
     source = kind(machine, draw)
     history = [f"rmh1 {GRANULES} {CPUS}"]
     calls = [0] * CPUS

@@ -3,8 +3,8 @@
 
 usage: followed.py [--find PATH] [SEED]
 
-Of a history of 1,000 lines with another reading of a measurement in the middle (`recs` of bench/others.py) `gave up` has to come once the seconds
-have passed, and of its report no later than once more as many. Where standard error is a terminal, lines there have to tell how far the search is,
+Of a history of 1,000 lines with another reading of a measurement in the middle (`recs` of bench/others.py), and with two realms that ask for RECs of
+one granule, `gave up` has to come once the seconds have passed, and of its report no later than once more as many. Where standard error is a terminal, lines there have to tell how far the search is,
 the last of them erased; where it is a pipe, nothing. It stops at the first answer that is another, or that comes at another time.
 """
 import argparse
@@ -18,9 +18,11 @@ import tempfile
 import time
 
 from places import built
-from others import MEASUREMENT_READ, lines_of
+from others import MEASUREMENT_READ, REC_CREATE, lines_of
 
 LINES = 1000
+# the granules of the first REC, and one of no realm
+REC, AUX0, AUX1, OTHER = 0x4000, 0x5000, 0x6000, 0x3F000
 LATE = 1.5
 TOLD = re.compile(r"\r\x1b\[Krmmfind: line (\d+) of (\d+), orders kept: (\d+)")
 
@@ -60,13 +62,23 @@ def read_otherwise(history, place):
     raise ValueError("no reading returns there")
 
 
+def asked_for_before(history):
+    """The history where another realm is asked for a REC of the first one's granule before all."""
+    header, *lines = history
+    later = []
+    for line in lines:
+        kind, cpu, number, *rest = line.split()
+        later.append(" ".join([kind, cpu, str(int(number) + 1) if cpu == "7" else number, *rest]))
+    return [header, f"c 7 0 {REC_CREATE} {OTHER:x} {REC:x} 0 1 {AUX0:x} {AUX1:x}", "r 7 0 err 1 0", *later]
+
+
 def main():
     parser = argparse.ArgumentParser(usage=__doc__)
     parser.add_argument("--find", default=built("rmmfind"))
     parser.add_argument("seed", type=int, nargs="?", default=1)
     words = parser.parse_args()
     draw = random.Random(words.seed)
-    history = read_otherwise(lines_of("recs", LINES, draw), LINES // 2)
+    history = asked_for_before(read_otherwise(lines_of("recs", LINES, draw), LINES // 2))
     with tempfile.NamedTemporaryFile("w", encoding="ascii", newline="\n", suffix=".history") as file:
         file.write("".join(f"{line}\n" for line in history))
         file.flush()
@@ -79,9 +91,9 @@ def main():
     expect(status == 4 and printed.startswith("gave up\n\nk "), "explained", status, printed)
     expect(3 <= took <= 6 + LATE, "seconds with the report", took)
     told = TOLD.findall(shown)
-    expect(len(told) >= 2 and all(1 <= int(line) <= int(lines) == LINES for line, lines, _ in told), "told", shown)
+    expect(len(told) >= 2 and all(1 <= int(line) <= int(lines) == len(history) for line, lines, _ in told), "told", shown)
     expect(shown.endswith("\r\x1b[K"), "the last line stays", shown)
-    print(f"gave up in time, after {len(told)} lines on the terminal, the last at line {told[-1][0]} of {LINES} with orders: {told[-1][2]}")
+    print(f"gave up in time, after {len(told)} lines on the terminal, the last at line {told[-1][0]} of {len(history)} with orders: {told[-1][2]}")
 
 
 if __name__ == "__main__":
