@@ -16,7 +16,7 @@ LAWS = {"lemmas", "spec_lemmas", "rmm_laws", "shape_laws", "world_laws", "verdic
 # of each other crate whose lemmas are cited, where, and why
 NAMED = {
     "certificate": ({"checker", "text_writers"}, "from one piece of a certificate to the next; a text that was written, read"),
-    "checker": ({"explain", "finding", "registers", "verdict_laws"}, "a check's run, line by line, with which these go on"),
+    "checker": ({"explain", "verdict_laws"}, "a check's run, line by line, with which these go on"),
     "command_core": ({"granule_lock", "world"}, "granules that are all different, and which are held"),
     "command_rows": ({"command_core", "flat_machine", "spec_machine"}, "what a row's answer is by the definitions"),
     "commit_tickets": ({"monitor"}, "the journal, gone through beside the tokens"),

@@ -1,6 +1,7 @@
 -- Orders that are begun, as they grow by a line and stand for others.
-use Rattle.finding.proofs.Common.{◌++◌, ◌+◌, ◌∙◌, ◌∷◌, ◌≡◌, Choice, Frame, History, IsBegun, IsHistory, IsLeast, IsNextCall, LeadsNowhere, Line, List, Option, Some, State, TriedIn, Unfinished, [], ap, arith, cpu_named, inl, inr, number_named, opening, rank_of, state_of, subst, sym, ℕ}
-use Rattle.std.proofs.Common.{Bool, true, set, append_assoc}
+use Rattle.finding.proofs.Common.{◌++◌, ◌+◌, ◌∙◌, ◌∷◌, ◌≡◌, Choice, Frame, History, IsBegun, IsFinished, IsHistory, IsLeast, IsNextCall, LeadsNowhere, Line, List, Option, Some, State, TriedIn, Unfinished, [], ap, arith, cpu_named, inl, inr, number_named, opening, rank_of, refl, state_of, subst, sym, ℕ}
+use Rattle.std.proofs.Common.{Bool, true, set, append_assoc, subst₂}
+use Rattle.rmm_spec.specs.declared.line.Line.TheVariants.{Keep}
 use Rattle.rmm_spec.specs.FirstFault.{IsRefused}
 use Rattle.rmm_spec.specs.Rows.{ok}
 use Rattle.rmm_spec.specs.Linearization.{IsLinearization, IsOfItsKind}
@@ -10,11 +11,14 @@ use Rattle.verdict_laws.proofs.Nowhere.{nowhere_by, nowhere_unless}
 use Rattle.verdict_laws.proofs.UnreadOrders.{nowhere_unmeasured}
 use Rattle.verdict_laws.specs.Unread.{ReadsNothing, unmeasured}
 use Rattle.finding.specs.Attempt.{IsAttempt, MayTry}
-use Rattle.finding.specs.Begun.{Holds, IsGrown, IsLost, IsSoon, Stays}
+use Rattle.finding.specs.Begun.{Holds, HoldsOf, IsBegunAt, IsGrown, IsLostAt, IsSoon, IsSoonAt, Stays}
 use Rattle.finding.specs.Counts.{AreCounts}
 use Rattle.finding.specs.Front.{IsFront}
 use Rattle.finding.specs.Search.{IsGiven}
+use Rattle.finding.specs.Waiting.{MayCome}
 use Rattle.finding.specs.declared.begun.Begun.{Begun}
+use Rattle.finding.specs.declared.candidate.Candidate.{Candidate}
+use Rattle.finding.specs.declared.front.Front.{Front}
 use Rattle.finding.proofs.Attempts.{of_a_line}
 use Rattle.finding.proofs.Choices.{rank_pending}
 use Rattle.finding.proofs.KeptLaws.{IsNowhere-of, same_counts}
@@ -26,49 +30,40 @@ pub nowhere_longer : (history : History) (lines : List Line) (line : Line) → L
 nowhere_longer history lines line nowhere =
     record { none = λ more valid. nowhere.none (line ∷ more) (subst (IsLinearization history) (append_assoc lines (line ∷ []) more) valid) }
 
--- where one order leads nowhere of which it is held, each does
-pub IsLost-from : (history : History) → IsHistory history → (begun : Begun) (lines : List Line)
-    → Holds history begun lines → LeadsNowhere history lines
-    → IsLost history begun
-IsLost-from history is_history begun lines holds nowhere = record {
+-- where one order of so many calls to the state leads nowhere, each does
+pub IsLost-from : (history : History) → IsHistory history → (counts : List ℕ) (state : State) (lines : List Line)
+    → HoldsOf history counts state lines → LeadsNowhere history lines
+    → IsLostAt history counts state
+IsLost-from history is_history counts state lines holds nowhere = record {
   nowhere = λ other also.
-      IsNowhere-of history is_history lines
-      (state_of begun.machine) holds.reached begun.front.counts holds.counts nowhere other also.reached also.counts;
+      IsNowhere-of history is_history lines state holds.reached counts holds.counts nowhere other also.reached also.counts;
 }
 
 -- what is held of the one is held of the other
 pub Holds-alike : (history : History) (one other : Begun) (lines : List Line) → one.front.counts ≡ other.front.counts
     → state_of one.machine ≡ state_of other.machine → Holds history other lines → Holds history one lines
-Holds-alike history one other lines counts state holds = record {
-  reached = subst (Reaches history lines) (sym state) holds.reached;
-  counts = subst (λ (cs : List ℕ). AreCounts cs lines) (sym counts) holds.counts;
-}
-
-pub IsLost-alike : (history : History) (one other : Begun) → one.front.counts ≡ other.front.counts → state_of one.machine ≡ state_of other.machine
-    → IsLost history one → IsLost history other
-IsLost-alike history one other counts state lost =
-    record { nowhere = λ lines holds. lost.nowhere lines (Holds-alike history one other lines counts state holds) }
+Holds-alike history one other lines counts state holds =
+    subst₂ (λ (cs : List ℕ) (s : State). HoldsOf history cs s lines) (sym counts) (sym state) holds
 
 -- where none is read, the states may differ in measurements
-pub IsLost-like : (history : History) → ReadsNothing history.events → (one other : Begun) → IsBegun history one
-    → one.front.counts ≡ other.front.counts → unmeasured (state_of one.machine) ≡ unmeasured (state_of other.machine) → IsLost history one
-    → IsLost history other
-IsLost-like history reads one other begun counts like lost = record {
+pub IsLost-like : (history : History) → ReadsNothing history.events → (one : Front) (counts : List ℕ) (state other : State)
+    → IsBegunAt history one state → one.counts ≡ counts → unmeasured state ≡ unmeasured other → IsLostAt history one.counts state
+    → IsLostAt history counts other
+IsLost-like history reads one counts state other begun same like lost = record {
   nowhere = λ lines holds.
-      nowhere_unmeasured history begun.front.is_history reads begun.lines lines (state_of one.machine) (state_of other.machine) begun.holds.reached
-      holds.reached
-      (same_counts history begun.front.is_history begun.lines lines (state_of one.machine) (state_of other.machine) begun.holds.reached holds.reached
-      other.front.counts (subst (λ (cs : List ℕ). AreCounts cs begun.lines) counts begun.holds.counts) holds.counts)
+      nowhere_unmeasured history begun.front.is_history reads begun.lines lines state other begun.holds.reached holds.reached
+      (same_counts history begun.front.is_history begun.lines lines state other begun.holds.reached holds.reached
+      counts (subst (λ (cs : List ℕ). AreCounts cs begun.lines) same begun.holds.counts) holds.counts)
       like (lost.nowhere begun.lines begun.holds);
 }
 
 -- no line
-pub Holds-nil : (history : History) (begun : Begun)
-    → begun.front.counts ≡ 0 ∷ 0 ∷ 0 ∷ 0 ∷ 0 ∷ 0 ∷ 0 ∷ 0 ∷ [] → state_of begun.machine ≡ opening history.config
-    → Holds history begun []
-Holds-nil history begun counts state = record {
-  reached = subst (Reaches history []) (sym state) (Reaches-nil history);
-  counts = subst (λ (cs : List ℕ). AreCounts cs []) (sym counts) AreCounts-nil;
+pub Holds-nil : (history : History) (counts : List ℕ) (state : State)
+    → counts ≡ 0 ∷ 0 ∷ 0 ∷ 0 ∷ 0 ∷ 0 ∷ 0 ∷ 0 ∷ [] → state ≡ opening history.config
+    → HoldsOf history counts state []
+Holds-nil history counts state none opens = record {
+  reached = subst (Reaches history []) (sym opens) (Reaches-nil history);
+  counts = subst (λ (cs : List ℕ). AreCounts cs []) (sym none) AreCounts-nil;
 }
 
 module _ (history : History) (is_history : IsHistory history) (old new : Begun) (choice : Choice)
@@ -96,7 +91,7 @@ module _ (history : History) (is_history : IsHistory history) (old new : Begun) 
       begun = record { front = front; lines = begun.lines ++ line ∷ []; holds = Holds-grown begun.lines begun.holds };
       behind = λ lines holds lost. lost.nowhere (lines ++ line ∷ []) (Holds-grown lines holds);
       before = λ lost.
-          IsLost-from history is_history new (begun.lines ++ line ∷ []) (Holds-grown begun.lines begun.holds)
+          IsLost-from history is_history new.front.counts (state_of new.machine) (begun.lines ++ line ∷ []) (Holds-grown begun.lines begun.holds)
           (nowhere_longer history begun.lines line (lost.nowhere begun.lines begun.holds));
     }
 
@@ -147,3 +142,13 @@ module _ (history : History) (is_history : IsHistory history) (lines : List Line
         subst (λ (f : ℕ). TriedIn history group lines f frame.above) (sym ended.from)
         (Tried-ended history is_history lines state reached counts are group from above tried choice next is_least frame.above ended.nowhere)
   ]
+
+-- ---- what may come next
+
+-- a call that has returned may, with its reply
+pub MayCome-returned : (history : History) (counts : List ℕ) (state : State) (choice : Choice) (next : Candidate) → next.choice ≡ choice
+    → next.line ≡ Keep choice.cpu choice.number → IsNextCall history counts 0 choice → IsFinished history.events choice.cpu choice.number
+    → IsSoonAt history counts state choice → MayCome history counts state next
+MayCome-returned history counts state choice next of_choice of_line call finished soon =
+    subst (MayCome history counts state) (λ i. record { choice = sym of_choice i; line = sym of_line i })
+    (record { call = call; of_cpu = refl; numbered = refl; kind = finished; soon = soon })

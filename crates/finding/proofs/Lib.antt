@@ -11,6 +11,8 @@ pub mod Replayed
 pub mod KeptLaws
 pub mod Moving
 pub mod BegunLaws
+pub mod Shelving
+pub mod LongerLaws
 pub mod NextLines
 pub mod Rounds
 pub mod Finds

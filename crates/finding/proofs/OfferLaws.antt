@@ -12,7 +12,7 @@ use Rattle.rmm_spec.specs.Linearization.{IsCalled, IsReturned, IsReplyOf}
 use Rattle.history.specs.Calls.{ArePlacesOf}
 use Rattle.history.specs.declared.history.Places.{Places}
 use Rattle.spec_lemmas.proofs.Calls.{HasOnePlaces, told_at_call}
-use Rattle.checker.proofs.Faults.{IsRefused-from_step}
+use Rattle.verdict_laws.proofs.Checked.{IsRefused-from_step}
 use Rattle.finding.specs.Search.{IsGiven}
 
 -- ---- places

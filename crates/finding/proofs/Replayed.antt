@@ -4,7 +4,7 @@ use Rattle.rmm_spec.specs.declared.command.Command.{Command}
 use Rattle.rmm_spec.specs.Step.{Step}
 use Rattle.rmm_spec.specs.Linearization.{IsNamed}
 use Rattle.spec_lemmas.proofs.Calls.{same_command}
-use Rattle.checker.proofs.Progress.{Passes-push}
+use Rattle.verdict_laws.proofs.Checked.{Passes-push}
 use Rattle.verdict_laws.specs.Order.{IsNext, Reaches}
 use Rattle.finding.specs.Search.{AreFrames, AreReached, IsGiven}
 use Rattle.finding.proofs.LeftBehind.{lines_of-next}

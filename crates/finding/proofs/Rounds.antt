@@ -1,92 +1,108 @@
 -- Orders that are taken into a round.
-use Rattle.finding.proofs.Common.{◌++◌, ◌∷◌, ◌≡◌, AllLost, Choice, History, IsBegun, IsNextCall, IsRound, IsTrue, Line, List, RoundLost, Some, [], ap, state_of, subst, sym, ℕ}
+use Rattle.finding.proofs.Common.{◌++◌, ◌∷◌, ◌≡◌, AllLost, History, IsRound, IsTrue, List, RoundLost, Some, [], arith, length, subst, sym}
 use Rattle.std.proofs.lemmas.List.Elements.{All-pop, All-push}
 use Rattle.std.proofs.Common.{Bool}
 use Rattle.verdict_laws.specs.Unread.{ReadsNothing}
-use Rattle.finding.specs.Begun.{AllBegun, Covers, Holds, IsLost, IsSoon}
-use Rattle.finding.specs.Front.{IsFront}
+use Rattle.spec_machine.specs.Patches.{Standing, patched, standing_of}
+use Rattle.spec_machine.specs.declared.machine.Machine.{Machine}
+use Rattle.finding.specs.Begun.{AllShelved, AreOrders, Covers, IsLost, IsShelved, IsShelvedLost, base_of}
 use Rattle.finding.specs.declared.begun.Begun.{Begun}
-use Rattle.finding.specs.declared.front.Front.{Front}
 use Rattle.finding.specs.declared.round.Round.{Round}
-use Rattle.finding.proofs.BegunLaws.{Holds-alike}
+use Rattle.finding.specs.declared.shelved.Orders.{Orders}
+use Rattle.finding.specs.declared.shelved.Shelved.{Shelved}
+use Rattle.finding.proofs.Shelving.{IsShelvedLost-begun}
+
+-- no order
+pub AllLost-none : (history : History) (base : Standing) (orders : List Shelved) → length orders ≡ 0 → AllLost history base orders
+AllLost-none history base orders none = λ k d within. absurd (omega (arith, within, none))
 
 -- one more order
-pub AllBegun-push : (history : History) (old new : List Begun) (begun : Begun)
-    → new ≡ old ++ begun ∷ [] → AllBegun history old → IsBegun history begun
-    → AllBegun history new
-AllBegun-push history old new begun are all is =
-    subst (AllBegun history) (sym are) (All-push (IsBegun history) old begun all is)
+pub AllShelved-push : (history : History) (base : Standing) (old new : List Shelved) (order : Shelved)
+    → new ≡ old ++ order ∷ [] → AllShelved history base old → IsShelved history base order
+    → AllShelved history base new
+AllShelved-push history base old new order are all is =
+    subst (AllShelved history base) (sym are) (All-push (IsShelved history base) old order all is)
 
-pub AllLost-push : (history : History) (old new : List Begun) (begun : Begun) → new ≡ old ++ begun ∷ [] → AllLost history old → IsLost history begun
-    → AllLost history new
-AllLost-push history old new begun are all is =
-    subst (AllLost history) (sym are) (All-push (IsLost history) old begun all is)
+pub AllLost-push : (history : History) (base : Standing) (old new : List Shelved) (order : Shelved) → new ≡ old ++ order ∷ []
+    → AllLost history base old → IsShelvedLost history base order
+    → AllLost history base new
+AllLost-push history base old new order are all is =
+    subst (AllLost history base) (sym are) (All-push (IsShelvedLost history base) old order all is)
 
 -- the last one, and the others
-pub AllLost-pop : (history : History) (old new : List Begun) (begun : Begun) → old ≡ new ++ begun ∷ [] → AllLost history old
-    → AllLost history new × IsLost history begun
-AllLost-pop history old new begun are all = All-pop (IsLost history) old new (Some begun) are all
+pub AllLost-pop : (history : History) (base : Standing) (old new : List Shelved) (order : Shelved) → old ≡ new ++ order ∷ []
+    → AllLost history base old
+    → AllLost history base new × IsShelvedLost history base order
+AllLost-pop history base old new order are all = All-pop (IsShelvedLost history base) old new (Some order) are all
 
-pub AllBegun-pop : (history : History) (old new : List Begun) (begun : Begun) → old ≡ new ++ begun ∷ [] → AllBegun history old
-    → AllBegun history new × IsBegun history begun
-AllBegun-pop history old new begun are all = All-pop (IsBegun history) old new (Some begun) are all
+pub AllShelved-pop : (history : History) (base : Standing) (old new : List Shelved) (order : Shelved) → old ≡ new ++ order ∷ []
+    → AllShelved history base old
+    → AllShelved history base new × IsShelved history base order
+AllShelved-pop history base old new order are all = All-pop (IsShelved history base) old new (Some order) are all
 
-module _ (history : History) (old new : Round) (begun : Begun) where
+module _ (history : History) (base : Standing) (old new : Round) (order : Shelved) where
   -- one that has the call
-  module _ (lacking : new.lacking.items ≡ old.lacking.items) (next : new.next.items ≡ old.next.items ++ begun ∷ []) where
-    pub IsRound-next : new.unread ≡ old.unread → IsRound history old → IsBegun history begun → IsRound history new
+  module _ (lacking : new.lacking.items ≡ old.lacking.items) (next : new.next.items ≡ old.next.items ++ order ∷ []) where
+    pub IsRound-next : new.unread ≡ old.unread → IsRound history base old → IsShelved history base order → IsRound history base new
     IsRound-next unread round is = record {
+      whole = round.whole;
       unread = subst (λ (b : Bool). IsTrue b → ReadsNothing history.events) (sym unread) round.unread;
-      lacking = subst (AllBegun history) (sym lacking) round.lacking;
-      next = AllBegun-push history old.next.items new.next.items begun next round.next is;
+      lacking = subst (AllShelved history base) (sym lacking) round.lacking;
+      next = AllShelved-push history base old.next.items new.next.items order next round.next is;
     }
 
-    pub Covers-next : Covers history old new
+    pub Covers-next : Covers history base old new
     Covers-next lost = record {
-      lacking = subst (AllLost history) lacking lost.lacking;
-      next = (AllLost-pop history new.next.items old.next.items begun next lost.next).0;
+      lacking = subst (AllLost history base) lacking lost.lacking;
+      next = (AllLost-pop history base new.next.items old.next.items order next lost.next).0;
     }
 
-    pub taken-next : RoundLost history new → IsLost history begun
-    taken-next lost = (AllLost-pop history new.next.items old.next.items begun next lost.next).1
+    pub taken-next : RoundLost history base new → IsShelvedLost history base order
+    taken-next lost = (AllLost-pop history base new.next.items old.next.items order next lost.next).1
 
   -- one that lacks it
-  module _ (lacking : new.lacking.items ≡ old.lacking.items ++ begun ∷ []) (next : new.next.items ≡ old.next.items) where
-    pub IsRound-lacking : new.unread ≡ old.unread → IsRound history old → IsBegun history begun → IsRound history new
+  module _ (lacking : new.lacking.items ≡ old.lacking.items ++ order ∷ []) (next : new.next.items ≡ old.next.items) where
+    pub IsRound-lacking : new.unread ≡ old.unread → IsRound history base old → IsShelved history base order → IsRound history base new
     IsRound-lacking unread round is = record {
+      whole = round.whole;
       unread = subst (λ (b : Bool). IsTrue b → ReadsNothing history.events) (sym unread) round.unread;
-      lacking = AllBegun-push history old.lacking.items new.lacking.items begun lacking round.lacking is;
-      next = subst (AllBegun history) (sym next) round.next;
+      lacking = AllShelved-push history base old.lacking.items new.lacking.items order lacking round.lacking is;
+      next = subst (AllShelved history base) (sym next) round.next;
     }
 
-    pub Covers-lacking : Covers history old new
+    pub Covers-lacking : Covers history base old new
     Covers-lacking lost = record {
-      lacking = (AllLost-pop history new.lacking.items old.lacking.items begun lacking lost.lacking).0;
-      next = subst (AllLost history) next lost.next;
+      lacking = (AllLost-pop history base new.lacking.items old.lacking.items order lacking lost.lacking).0;
+      next = subst (AllLost history base) next lost.next;
     }
 
-    pub taken-lacking : RoundLost history new → IsLost history begun
-    taken-lacking lost = (AllLost-pop history new.lacking.items old.lacking.items begun lacking lost.lacking).1
+    pub taken-lacking : RoundLost history base new → IsShelvedLost history base order
+    taken-lacking lost = (AllLost-pop history base new.lacking.items old.lacking.items order lacking lost.lacking).1
 
--- a copy is held of the same orders
-module _ (history : History) (old copy : Begun) (front : copy.front ≡ old.front) (state : state_of copy.machine ≡ state_of old.machine) where
-  counts : copy.front.counts ≡ old.front.counts
-  counts = ap (λ (f : Front). f.counts) front
+-- an order of the old round is taken at hand, the ones that are longer are taken, and the machine is back
+module _ (history : History) (base : Standing) (old new : Round) (begun : Begun) (same : base_of begun ≡ base) where
+  pub IsRound-back : IsRound history (base_of begun) new → IsRound history base new
+  IsRound-back round = subst (λ (b : Standing). IsRound history b new) same round
 
-  pub Holds-copied : (lines : List Line) → Holds history old lines → Holds history copy lines
-  Holds-copied lines holds = Holds-alike history copy old lines counts state holds
+  RoundLost-there : RoundLost history base new → RoundLost history (base_of begun) new
+  RoundLost-there lost = subst (λ (b : Standing). RoundLost history b new) (sym same) lost
 
-  pub Holds-copy : (lines : List Line) → Holds history copy lines → Holds history old lines
-  Holds-copy lines holds = Holds-alike history old copy lines (sym counts) (sym state) holds
+  pub Covers-back : Covers history (base_of begun) old new → Covers history base old new
+  Covers-back covers = λ lost. subst (λ (b : Standing). RoundLost history b old) same (covers (RoundLost-there lost))
 
-  pub IsBegun-copied : IsBegun history old → IsBegun history copy
-  IsBegun-copied is = record { front = subst (IsFront history) (sym front) is.front; lines = is.lines; holds = Holds-copied is.lines is.holds }
+  pub taken-back : (order : Shelved) → standing_of begun.machine ≡ patched order.patch base → begun.front ≡ order.front
+      → (RoundLost history (base_of begun) new → IsLost history begun) → RoundLost history base new → IsShelvedLost history base order
+  taken-back order there front taken =
+      λ lost. IsShelvedLost-begun base order begun there history front (taken (RoundLost-there lost))
 
-  pub IsLost-copied : IsLost history old → IsLost history copy
-  IsLost-copied lost = record { nowhere = λ lines holds. lost.nowhere lines (Holds-copy lines holds) }
-
-  pub IsNextCall-copied : (choice : Choice) → IsNextCall history old.front.counts 0 choice → IsNextCall history copy.front.counts 0 choice
-  IsNextCall-copied choice next = subst (λ (cs : List ℕ). IsNextCall history cs 0 choice) (sym counts) next
-
-  pub IsSoon-copied : (choice : Choice) → IsSoon history old choice → IsSoon history copy choice
-  IsSoon-copied choice soon = λ lines holds. soon lines (Holds-copy lines holds)
+-- what the orders before a return cover, those with its call do
+pub AreOrders-next : (history : History) (kept rebased next : Orders) (round : Round) (machine : Machine) (covered : Type 0)
+    → standing_of machine ≡ standing_of rebased.machine → AreOrders history kept covered
+    → AreOrders history rebased (AllLost history (standing_of kept.machine) kept.begun.items)
+    → (RoundLost history (standing_of rebased.machine) round → AllLost history (standing_of rebased.machine) rebased.begun.items)
+    → AreOrders history next (RoundLost history (standing_of machine) round)
+    → AreOrders history next covered
+AreOrders-next history kept rebased next round machine covered same are near sorted further = record {
+  shelved = further.shelved;
+  covers = λ lost. are.covers (near.covers (sorted (subst (λ (b : Standing). RoundLost history b round) same (further.covers lost))));
+}

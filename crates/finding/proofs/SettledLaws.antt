@@ -1,6 +1,6 @@
 -- What is found of a call that may come next at once.
 use Rattle.finding.proofs.Common.{◌≡◌, Choice, History, Reply, Some, State, refl, subst, sym, ℕ}
-use Rattle.std.proofs.Common.{true, Result, Ok}
+use Rattle.std.proofs.Common.{Result, Ok}
 use Rattle.arrayvec.specs.ArrayVec.{ArrayVec}
 use Rattle.rmm_spec.specs.declared.accepted.Accepted.{Accepted}
 use Rattle.rmm_spec.specs.declared.accepted.Accepted.TheVariants.{Done}

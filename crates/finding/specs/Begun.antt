@@ -4,6 +4,8 @@ use Rattle.std.specs.List.{All}
 use Rattle.rmm_spec.specs.declared.line.Line.{Line}
 use Rattle.rmm_spec.specs.HistoryText.{History}
 use Rattle.rmm_spec.specs.Linearization.{IsOfItsKind, cpu_named, number_named}
+use Rattle.rmm_spec.specs.State.{State}
+use Rattle.spec_machine.specs.Patches.{IsWhole, Standing, patched, standing_of, state_at}
 use Rattle.spec_machine.specs.View.{state_of}
 use Rattle.verdict_laws.specs.Order.{LeadsNowhere, Reaches, ReturnBehind}
 use Rattle.finding.specs.Choice.{IsNextCall}
@@ -16,27 +18,49 @@ use Rattle.finding.specs.declared.begun.Begun.{Begun}
 use Rattle.finding.specs.declared.choice.Choice.{Choice}
 use Rattle.finding.specs.declared.next_line.NextLine.{NextLine}
 use Rattle.finding.specs.declared.next_line.NextLine.TheVariants as next_line
+use Rattle.finding.specs.declared.front.Front.{Front}
 use Rattle.finding.specs.declared.round.Round.{Round}
+use Rattle.finding.specs.declared.shelved.Orders.{Orders}
+use Rattle.finding.specs.declared.shelved.Shelved.{Shelved}
 use Rattle.finding.specs.declared.search.Left.{Left}
 
--- it is held of an order of these lines
-pub record Holds (history : History) (begun : Begun) (lines : List Line) : Type 0 where
-  pub reached : Reaches history lines (state_of begun.machine)
-  pub counts : AreCounts begun.front.counts lines
+-- so many calls of each CPU and the state are those of an order of these lines
+pub record HoldsOf (history : History) (given : List ℕ) (state : State) (lines : List Line) : Type 0 where
+  pub reached : Reaches history lines state
+  pub counts : AreCounts given lines
 
--- it is held of some order
-pub record IsBegun (history : History) (begun : Begun) : Type 0 where
-  pub front : IsFront history begun.front
+-- the front and the state are those of some order
+pub record IsBegunAt (history : History) (at : Front) (state : State) : Type 0 where
+  pub front : IsFront history at
   pub lines : List Line
-  pub holds : Holds history begun lines
+  pub holds : HoldsOf history at.counts state lines
 
--- each order of which it is held leads nowhere
-pub record IsLost (history : History) (begun : Begun) : Type 0 where
-  pub nowhere : (lines : List Line) → Holds history begun lines → LeadsNowhere history lines
+-- each order of which they are leads nowhere
+pub record IsLostAt (history : History) (counts : List ℕ) (state : State) : Type 0 where
+  pub nowhere : (lines : List Line) → HoldsOf history counts state lines → LeadsNowhere history lines
 
 -- each open call returned behind the place where this one was made
+abbrev pub IsSoonAt : History → List ℕ → State → Choice → Type 0
+IsSoonAt history counts state choice =
+    (lines : List Line) → HoldsOf history counts state lines → ReturnBehind history.events lines choice.places.called
+
+-- ---- an order at hand
+
+abbrev pub Holds : History → Begun → List Line → Type 0
+Holds history begun lines = HoldsOf history begun.front.counts (state_of begun.machine) lines
+
+abbrev pub IsBegun : History → Begun → Type 0
+IsBegun history begun = IsBegunAt history begun.front (state_of begun.machine)
+
+abbrev pub IsLost : History → Begun → Type 0
+IsLost history begun = IsLostAt history begun.front.counts (state_of begun.machine)
+
 abbrev pub IsSoon : History → Begun → Choice → Type 0
-IsSoon history begun choice = (lines : List Line) → Holds history begun lines → ReturnBehind history.events lines choice.places.called
+IsSoon history begun choice = IsSoonAt history begun.front.counts (state_of begun.machine) choice
+
+-- where the patches of orders that are kept lead from
+abbrev pub base_of : Begun → Standing
+base_of begun = patched begun.undo (standing_of begun.machine)
 
 -- The new one is held of the old one's orders with the line behind them. Where the old one's lead nowhere, its own do, and where its own do,
 -- the line leads nowhere.
@@ -88,23 +112,40 @@ IsNextLine history begun group left (next_line.Line choice line new) = MayStand 
 
 -- ---- orders that are kept
 
-abbrev pub AllBegun : History → List Begun → Type 0
-AllBegun history orders = All (IsBegun history) orders
+-- the state behind one, where its patch leads from the base
+abbrev pub state_from : Standing → Shelved → State
+state_from base order = state_at (patched order.patch base)
 
-abbrev pub AllLost : History → List Begun → Type 0
-AllLost history orders = All (IsLost history) orders
+pub record IsShelved (history : History) (base : Standing) (order : Shelved) : Type 0 where
+  pub whole : IsWhole (patched order.patch base)
+  pub begun : IsBegunAt history order.front (state_from base order)
+
+abbrev pub IsShelvedLost : History → Standing → Shelved → Type 0
+IsShelvedLost history base order = IsLostAt history order.front.counts (state_from base order)
+
+abbrev pub AllShelved : History → Standing → List Shelved → Type 0
+AllShelved history base orders = All (IsShelved history base) orders
+
+abbrev pub AllLost : History → Standing → List Shelved → Type 0
+AllLost history base orders = All (IsShelvedLost history base) orders
+
+-- each is an order, and where all of them lead nowhere, the fact holds
+pub record AreOrders (history : History) (orders : Orders) (covered : Type 0) : Type 0 where
+  pub shelved : AllShelved history (standing_of orders.machine) orders.begun.items
+  pub covers : AllLost history (standing_of orders.machine) orders.begun.items → covered
 
 -- orders may differ in measurements only where none is read
-pub record IsRound (history : History) (round : Round) : Type 0 where
+pub record IsRound (history : History) (base : Standing) (round : Round) : Type 0 where
+  pub whole : IsWhole base
   pub unread : IsTrue round.unread → ReadsNothing history.events
-  pub lacking : AllBegun history round.lacking.items
-  pub next : AllBegun history round.next.items
+  pub lacking : AllShelved history base round.lacking.items
+  pub next : AllShelved history base round.next.items
 
 -- all orders of the round lead nowhere
-pub record RoundLost (history : History) (round : Round) : Type 0 where
-  pub lacking : AllLost history round.lacking.items
-  pub next : AllLost history round.next.items
+pub record RoundLost (history : History) (base : Standing) (round : Round) : Type 0 where
+  pub lacking : AllLost history base round.lacking.items
+  pub next : AllLost history base round.next.items
 
 -- the new round's orders lead nowhere only where the old one's do
-abbrev pub Covers : History → Round → Round → Type 0
-Covers history old new = RoundLost history new → RoundLost history old
+abbrev pub Covers : History → Standing → Round → Round → Type 0
+Covers history base old new = RoundLost history base new → RoundLost history base old

@@ -2,104 +2,129 @@
 
 ghost use Rattle.std.specs.Prelude.{◌≡◌, ◌<◌, IfOk, IsTrue, OnOk};
 ghost use Rattle.verdict_laws.specs.Unread.{ReadsNothing};
-ghost use Rattle.finding.specs.Begun.{AllBegun, AllLost, IsBegun, IsLost};
+ghost use Rattle.spec_machine.specs.Patches.{standing_of, IsWhole};
+ghost use Rattle.finding.specs.Begun.{base_of, AllLost, AllShelved, IsBegun, IsLost, IsShelved, IsShelvedLost};
 
 use crate::begun::Begun;
+use crate::candidate::with_its_reply;
 use crate::choice::{cpus_of, rank};
 use crate::offers::Offers;
+use crate::shelved::Shelved;
 use history::History;
-use rmm_spec::Line;
-use std::alloc::AllocError;
+use spec_machine::Machine;
+use std::alloc::{AllocError, Global};
 
 /// Whether one of the orders is of the same calls to the same state, where it may differ in measurements if none is read.
 pub(crate) fn has_alike(
     history: &History,
-    begun: &[Begun],
-    other: &Begun,
+    machine: &Machine,
+    orders: &[Shelved],
+    other: &Shelved,
     unread: bool,
-) -> Result<bool, AllocError>
-    requires begun { AllBegun history.now.recorded begun.now }
+) -> bool
+    requires orders { AllShelved history.now.recorded (standing_of machine.now) orders.now }
     requires unread { IsTrue unread → ReadsNothing history.now.recorded.events }
-    ensures { IfOk result (λ has. IsTrue has → AllLost history.now.recorded begun.now → IsLost history.now.recorded other.now) }
+    ensures { IsTrue result → AllLost history.now.recorded (standing_of machine.now) orders.now
+        → IsShelvedLost history.now.recorded (standing_of machine.now) other.now }
 {
-    'orders: for one in begun {
-        if is_alike(history, one, other, unread)? {
-            return Ok(true);
+    for one in orders {
+        if is_alike(history, machine, one, other, unread) {
+            return true;
         }
     }
-    Ok(false)
+    false
 }
 
-/// Whether one of the orders leads to the same state as the other, by calls that it lacks.
+/// Whether one of the orders leads to the same state as the other, by calls that it lacks. The machine is as it was.
 pub(crate) fn has_beginning(
+    alloc: Global,
     offers: &mut Offers,
     history: &History,
-    begun: &[Begun],
-    other: &Begun,
+    machine: Machine,
+    orders: &[Shelved],
+    other: &Shelved,
     unread: bool,
-) -> Result<bool, AllocError>
-    requires begun { AllBegun history.now.recorded begun.now }
+) -> Result<(bool, Machine), AllocError>
+    requires orders { AllShelved history.now.recorded (standing_of machine) orders.now }
+    requires whole { IsWhole (standing_of machine) }
     requires unread { IsTrue unread → ReadsNothing history.now.recorded.events }
-    ensures { IfOk result (λ has. IsTrue has → AllLost history.now.recorded begun.now → IsLost history.now.recorded other.now) }
+    ensures base { IfOk result (λ found. standing_of found.1 ≡ standing_of machine) }
+    ensures has { IfOk result (λ found. IsTrue found.0 → AllLost history.now.recorded (standing_of machine) orders.now
+        → IsShelvedLost history.now.recorded (standing_of machine) other.now) }
 {
-    'orders: for one in begun {
-        if leads_to(offers, history, one, other, unread)? {
-            return Ok(true);
+    let mut machine = machine;
+    'orders: for one in orders {
+        let (leads, after) = leads_to(alloc, offers, history, machine, one, other, unread)?;
+        machine = after;
+        if leads {
+            return Ok((true, machine));
         }
     }
-    Ok(false)
+    Ok((false, machine))
 }
 
-fn are_of_same_calls(one: &Begun, other: &Begun) -> bool
+fn are_of_same_calls(one: &Shelved, other: &Shelved) -> bool
     ensures { IsTrue result → one.now.front.counts ≡ other.now.front.counts }
 {
     one.front.counts == other.front.counts
 }
 
 /// Whether both are of the same calls to the same state, which may differ in measurements where none is read.
-fn is_alike(history: &History, one: &Begun, other: &Begun, unread: bool) -> Result<bool, AllocError>
-    requires begun { IsBegun history.now.recorded one.now }
+fn is_alike(
+    history: &History,
+    machine: &Machine,
+    one: &Shelved,
+    other: &Shelved,
+    unread: bool,
+) -> bool
+    requires begun { IsShelved history.now.recorded (standing_of machine.now) one.now }
     requires unread { IsTrue unread → ReadsNothing history.now.recorded.events }
-    ensures { IfOk result (λ alike. IsTrue alike → IsLost history.now.recorded one.now → IsLost history.now.recorded other.now) }
+    ensures { IsTrue result → IsShelvedLost history.now.recorded (standing_of machine.now) one.now
+        → IsShelvedLost history.now.recorded (standing_of machine.now) other.now }
 {
     if !are_of_same_calls(one, other) {
-        return Ok(false);
+        return false;
     }
     if unread {
-        return Ok(one.machine.is_like(&other.machine));
+        machine.are_like(&one.patch, &other.patch)
+    } else {
+        machine.are_same(&one.patch, &other.patch)
     }
-    let kept = other.machine.keep(None)?;
-    Ok(one.machine.is_at(&kept))
 }
 
-/// Whether the one leads to the same state as the other, by calls that it lacks: no more than one of each CPU.
+/// Whether the one leads to the same state as the other, by calls that it lacks: no more than one of each CPU. The machine is as it was.
 fn leads_to(
+    alloc: Global,
     offers: &mut Offers,
     history: &History,
-    one: &Begun,
-    other: &Begun,
+    machine: Machine,
+    one: &Shelved,
+    other: &Shelved,
     unread: bool,
-) -> Result<bool, AllocError>
-    requires begun { IsBegun history.now.recorded one.now }
+) -> Result<(bool, Machine), AllocError>
+    requires begun { IsShelved history.now.recorded (standing_of machine) one.now }
+    requires whole { IsWhole (standing_of machine) }
     requires unread { IsTrue unread → ReadsNothing history.now.recorded.events }
-    ensures { IfOk result (λ leads. IsTrue leads → IsLost history.now.recorded one.now → IsLost history.now.recorded other.now) }
+    ensures base { IfOk result (λ found. standing_of found.1 ≡ standing_of machine) }
+    ensures leads { IfOk result (λ found. IsTrue found.0 → IsShelvedLost history.now.recorded (standing_of machine) one.now
+        → IsShelvedLost history.now.recorded (standing_of machine) other.now) }
 {
     if !lacks_few(one, other) {
-        return Ok(false);
+        return Ok((false, machine));
     }
-    let mut longer = one.copy()?;
-    'cpus: for cpu in 0..cpus_of(history) {
-        if longer.front.counts[cpu as usize] < other.front.counts[cpu as usize] {
-            if !takes_next(offers, history, &mut longer, cpu)? {
-                return Ok(false);
-            }
-        }
+    let copy = one.copy(alloc)?;
+    let mut longer = copy.at_hand(machine);
+    let takes = takes_lacking(offers, history, &mut longer, other)?;
+    let (machine, longer) = longer.put_down();
+    if !takes {
+        return Ok((false, machine));
     }
-    is_alike(history, &longer, other, unread)
+    let alike = is_alike(history, &machine, &longer, other, unread);
+    Ok((alike, machine))
 }
 
 /// Whether the one lacks no more than a call of each CPU, and has none that the other lacks.
-fn lacks_few(one: &Begun, other: &Begun) -> bool {
+fn lacks_few(one: &Shelved, other: &Shelved) -> bool {
     for cpu in 0..8 {
         let count = one.front.counts[cpu];
         let most = other.front.counts[cpu];
@@ -108,6 +133,29 @@ fn lacks_few(one: &Begun, other: &Begun) -> bool {
         }
     }
     true
+}
+
+/// Makes the order longer by a call of each CPU of which it has fewer than the other, where these may come next, CPU by CPU, and are given
+/// their replies.
+fn takes_lacking(
+    offers: &mut Offers,
+    history: &History,
+    begun: &mut Begun,
+    other: &Shelved,
+) -> Result<bool, AllocError>
+    requires begun { IsBegun history.now.recorded begun.old }
+    ensures begun { OnOk result (IsBegun history.now.recorded begun.new) }
+    ensures base { OnOk result (base_of begun.new ≡ base_of begun.old) }
+    ensures grown { IfOk result (λ takes. IsTrue takes → IsLost history.now.recorded begun.old → IsLost history.now.recorded begun.new) }
+{
+    'cpus: for cpu in 0..cpus_of(history) {
+        if begun.front.counts[cpu as usize] < other.front.counts[cpu as usize] {
+            if !takes_next(offers, history, begun, cpu)? {
+                return Ok(false);
+            }
+        }
+    }
+    Ok(true)
 }
 
 /// Makes the order longer by the next call of a CPU, where that returned, may come next and is given its reply.
@@ -120,6 +168,7 @@ fn takes_next(
     requires begun { IsBegun history.now.recorded begun.old }
     requires cpu { cpu < history.now.recorded.config.cpus }
     ensures begun { OnOk result (IsBegun history.now.recorded begun.new) }
+    ensures base { OnOk result (base_of begun.new ≡ base_of begun.old) }
     ensures grown { IfOk result (λ takes. IsTrue takes → IsLost history.now.recorded begun.old → IsLost history.now.recorded begun.new) }
 {
     let Some(first) = begun.front.first_at(history, 0) else {
@@ -131,10 +180,6 @@ fn takes_next(
     if choice.places.returned.is_none() || rank(&first) < choice.places.called {
         return Ok(false);
     }
-    let line = Line::Keep {
-        cpu: choice.cpu,
-        number: choice.number,
-    };
     let last = begun.last;
-    begun.grow(offers, history, choice, &line, last)
+    begun.grow(offers, history, &with_its_reply(choice), last)
 }

@@ -1,104 +1,88 @@
-//! Orders that are begun, each with a machine of its own.
+//! An order at hand.
 
-ghost use Rattle.std.specs.Prelude.{◌≡◌};
-
-use crate::choice::Choice;
+use crate::candidate::Candidate;
 use crate::front::Front;
-use crate::offering::offer;
+use crate::offering::offer_logged;
 use crate::offers::Offers;
-use crate::trail::Trail;
+use crate::shelved::Shelved;
 use history::History;
-use rmm_spec::Line;
-use spec_machine::Machine;
-use std::alloc::{AllocError, Global};
+use spec_machine::{Machine, Patch};
+use std::alloc::AllocError;
 
-/// How far an order has come, and the machine behind it.
+/// How many calls of each CPU stand in an order, the machine after its lines, its last step, and what leads the machine back to where the
+/// patches of kept orders lead from.
 #[derive(Drop)]
 pub(crate) struct Begun {
     pub(crate) front: Front,
     pub(crate) machine: Machine,
-    // the step of its last call
     pub(crate) last: usize,
-}
-
-/// Orders that are kept, and their calls.
-#[derive(Drop)]
-pub(crate) struct Orders {
-    pub(crate) begun: Vec<Begun>,
-    pub(crate) trail: Trail,
+    pub(crate) undo: Patch,
 }
 
 impl Begun {
-    ghost use Rattle.std.specs.Prelude.{◌≡◌, [], IfOk};
+    ghost use Rattle.std.specs.Prelude.{◌≡◌, IfOk, OnOk};
     ghost use Rattle.std.specs.Bool.{MatchBool};
-    ghost use Rattle.rmm_spec.specs.Linearization.{IsOfItsKind, cpu_named, number_named};
-    ghost use Rattle.verdict_laws.specs.Order.{LeadsNowhere};
+    ghost use Rattle.spec_machine.specs.Patches.{patched, standing_of, IsWhole};
     ghost use Rattle.spec_machine.specs.View.{state_of};
-    ghost use Rattle.finding.specs.Begun.{IsBegun, IsGrown, IsLost, IsSoon, Stays};
-    ghost use Rattle.finding.specs.Choice.{IsNextCall};
+    ghost use Rattle.finding.specs.Begun.{base_of, IsBegun, IsGrown, Stays};
+    ghost use Rattle.finding.specs.Waiting.{MayCome};
 
-    /// No call stands in it yet.
-    pub(crate) fn opening(alloc: Global, history: &History) -> Result<Begun, AllocError>
-        ensures begun { IfOk result (IsBegun history.now.recorded) }
-        ensures lost { IfOk result (λ begun. IsLost history.now.recorded begun → LeadsNowhere history.now.recorded []) }
-    {
-        let machine = Machine::new(alloc, history.config())?;
-        Ok(Begun {
-            front: Front::new(history),
-            machine,
-            last: 0,
-        })
-    }
-
-    /// The same order once more.
-    pub(crate) fn copy(&self) -> Result<Begun, AllocError>
-        ensures front { IfOk result (λ begun. begun.front ≡ self.now.front) }
-        ensures state { IfOk result (λ begun. state_of begun.machine ≡ state_of self.now.machine) }
-    {
-        let machine = self.machine.copy()?;
-        Ok(Begun {
-            front: same_front(&self.front),
-            machine,
-            last: self.last,
-        })
-    }
-
-    /// Makes the order longer by the line of a call, which is the given step, where the machine gives the call its reply, and returns whether it did.
+    /// Makes the order longer by a line, which is the given step, where the machine gives its call the reply, and returns whether it did.
     pub(crate) fn grow(
         &mut self,
         offers: &mut Offers,
         history: &History,
-        choice: Choice,
-        line: &Line,
+        next: &Candidate,
         last: usize,
     ) -> Result<bool, AllocError>
         requires begun { IsBegun history.now.recorded self.old }
-        requires next { IsNextCall history.now.recorded self.old.front.counts 0 choice }
-        requires of_cpu { cpu_named line.now ≡ choice.cpu }
-        requires numbered { number_named line.now ≡ choice.number }
-        requires kind { IsOfItsKind history.now.recorded.events line.now }
-        requires soon { IsSoon history.now.recorded self.old choice }
-        ensures { IfOk result (λ given. MatchBool given
-            (IsGrown history.now.recorded line.now self.old self.new)
-            (Stays history.now.recorded line.now self.old self.new)) }
+        requires next { MayCome history.now.recorded self.old.front.counts (state_of self.old.machine) next.now }
+        ensures grown { IfOk result (λ given. MatchBool given
+            (IsGrown history.now.recorded next.now.line self.old self.new)
+            (Stays history.now.recorded next.now.line self.old self.new)) }
+        ensures base { OnOk result (base_of self.new ≡ base_of self.old) }
     {
-        let given = offer(offers, &mut self.machine, history, choice, line)?;
+        let choice = next.choice;
+        let given = offer_logged(
+            offers,
+            &mut self.machine,
+            history,
+            choice,
+            &next.line,
+            &mut self.undo,
+        )?;
         if given {
             self.front.set(history, choice.cpu, choice.number + 1);
             self.last = last;
         }
         Ok(given)
     }
-}
 
-/// The same once more.
-fn same_front(front: &Front) -> Front
-    ensures { result ≡ front.now }
-{
-    Front {
-        counts: front.counts,
-        nexts: front.nexts,
-        ranks: front.ranks,
-        refusals: front.refusals,
+    /// Puts the order down: the machine goes back, and the order's patch leads here.
+    pub(crate) fn put_down(self) -> (Machine, Shelved)
+        requires { IsWhole (base_of self) }
+        ensures base { standing_of result.0 ≡ base_of self }
+        ensures back { patched result.1.patch (standing_of result.0) ≡ standing_of self.machine }
+        ensures front { result.1.front ≡ self.front }
+    {
+        let Begun {
+            front,
+            machine,
+            last,
+            undo,
+        } = self;
+        let mut machine = machine;
+        let mut patch = undo;
+        machine.exchange(&mut patch);
+        (machine, Shelved { front, last, patch })
+    }
+
+    /// The machine, which goes back.
+    pub(crate) fn back(self) -> Machine
+        requires { IsWhole (base_of self) }
+        ensures { standing_of result ≡ base_of self }
+    {
+        let (machine, _) = self.put_down();
+        machine
     }
 }

@@ -8,7 +8,6 @@ ghost use Rattle.finding.specs.Search.{IsSearch, IsSearched};
 use crate::first_part::first_part;
 use crate::forward::{Survey, survey_of};
 use crate::guided::{guessed, guided};
-use crate::kept::cells_of;
 use crate::offers::Offers;
 use crate::search::{Progress, Search};
 use crate::watch::{Pace, Unwatched, Watch, steps_on};
@@ -23,11 +22,11 @@ const FIRST_KEPT: usize = 8;
 /// How many it finds from a guess on before it looks at orders return by return.
 const GUESSED_KEPT: usize = 16;
 
-/// How many cells may be copied to name a return once it is known that there is no order.
-const TO_NAME: u64 = 1_000_000_000;
+/// How many steps are tried at most to name a return once it is known that there is no order.
+const TO_NAME: u64 = 8_000_000;
 
-/// How many cells may be copied to look at orders return by return, as if each offer were made to a copy of a machine.
-const TO_DECIDE: u64 = 1_000_000_000;
+/// How many are tried at most to look at orders return by return.
+const TO_DECIDE: u64 = 8_000_000;
 
 /// What was found of a history.
 #[derive(Drop)]
@@ -103,7 +102,7 @@ fn none_found<W: Watch>(
     ensures { IfOk result (IsFoundWatched history.now.recorded limit (W.has_stopped watch.new)) }
 {
     let mut offers = search.offers;
-    let near = offers_near(history, offers.count(), TO_NAME, limit);
+    let near = offers_near(offers.count(), TO_NAME, limit);
     let told = lost_place(alloc, &mut offers, history, near, watch)?;
     Ok(Found::None(told))
 }
@@ -120,11 +119,11 @@ fn find_forward<W: Watch>(
     ensures { IfOk result (IsFoundWatched history.now.recorded limit (W.has_stopped watch.new)) }
 {
     let mut search = search;
-    let near = offers_near(history, search.offers.count(), TO_DECIDE, limit);
+    let near = offers_near(search.offers.count(), TO_DECIDE, limit);
     let found = survey_of(alloc, &mut search.offers, history, near, watch)?;
     match found {
         Survey::Lost(place) => {
-            let near = offers_near(history, search.offers.count(), TO_NAME, limit);
+            let near = offers_near(search.offers.count(), TO_NAME, limit);
             let told = told_place(alloc, &mut search.offers, history, near, place, watch)?;
             Ok(Found::None(told))
         }
@@ -216,7 +215,7 @@ fn search_at_first<W: Watch>(
     requires { IsSearch history.now.recorded search.old }
     ensures { IfOk result (λ progress. IsSearched progress history.now.recorded ⊤ search.new) }
 {
-    let mut pace = Pace::of_steps();
+    let mut pace = Pace::new();
     'going: while search.offers.count() < limit && search.kept.len() < most {
         if !steps_on(watch, &mut pace, history, search) {
             return Ok(Progress::Going);
@@ -241,7 +240,7 @@ fn search_until<W: Watch>(
     ensures { IfOk result (λ progress. IsSearched progress history.now.recorded
         ((limit ≤ search.new.offers.count) ⊎ W.has_stopped watch.new) search.new) }
 {
-    let mut pace = Pace::of_steps();
+    let mut pace = Pace::new();
     'going: while search.offers.count() < limit {
         if !steps_on(watch, &mut pace, history, search) {
             return Ok(Progress::Going);
@@ -254,8 +253,7 @@ fn search_until<W: Watch>(
     Ok(Progress::Going)
 }
 
-/// How many offers are made at the limit, or once so many more cells are copied.
-fn offers_near(history: &History, count: u64, cells: u64, limit: u64) -> u64 {
-    let more = cells / cells_of(history);
+/// How many offers are made at the limit, or once so many more are.
+fn offers_near(count: u64, more: u64, limit: u64) -> u64 {
     min(limit, count.saturating_add(more))
 }

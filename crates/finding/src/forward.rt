@@ -4,10 +4,9 @@ ghost use Rattle.std.specs.Prelude.{[], IfOk, IfSome};
 ghost use Rattle.verdict_laws.specs.Order.{LeadsNowhere};
 ghost use Rattle.finding.specs.Survey.{IsSurvey};
 
-use crate::begun::{Begun, Orders};
 use crate::offers::Offers;
 use crate::round::{next_orders, sorted};
-use crate::trail::Trail;
+use crate::shelved::Orders;
 use crate::unread::{reads_nothing, unread};
 use crate::watch::{Advance, Pace, Watch};
 use history::History;
@@ -117,15 +116,10 @@ pub(crate) fn forward<W: Watch>(
 ) -> Result<Survey, AllocError>
     ensures { IfOk result (IsSurvey history.now.recorded) }
 {
+    let _fact = history.well_formed();
     let unread = reads_nothing(history);
-    let opening = Begun::opening(alloc, history)?;
-    let mut begun = Vec::new(alloc);
-    begun.push(opening)?;
-    let mut kept = Orders {
-        begun,
-        trail: Trail::new(alloc),
-    };
-    let mut pace = Pace::of_copies(history);
+    let mut kept = Orders::opening(alloc, history)?;
+    let mut pace = Pace::new();
     'places: for place in 0..history.len() {
         if history.reply_at(place).is_none() {
             continue;
@@ -133,8 +127,9 @@ pub(crate) fn forward<W: Watch>(
         if offers.count() >= limit {
             return Ok(Survey::Undecided);
         }
-        let round = sorted(alloc, history, kept, place as u32, unread)?;
-        let next = next_orders(alloc, offers, history, round, watch, &mut pace)?;
+        let rebased = kept.rebased(alloc, history)?;
+        let (round, machine) = sorted(alloc, history, rebased, place as u32, unread)?;
+        let next = next_orders(alloc, offers, history, machine, round, watch, &mut pace)?;
         let Some(next) = next else {
             return Ok(Survey::Undecided);
         };

@@ -6,10 +6,10 @@ ghost use Rattle.rmm_spec.specs.Linearization.{IsLinearization};
 ghost use Rattle.rmm_spec.specs.State.{State};
 ghost use Rattle.finding.specs.Search.{IsSearch};
 
-use crate::begun::Orders;
 use crate::earlier::Earlier;
 use crate::longest::goes_on;
 use crate::search::{Progress, Search};
+use crate::shelved::Orders;
 use crate::watch::{Advance, Pace, Watch, steps_on};
 use certificate::Certificate;
 use guessing::guess;
@@ -78,7 +78,7 @@ fn led<W: Watch>(
     ensures { IfOk result (IsSearch history.now.recorded) }
 {
     let mut search = Search::new(alloc, history)?;
-    let mut pace = Pace::of_steps();
+    let mut pace = Pace::new();
     'lines: for cpu in cpus {
         if search.offers.count() >= limit || !steps_on(watch, &mut pace, history, &search) {
             return Ok(search);

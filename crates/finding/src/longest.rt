@@ -37,7 +37,7 @@ fn greatest_length<W: Watch>(
     watch: &mut W,
 ) -> Result<usize, AllocError> {
     let mut search = guessed(alloc, history, limit, watch)?;
-    let mut pace = Pace::of_steps();
+    let mut pace = Pace::new();
     let mut most = search.len();
     'going: while search.offers.count() < limit {
         if !steps_on(watch, &mut pace, history, &search) {

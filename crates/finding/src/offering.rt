@@ -1,6 +1,6 @@
 //! Replies that a machine is offered.
 
-ghost use Rattle.std.specs.Prelude.{◌≡◌, ℕ, false, IfOk, IsTrue};
+ghost use Rattle.std.specs.Prelude.{◌≡◌, ℕ, false, IfOk, IsTrue, OnOk};
 ghost use Rattle.std.specs.Bool.{MatchBool};
 ghost use Rattle.rmm_spec.specs.FirstFault.{IsRefused};
 ghost use Rattle.rmm_spec.specs.Linearization.{IsFinished, IsOfItsKind, IsReplyOf, IsReturned, cpu_named, number_named};
@@ -8,6 +8,7 @@ ghost use Rattle.rmi_view.specs.Seen.{reply_seen};
 ghost use Rattle.history.specs.Calls.{ArePlacesOf};
 ghost use Rattle.finding.specs.Search.{IsGiven};
 ghost use Rattle.spec_machine.specs.Offers.{one_more};
+ghost use Rattle.spec_machine.specs.Patches.{patched, standing_of};
 ghost use Rattle.spec_machine.specs.View.{state_of};
 
 use crate::choice::Choice;
@@ -15,7 +16,7 @@ use crate::offers::Offers;
 use history::History;
 use rmi_view::ReplyRef;
 use rmm_spec::Line;
-use spec_machine::Machine;
+use spec_machine::{Machine, Patch};
 use std::alloc::AllocError;
 
 /// Whether the machine gives the call its reply: the recorded one, or the one that the line claims.
@@ -42,6 +43,34 @@ pub(crate) fn offer(
     };
     let reply = reply_of(history, choice, line);
     let given = offers.make(machine, choice.cpu, command, reply)?;
+    Ok(given)
+}
+
+/// The same, where a log notes what the step puts something else in place of.
+pub(crate) fn offer_logged(
+    offers: &mut Offers,
+    machine: &mut Machine,
+    history: &History,
+    choice: Choice,
+    line: &Line,
+    log: &mut Patch,
+) -> Result<bool, AllocError>
+    requires places { ArePlacesOf history.now.recorded.events choice.cpu choice.number choice.places }
+    requires of_cpu { cpu_named line.now ≡ choice.cpu }
+    requires numbered { number_named line.now ≡ choice.number }
+    requires kind { IsOfItsKind history.now.recorded.events line.now }
+    ensures given { IfOk result (λ given. MatchBool given
+        (IsGiven history.now.recorded.events line.now choice.places.called (state_of machine.old) (state_of machine.new))
+        (IsRefused history.now.recorded.events (state_of machine.old) line.now)) }
+    ensures kept { IfOk result (λ given. given ≡ false → state_of machine.new ≡ state_of machine.old) }
+    ensures back { OnOk result (patched log.new (standing_of machine.new) ≡ patched log.old (standing_of machine.old)) }
+{
+    let _fact = history.well_formed();
+    let Some(command) = history.command_at(choice.places.called as usize) else {
+        unreachable!()
+    };
+    let reply = reply_of(history, choice, line);
+    let given = offers.make_logged(machine, choice.cpu, command, reply, log)?;
     Ok(given)
 }
 

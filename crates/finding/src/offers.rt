@@ -8,7 +8,7 @@ ghost use Rattle.spec_machine.specs.View.{state_of};
 
 use rmi_view::{CommandRef, ReplyRef};
 use rmm_spec::{Accepted, Reply};
-use spec_machine::Machine;
+use spec_machine::{Machine, Patch};
 use std::alloc::AllocError;
 
 /// A count of offers to machines. Nothing but an offer, or a test that shows one to be refused, makes it greater.
@@ -18,7 +18,8 @@ pub struct Offers {
 }
 
 impl Offers {
-    ghost use Rattle.std.specs.Prelude.{◌≡◌, ◌≤◌, length, if◌then◌else◌, IfOk, IsTrue, false};
+    ghost use Rattle.std.specs.Prelude.{◌≡◌, ◌≤◌, length, if◌then◌else◌, IfOk, OnOk, IsTrue, false};
+    ghost use Rattle.spec_machine.specs.Patches.{patched, standing_of};
     ghost use Rattle.rmm_spec.specs.State.{State};
     ghost use Rattle.rmm_spec.specs.Step.{Step};
     ghost use Rattle.rmi_view.specs.Seen.{command_seen, reply_seen};
@@ -57,6 +58,27 @@ impl Offers {
     {
         self.count = self.count.saturating_add(1);
         machine.offer_seen(cpu, command, reply)
+    }
+
+    /// Offers a reply as `make` does, and notes in a log what the step puts something else in place of, as `Machine::offer_logged` does.
+    pub(crate) fn make_logged(
+        &mut self,
+        machine: &mut Machine,
+        cpu: u8,
+        command: CommandRef<'_>,
+        reply: ReplyRef<'_>,
+        log: &mut Patch,
+    ) -> Result<bool, AllocError>
+        ensures step { IfOk result (λ given. IsTrue given
+            → Step (state_of machine.old) cpu (command_seen command.entry) (reply_seen reply.entry) (state_of machine.new)) }
+        ensures only { IfOk result (λ given. given ≡ false
+            → (next : State) → ¬ Step (state_of machine.old) cpu (command_seen command.entry) (reply_seen reply.entry) next) }
+        ensures kept { IfOk result (λ given. given ≡ false → state_of machine.new ≡ state_of machine.old) }
+        ensures back { OnOk result (patched log.new (standing_of machine.new) ≡ patched log.old (standing_of machine.old)) }
+        ensures counted { self.new.count ≡ one_more self.old.count }
+    {
+        self.count = self.count.saturating_add(1);
+        machine.offer_logged(cpu, command, reply, log)
     }
 
     /// Whether an offer of the reply is known to be refused without a step, which then counts as one.

@@ -1,25 +1,30 @@
 //! From the orders that have all calls which returned before a return to those that have its call too.
 
-ghost use Rattle.std.specs.Prelude.{IfOk, IfSome, IsTrue};
+ghost use Rattle.std.specs.Prelude.{◌≡◌, IfOk, IfSome, IsTrue};
 ghost use Rattle.verdict_laws.specs.Unread.{ReadsNothing};
-ghost use Rattle.finding.specs.Begun.{AllBegun, AllLost, IsBegun, IsRound, RoundLost};
+ghost use Rattle.spec_machine.specs.Patches.{standing_of};
+ghost use Rattle.finding.specs.Begun.{AllLost, AllShelved, AreOrders, IsBegunAt, IsRound, RoundLost};
+ghost use Rattle.finding.specs.Front.{IsFront};
 
 use crate::alike::{has_alike, has_beginning};
-use crate::begun::{Begun, Orders};
+use crate::begun::Begun;
 use crate::choice::{PENDING, rank};
+use crate::front::Front;
 use crate::group::group_at;
 use crate::offers::Offers;
 use crate::settled::settled_choice;
+use crate::shelved::{Orders, Shelved};
 use crate::trail::Trail;
 use crate::watch::{Advance, Pace, Watch};
 use history::History;
+use spec_machine::Machine;
 use std::alloc::{AllocError, Global};
 
 /// How many orders that lack a call are kept.
-const LACKING: usize = 512;
+const LACKING: usize = 2048;
 
 /// How many orders that lack none are kept.
-const NEXT: usize = 256;
+const NEXT: usize = 512;
 
 /// How many calls may come before the one that returned, and that one.
 const DEPTH: u32 = 9;
@@ -30,101 +35,129 @@ pub(crate) struct Round {
     pub(crate) place: u32,
     // set only where no call reads a measurement, so that orders which differ in measurements alone stand for each other
     pub(crate) unread: bool,
-    pub(crate) lacking: Vec<Begun>,
-    pub(crate) next: Vec<Begun>,
+    pub(crate) lacking: Vec<Shelved>,
+    pub(crate) next: Vec<Shelved>,
     pub(crate) trail: Trail,
 }
 
 impl Round {
-    ghost use Rattle.std.specs.Prelude.{IfOk, IfSome, IsTrue, OnOk};
-    ghost use Rattle.finding.specs.Begun.{Covers, IsBegun, IsLost, IsRound, RoundLost};
+    ghost use Rattle.std.specs.Prelude.{◌≡◌, IfOk, IfSome, IsTrue, OnOk};
+    ghost use Rattle.spec_machine.specs.Patches.{standing_of};
+    ghost use Rattle.finding.specs.Begun.{base_of, Covers, IsBegun, IsLost, IsRound, IsShelved, IsShelvedLost, RoundLost};
 
-    /// Takes an order, unless another stands for it.
+    /// Takes an order, unless another stands for it. The machine is as it was.
     pub(crate) fn take(
         &mut self,
+        alloc: Global,
         offers: &mut Offers,
         history: &History,
-        begun: Begun,
-    ) -> Result<(), AllocError>
-        requires round { IsRound history.now.recorded self.old }
-        requires begun { IsBegun history.now.recorded begun }
-        ensures round { OnOk result (IsRound history.now.recorded self.new) }
-        ensures covers { OnOk result (Covers history.now.recorded self.old self.new) }
-        ensures taken { OnOk result (RoundLost history.now.recorded self.new → IsLost history.now.recorded begun) }
+        machine: Machine,
+        order: Shelved,
+    ) -> Result<Machine, AllocError>
+        requires round { IsRound history.now.recorded (standing_of machine) self.old }
+        requires order { IsShelved history.now.recorded (standing_of machine) order }
+        ensures base { IfOk result (λ after. standing_of after ≡ standing_of machine) }
+        ensures round { OnOk result (IsRound history.now.recorded (standing_of machine) self.new) }
+        ensures covers { OnOk result (Covers history.now.recorded (standing_of machine) self.old self.new) }
+        ensures taken { OnOk result (RoundLost history.now.recorded (standing_of machine) self.new
+            → IsShelvedLost history.now.recorded (standing_of machine) order) }
     {
-        if is_up_to(history, &begun, self.place) {
-            self.take_next(offers, history, begun)
+        if is_up_to(history, &order.front, self.place) {
+            self.take_next(alloc, offers, history, machine, order)
         } else {
-            self.take_lacking(history, begun)
+            self.take_lacking(history, &machine, order)?;
+            Ok(machine)
         }
     }
 
-    /// Takes an order that lacks no call, unless another leads to it.
+    /// Takes an order that lacks no call, unless another leads to it. The machine is as it was.
     fn take_next(
         &mut self,
+        alloc: Global,
         offers: &mut Offers,
         history: &History,
-        begun: Begun,
-    ) -> Result<(), AllocError>
-        requires round { IsRound history.now.recorded self.old }
-        requires begun { IsBegun history.now.recorded begun }
-        ensures round { OnOk result (IsRound history.now.recorded self.new) }
-        ensures covers { OnOk result (Covers history.now.recorded self.old self.new) }
-        ensures taken { OnOk result (RoundLost history.now.recorded self.new → IsLost history.now.recorded begun) }
+        machine: Machine,
+        order: Shelved,
+    ) -> Result<Machine, AllocError>
+        requires round { IsRound history.now.recorded (standing_of machine) self.old }
+        requires order { IsShelved history.now.recorded (standing_of machine) order }
+        ensures base { IfOk result (λ after. standing_of after ≡ standing_of machine) }
+        ensures round { OnOk result (IsRound history.now.recorded (standing_of machine) self.new) }
+        ensures covers { OnOk result (Covers history.now.recorded (standing_of machine) self.old self.new) }
+        ensures taken { OnOk result (RoundLost history.now.recorded (standing_of machine) self.new
+            → IsShelvedLost history.now.recorded (standing_of machine) order) }
     {
-        let stands = has_beginning(offers, history, self.next.as_slice(), &begun, self.unread)?;
+        let next = self.next.as_slice();
+        let (stands, machine) = has_beginning(
+            alloc,
+            offers,
+            history,
+            machine,
+            next,
+            &order,
+            self.unread,
+        )?;
         if stands {
-            return Ok(());
+            return Ok(machine);
         }
-        self.next.push(begun)?;
-        Ok(())
+        self.next.push(order)?;
+        Ok(machine)
     }
 
     /// Takes an order that lacks a call, unless another is of the same calls to the same state.
-    fn take_lacking(&mut self, history: &History, begun: Begun) -> Result<(), AllocError>
-        requires round { IsRound history.now.recorded self.old }
-        requires begun { IsBegun history.now.recorded begun }
-        ensures round { OnOk result (IsRound history.now.recorded self.new) }
-        ensures covers { OnOk result (Covers history.now.recorded self.old self.new) }
-        ensures taken { OnOk result (RoundLost history.now.recorded self.new → IsLost history.now.recorded begun) }
+    fn take_lacking(
+        &mut self,
+        history: &History,
+        machine: &Machine,
+        order: Shelved,
+    ) -> Result<(), AllocError>
+        requires round { IsRound history.now.recorded (standing_of machine.now) self.old }
+        requires order { IsShelved history.now.recorded (standing_of machine.now) order }
+        ensures round { OnOk result (IsRound history.now.recorded (standing_of machine.now) self.new) }
+        ensures covers { OnOk result (Covers history.now.recorded (standing_of machine.now) self.old self.new) }
+        ensures taken { OnOk result (RoundLost history.now.recorded (standing_of machine.now) self.new
+            → IsShelvedLost history.now.recorded (standing_of machine.now) order) }
     {
-        let stands = has_alike(history, self.lacking.as_slice(), &begun, self.unread)?;
-        if stands {
+        let lacking = self.lacking.as_slice();
+        if has_alike(history, machine, lacking, &order, self.unread) {
             return Ok(());
         }
-        self.lacking.push(begun)?;
+        self.lacking.push(order)?;
         Ok(())
     }
 
-    /// Takes each order that is longer by a line, and returns whether these are all.
-    fn take_each(
+    /// Takes each order that is longer by a line, and returns whether these are all. The machine goes back.
+    pub(crate) fn take_each(
         &mut self,
+        alloc: Global,
         offers: &mut Offers,
         history: &History,
         begun: Begun,
-    ) -> Result<bool, AllocError>
-        requires round { IsRound history.now.recorded self.old }
+    ) -> Result<(bool, Machine), AllocError>
+        requires round { IsRound history.now.recorded (base_of begun) self.old }
         requires begun { IsBegun history.now.recorded begun }
-        ensures round { OnOk result (IsRound history.now.recorded self.new) }
-        ensures covers { OnOk result (Covers history.now.recorded self.old self.new) }
-        ensures taken { IfOk result (λ all. IsTrue all → RoundLost history.now.recorded self.new → IsLost history.now.recorded begun) }
+        ensures base { IfOk result (λ taken. standing_of taken.1 ≡ base_of begun) }
+        ensures round { OnOk result (IsRound history.now.recorded (base_of begun) self.new) }
+        ensures covers { OnOk result (Covers history.now.recorded (base_of begun) self.old self.new) }
+        ensures taken { IfOk result (λ taken. IsTrue taken.0 → RoundLost history.now.recorded (base_of begun) self.new
+            → IsLost history.now.recorded begun) }
     {
         let Some(first) = begun.front.first_at(history, 0) else {
-            return Ok(false);
+            return Ok((false, begun.back()));
         };
         if rank(&first) >= PENDING {
-            return Ok(false);
+            return Ok((false, begun.back()));
         }
         if let Some(choice) = settled_choice(history, &begun, rank(&first), self.unread) {
-            self.take_settled(offers, history, begun, choice)?;
-            return Ok(true);
+            let machine = self.take_settled(alloc, offers, history, begun, choice)?;
+            return Ok((true, machine));
         }
         let group = group_at(history, &begun, first);
         if group.is_alone() {
-            self.take_only(offers, history, begun, group)?;
-            return Ok(true);
+            let machine = self.take_only(alloc, offers, history, begun, group)?;
+            return Ok((true, machine));
         }
-        self.take_group(offers, history, begun, group)
+        self.take_group(alloc, offers, history, begun, group)
     }
 
     /// How far it is, with one order at hand and so many left to make longer.
@@ -136,18 +169,20 @@ impl Round {
         }
     }
 
-    /// Makes the orders that lack a call longer by a line each; none where there are too many, or the watch stops it.
+    /// Makes the orders that lack a call longer by a line each; none where there are too many, or the watch stops it. The machine is as it was.
     fn deeper<W: Watch>(
         self,
         alloc: Global,
         offers: &mut Offers,
         history: &History,
+        machine: Machine,
         watch: &mut W,
         pace: &mut Pace,
-    ) -> Result<Option<Round>, AllocError>
-        requires { IsRound history.now.recorded self }
-        ensures round { IfOk result (λ deeper. IfSome deeper (IsRound history.now.recorded)) }
-        ensures covers { IfOk result (λ deeper. IfSome deeper (Covers history.now.recorded self)) }
+    ) -> Result<Option<(Round, Machine)>, AllocError>
+        requires { IsRound history.now.recorded (standing_of machine) self }
+        ensures base { IfOk result (λ deeper. IfSome deeper (λ d. standing_of d.1 ≡ standing_of machine)) }
+        ensures round { IfOk result (λ deeper. IfSome deeper (λ d. IsRound history.now.recorded (standing_of machine) d.0)) }
+        ensures covers { IfOk result (λ deeper. IfSome deeper (λ d. Covers history.now.recorded (standing_of machine) self d.0)) }
     {
         let Round {
             place,
@@ -157,6 +192,7 @@ impl Round {
             trail,
         } = self;
         let mut left = lacking;
+        let mut machine = machine;
         let mut round = Round {
             place,
             unread,
@@ -164,11 +200,13 @@ impl Round {
             next,
             trail,
         };
-        'orders: while let Some(begun) = left.pop() {
+        'orders: while let Some(order) = left.pop() {
             if pace.is_due_at(offers.count()) && !watch.goes_on(round.advance(left.len())) {
                 return Ok(None);
             }
-            let all = round.take_each(offers, history, begun)?;
+            let begun = order.at_hand(machine);
+            let (all, after) = round.take_each(alloc, offers, history, begun)?;
+            machine = after;
             if !all {
                 return Ok(None);
             }
@@ -176,15 +214,15 @@ impl Round {
                 return Ok(None);
             }
         }
-        Ok(Some(round))
+        Ok(Some((round, machine)))
     }
 }
 
-/// Whether each call that returned up to the place stands in the order.
-fn is_up_to(history: &History, begun: &Begun, place: u32) -> bool
-    requires { IsBegun history.now.recorded begun.now }
+/// Whether each call that returned up to the place stands in an order.
+fn is_up_to(history: &History, front: &Front, place: u32) -> bool
+    requires { IsFront history.now.recorded front.now }
 {
-    match begun.front.first_at(history, 0) {
+    match front.first_at(history, 0) {
         Some(first) => place < rank(&first),
         None => true,
     }
@@ -196,46 +234,57 @@ pub(crate) fn next_orders<W: Watch>(
     alloc: Global,
     offers: &mut Offers,
     history: &History,
+    machine: Machine,
     first: Round,
     watch: &mut W,
     pace: &mut Pace,
 ) -> Result<Option<Orders>, AllocError>
-    requires { IsRound history.now.recorded first }
-    ensures begun { IfOk result (λ orders. IfSome orders (λ next. AllBegun history.now.recorded next.begun.items)) }
-    ensures covers { IfOk result (λ orders. IfSome orders
-        (λ next. AllLost history.now.recorded next.begun.items → RoundLost history.now.recorded first)) }
+    requires { IsRound history.now.recorded (standing_of machine) first }
+    ensures { IfOk result (λ next. IfSome next (λ orders. AreOrders history.now.recorded orders
+        (RoundLost history.now.recorded (standing_of machine) first))) }
 {
     let mut round = first;
+    let mut machine = machine;
     'depths: for _depth in 0..DEPTH {
         if round.lacking.is_empty() {
             let Round { next, trail, .. } = round;
-            return Ok(Some(Orders { begun: next, trail }));
+            return Ok(Some(Orders {
+                begun: next,
+                trail,
+                machine,
+            }));
         }
-        let Some(deeper) = round.deeper(alloc, offers, history, watch, pace)? else {
+        let deeper = round.deeper(alloc, offers, history, machine, watch, pace)?;
+        let Some((further, after)) = deeper else {
             return Ok(None);
         };
-        round = deeper;
+        round = further;
+        machine = after;
     }
     Ok(None)
 }
 
-/// The orders that lack a call which returned up to the place, and the others.
+/// The orders that lack a call which returned up to the place, and the others. The machine is as it was.
 pub(crate) fn sorted(
     alloc: Global,
     history: &History,
     kept: Orders,
     place: u32,
     unread: bool,
-) -> Result<Round, AllocError>
-    requires kept { AllBegun history.now.recorded kept.begun.items }
+) -> Result<(Round, Machine), AllocError>
+    requires kept { AllShelved history.now.recorded (standing_of kept.machine) kept.begun.items }
     requires unread { IsTrue unread → ReadsNothing history.now.recorded.events }
-    ensures round { IfOk result (IsRound history.now.recorded) }
-    ensures covers { IfOk result (λ round. RoundLost history.now.recorded round → AllLost history.now.recorded kept.begun.items) }
+    ensures base { IfOk result (λ s. standing_of s.1 ≡ standing_of kept.machine) }
+    ensures round { IfOk result (λ s. IsRound history.now.recorded (standing_of kept.machine) s.0) }
+    ensures covers { IfOk result (λ s. RoundLost history.now.recorded (standing_of kept.machine) s.0
+        → AllLost history.now.recorded (standing_of kept.machine) kept.begun.items) }
 {
     let Orders {
-        begun: mut left,
+        begun,
         trail,
+        machine,
     } = kept;
+    let mut left = begun;
     let mut round = Round {
         place,
         unread,
@@ -243,12 +292,12 @@ pub(crate) fn sorted(
         next: Vec::new(alloc),
         trail,
     };
-    'orders: while let Some(begun) = left.pop() {
-        if is_up_to(history, &begun, place) {
-            round.next.push(begun)?;
+    'orders: while let Some(order) = left.pop() {
+        if is_up_to(history, &order.front, place) {
+            round.next.push(order)?;
         } else {
-            round.lacking.push(begun)?;
+            round.lacking.push(order)?;
         }
     }
-    Ok(round)
+    Ok((round, machine))
 }

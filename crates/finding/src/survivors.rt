@@ -5,12 +5,11 @@ ghost use Rattle.std.specs.List.{All};
 ghost use Rattle.rmm_spec.specs.FirstFault.{Passes};
 ghost use Rattle.rmm_spec.specs.State.{State};
 
-use crate::begun::Orders;
 use crate::first_part::first_part;
 use crate::forward::{Survey, forward};
 use crate::guided::order_of;
 use crate::offers::Offers;
-use crate::trail::Trail;
+use crate::shelved::Orders;
 use crate::unread::unread;
 use crate::watch::Watch;
 use certificate::Certificate;
@@ -37,8 +36,10 @@ pub fn orders_before<W: Watch>(
     let Some(part) = first_part(alloc, history, count)? else {
         return Ok(Vec::new(alloc));
     };
-    let orders = kept_orders(alloc, &part, limit, watch)?;
-    first_orders(alloc, history, &orders, limit, watch)
+    match kept_orders(alloc, &part, limit, watch)? {
+        Some(orders) => first_orders(alloc, history, &orders, limit, watch),
+        None => Ok(Vec::new(alloc)),
+    }
 }
 
 /// Orders that are kept of all calls that returned, or of those of the history without readings, where too many would be.
@@ -47,24 +48,17 @@ fn kept_orders<W: Watch>(
     history: &History,
     limit: u64,
     watch: &mut W,
-) -> Result<Orders, AllocError> {
+) -> Result<Option<Orders>, AllocError> {
     let mut offers = Offers::none();
     if let Survey::Kept(orders) = forward(alloc, &mut offers, history, limit / 2, watch)? {
-        return Ok(orders);
+        return Ok(Some(orders));
     }
     let Some(unread) = unread(alloc, history)? else {
-        return Ok(no_orders(alloc));
+        return Ok(None);
     };
     match forward(alloc, &mut offers, &unread, limit, watch)? {
-        Survey::Kept(orders) => Ok(orders),
-        _ => Ok(no_orders(alloc)),
-    }
-}
-
-fn no_orders(alloc: Global) -> Orders {
-    Orders {
-        begun: Vec::new(alloc),
-        trail: Trail::new(alloc),
+        Survey::Kept(orders) => Ok(Some(orders)),
+        _ => Ok(None),
     }
 }
 

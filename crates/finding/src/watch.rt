@@ -2,16 +2,11 @@
 
 ghost use Rattle.std.specs.Prelude.{◌≡◌, false};
 
-use crate::kept::cells_of;
 use crate::search::Search;
 use history::History;
-use std::cmp::{max, min};
 
-/// How many steps of a search are made, or offers where none is made to a copy of a machine, before a watch is asked again.
+/// How many steps of a search are made, or offers, before a watch is asked again.
 const STEPS: u64 = 1024;
-
-/// How many cells may be copied before it is.
-const CELLS: u64 = 1 << 22;
 
 /// How far a search is.
 #[derive(Clone, Copy)]
@@ -49,27 +44,12 @@ impl Watch for Unwatched {
 pub(crate) struct Pace {
     steps: u64,
     next: u64,
-    every: u64,
 }
 
 impl Pace {
-    /// Counts the steps of a search.
-    pub(crate) fn of_steps() -> Pace {
-        Pace {
-            steps: 0,
-            next: 0,
-            every: STEPS,
-        }
-    }
-
-    /// Goes by offers, each of which may be made to a copy of the history's machine.
-    pub(crate) fn of_copies(history: &History) -> Pace {
-        let offers = CELLS / cells_of(history);
-        Pace {
-            steps: 0,
-            next: 0,
-            every: max(1, min(offers, STEPS)),
-        }
+    /// It is asked at first.
+    pub(crate) fn new() -> Pace {
+        Pace { steps: 0, next: 0 }
     }
 
     /// Whether the watch is asked at so many offers.
@@ -77,7 +57,7 @@ impl Pace {
         if count < self.next {
             return false;
         }
-        self.next = count.saturating_add(self.every);
+        self.next = count.saturating_add(STEPS);
         true
     }
 

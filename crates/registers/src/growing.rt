@@ -80,8 +80,8 @@ fn grow_by_each(
     ensures kept { OnOk result (Keeps begun.old.items begun.new.items) }
     ensures grown { OnOk result (GrowsByEach history.now.recorded.events opens.now begun.new.items one.now) }
 {
-    for open in opens {
-        grow_by(history, open, one, begun)?;
+    for other in opens {
+        grow_by(history, other, one, begun)?;
     }
     Ok(())
 }
@@ -89,16 +89,16 @@ fn grow_by_each(
 /// Adds what one of the possibilities comes to by an open call, where that isn't in it and may come after it.
 fn grow_by(
     history: &History,
-    open: &OpenCall,
+    other: &OpenCall,
     one: &Possible,
     begun: &mut Vec<Possible>,
 ) -> Result<(), AllocError>
-    requires { open.now.cpu < 8 }
+    requires { other.now.cpu < 8 }
     ensures kept { OnOk result (Keeps begun.old.items begun.new.items) }
-    ensures grown { OnOk result (GrowsBy history.now.recorded.events open.now begun.new.items one.now) }
+    ensures grown { OnOk result (GrowsBy history.now.recorded.events other.now begun.new.items one.now) }
 {
-    if one.is_placed(open.cpu) || !fits(history, &open.done, open.returned, one.value()) {
+    if one.is_placed(other.cpu) || !fits(history, &other.done, other.returned, one.value()) {
         return Ok(());
     }
-    take(begun, one.with(open.cpu, true, &open.done))
+    take(begun, one.with(other.cpu, true, &other.done))
 }

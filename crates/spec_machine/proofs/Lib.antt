@@ -23,3 +23,7 @@ pub mod Memory
 pub mod Reached
 pub mod Machines
 pub mod LikeStates
+pub mod Patched
+pub mod Noted
+pub mod PatchKeys
+pub mod PatchViews

@@ -12,3 +12,6 @@ pub mod Memory
 pub mod Lending
 pub mod Offers
 pub mod Unmeasured
+pub mod Patches
+pub mod Noted
+pub mod PatchKeys

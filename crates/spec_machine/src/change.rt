@@ -12,14 +12,19 @@ impl Machine {
     ghost use Rattle.rmm_spec.specs.Change.{changed};
     ghost use Rattle.rmm_spec.specs.declared.change.Change.TheVariants.{Retagged, RecordsChanged};
     ghost use Rattle.rmm_spec.specs.Applicable.{CanApply, CanRetag};
+    ghost use Rattle.shape_laws.specs.Whole.{whole_changed};
     ghost use Rattle.cell_changes.specs.Changes.{table_found};
     ghost use Rattle.spec_machine.specs.Memory.{takes_memory};
     ghost use Rattle.spec_machine.specs.View.{state_of};
+    ghost use Rattle.spec_machine.specs.Whole.{config_of, whole_of};
 
     /// Makes the change. Refused memory, it leaves the state as it was.
     pub(crate) fn apply(&mut self, change: &Change) -> Result<(), AllocError>
         requires { CanApply (state_of self.old) change.now }
         ensures ok { OnOk result (state_of self.new ≡ changed (state_of self.old) change.now) }
+        ensures size { OnOk result (config_of self.new.granules ≡ config_of self.old.granules) }
+        ensures whole { OnOk result (whole_of self.new.granules
+            ≡ whole_changed (config_of self.old.granules) (whole_of self.old.granules) change.now) }
         ensures err { OnErr result (state_of self.new ≡ state_of self.old) }
         ensures only { OnErr result (IsTrue (takes_memory change.now)) }
     {
@@ -55,9 +60,9 @@ impl Machine {
         change_records(&mut self.granules.list, realm, rec);
     }
 
-    // The granule of the table whose entries the change changes.
+    /// The granule of the table whose entries the change changes.
     #[inline(always)]
-    fn table_for(&mut self, change: &Change) -> Option<u64>
+    pub(crate) fn table_for(&mut self, change: &Change) -> Option<u64>
         ensures is { result ≡ table_found (state_of self.old).table change.now }
         ensures list { self.new.granules.list ≡ self.old.granules.list }
         ensures side { self.new.granules.side ≡ self.old.granules.side }

@@ -1,9 +1,8 @@
 //! A machine once more, with all that it keeps.
 
-ghost use Rattle.std.specs.Prelude.{◌≡◌, ◌<◌, ◌≤◌, ℕ, length, IfOk, vec_capacity};
+ghost use Rattle.std.specs.Prelude.{◌≡◌, ◌≤◌, length, IfOk, vec_capacity};
 ghost use Rattle.granule_cells.specs.Seen.{cell_of};
-ghost use Rattle.spec_machine.specs.declared.slot.Slot.TheVariants as kind;
-ghost use Rattle.spec_machine.specs.Held.{seen};
+ghost use Rattle.cell_changes.specs.OneCell.{cell_seen};
 
 use crate::cell_list::CellList;
 use crate::granules::Granules;
@@ -12,6 +11,7 @@ use crate::near::Near;
 use crate::places::{CPUS, Places};
 use crate::slot::{HousedRec, Slot};
 use crate::slot_list::SlotList;
+use cell_changes::CellView;
 use granule_cells::{Cell, CpuPlace, Descriptor};
 use std::alloc::{AllocError, Global};
 
@@ -82,7 +82,7 @@ impl SlotList {
         requires { place < length self.now.items }
         ensures { IfOk result (λ cell. cell_of cell ≡ cell_at self.now place) }
     {
-        copied_seen(alloc, &self.slots[place], self.recs.as_slice())
+        copied_view(alloc, self.cell(place))
     }
 }
 
@@ -138,18 +138,17 @@ fn copied_recs(alloc: Global, recs: &[HousedRec], room: usize) -> Result<Vec<Hou
     Ok(copy)
 }
 
-// The cell that a slot stands for.
-fn copied_seen(alloc: Global, slot: &Slot, recs: &[HousedRec]) -> Result<Cell, AllocError>
-    requires { (number : ℕ) → slot.now ≡ kind.Rec number → number < length recs.now }
-    ensures { IfOk result (λ cell. cell_of cell ≡ seen recs.now slot.now) }
+/// A copy of a cell that is looked at where it lies.
+pub(crate) fn copied_view(alloc: Global, view: CellView<'_>) -> Result<Cell, AllocError>
+    ensures { IfOk result (λ cell. cell_of cell ≡ cell_seen view.entry) }
 {
-    match slot {
-        Slot::Undelegated => Ok(Cell::Undelegated),
-        Slot::Delegated => Ok(Cell::Delegated),
-        Slot::Rd(descriptor) => Ok(Cell::Rd(Descriptor::new(alloc, *descriptor.realm())?)),
-        Slot::Rec(number) => Ok(Cell::Rec(recs[*number].rec)),
-        Slot::RecAux => Ok(Cell::RecAux),
-        Slot::Data => Ok(Cell::Data),
-        Slot::Rtt(table) => Ok(Cell::Rtt(table.copy(alloc)?)),
+    match view {
+        CellView::Undelegated => Ok(Cell::Undelegated),
+        CellView::Delegated => Ok(Cell::Delegated),
+        CellView::Rd(realm) => Ok(Cell::Rd(Descriptor::new(alloc, *realm)?)),
+        CellView::Rec(rec) => Ok(Cell::Rec(*rec)),
+        CellView::RecAux => Ok(Cell::RecAux),
+        CellView::Data => Ok(Cell::Data),
+        CellView::Rtt(table) => Ok(Cell::Rtt(table.copy(alloc)?)),
     }
 }

@@ -185,8 +185,8 @@ impl Machine {
         }
     }
 
-    // What the specification answers, as `outcome` does.
-    fn outcome_seen(&self, cpu: u8, command: CommandRef<'_>) -> Result<Accepted, Refusal>
+    /// What the specification answers, as `outcome` does.
+    pub(crate) fn outcome_seen(&self, cpu: u8, command: CommandRef<'_>) -> Result<Accepted, Refusal>
         ensures { result ≡ outcome (state_of self.now) cpu (call_of (command_seen command.entry)) }
     {
         let call = command.call();

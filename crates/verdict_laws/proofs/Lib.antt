@@ -50,3 +50,4 @@ pub mod RegisterParts
 pub mod RegisterReturns
 pub mod RegisterStages
 pub mod RegisterOrders
+pub mod Checked

@@ -1,14 +1,18 @@
 -- Of the same calls to states that are one for what follows.
-use Rattle.finding.proofs.Common.{◌∙◌, refl, sym}
-use Rattle.finding.proofs.BegunLaws.{IsLost-alike, IsLost-like}
+use Rattle.finding.proofs.Common.{refl}
+use Rattle.std.proofs.Common.{subst₂}
+use Rattle.spec_machine.specs.Patches.{standing_of}
+use Rattle.finding.specs.Begun.{IsLostAt, state_from}
+use Rattle.finding.proofs.BegunLaws.{IsLost-like}
 use Rattle.finding.proofs.alike.is_alike.Goals as goal
 
 pub returns-then-unread : goal.returns-then-unread
-returns-then-unread c = λ like.
-    IsLost-like c.args.history.now.recorded (c.requires.unread c.if-unread.true) c.args.one.now c.args.other.now c.requires.begun
-    (c.if-not-are_of_same_calls.ensures refl) (c.is_like.ensures like)
+returns-then-unread c = λ like lost.
+    let base = standing_of c.args.machine.now in
+    IsLost-like c.args.history.now.recorded (c.requires.unread c.if-unread.true) c.args.one.now.front c.args.other.now.front.counts
+    (state_from base c.args.one.now) (state_from base c.args.other.now) c.requires.begun.begun
+    (c.if-not-are_of_same_calls.ensures refl) (c.are_like.ensures like) lost
 
-pub returns : goal.returns
-returns c = λ at.
-    IsLost-alike c.args.history.now.recorded c.args.one.now c.args.other.now (c.if-not-are_of_same_calls.ensures refl)
-    (sym (c.is_at.ensures at) ∙ c.in_ok-kept.ensures)
+pub returns-else-unread : goal.returns-else-unread
+returns-else-unread c = λ same lost.
+    subst₂ (IsLostAt c.args.history.now.recorded) (c.if-not-are_of_same_calls.ensures refl) (c.are_same.ensures same) lost

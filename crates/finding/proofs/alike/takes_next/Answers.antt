@@ -1,8 +1,14 @@
-use Rattle.std.proofs.Common.{arith}
+-- A call that was made by the first return may come next.
+use Rattle.std.proofs.Common.{arith, rules}
+use Rattle.finding.proofs.Common.{state_of}
+use Rattle.finding.proofs.BegunLaws.{MayCome-returned}
 use Rattle.finding.proofs.NextLines.{IsSoon-called}
 use Rattle.finding.proofs.alike.takes_next.Goals as goal
 
-pub grow-requires-clause-soon : goal.grow-requires-clause-soon
-grow-requires-clause-soon c =
-    IsSoon-called c.args.history.now.recorded c.requires.begun.front.is_history _ c.in-Some.first c.in-Some.ensures.least 0 c.in-Some-next.choice
-    c.in-Some-next.ensures.next.0 (omega (arith, c.rank.ensures.rank, c.if-rank-choice.false))
+pub grow-requires-clause-next : goal.grow-requires-clause-next
+grow-requires-clause-next c =
+    let next = c.in-Some-next.ensures.next.0 in
+    MayCome-returned c.args.history.now.recorded c.args.begun.now.front.counts (state_of c.args.begun.now.machine) c.in-Some-next.choice
+    c.with_its_reply.result c.with_its_reply.ensures.choice c.with_its_reply.ensures.line next (search rules)
+    (IsSoon-called c.args.history.now.recorded c.requires.begun.front.is_history c.args.begun.now c.in-Some.first c.in-Some.ensures.least 0
+    c.in-Some-next.choice next (omega (arith, c.rank.ensures.rank, c.if-rank-choice.false)))

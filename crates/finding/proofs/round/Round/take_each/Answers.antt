@@ -1,13 +1,6 @@
--- The call alone, or line by line.
-use Rattle.std.proofs.Common.{arith}
+-- A call that may come at once.
 use Rattle.finding.proofs.NextLines.{IsSoon-called}
 use Rattle.finding.proofs.round.Round.take_each.Goals as goal
-
-pub take_only-requires-clause-returned : goal.take_only-requires-clause-returned
-take_only-requires-clause-returned c = rw c.group_at-group.ensures.first (omega (arith, c.rank.ensures.rank, c.if-rank-ge-PENDING.false))
-
-pub take_group-requires-clause-returned : goal.take_group-requires-clause-returned
-take_group-requires-clause-returned c = rw c.group_at-group.ensures.first (omega (arith, c.rank.ensures.rank, c.if-rank-ge-PENDING.false))
 
 pub take_settled-requires-clause-soon : goal.take_settled-requires-clause-soon
 take_settled-requires-clause-soon c =

@@ -1,26 +1,36 @@
 -- The machine gives the reply or refuses it.
+use Rattle.finding.proofs.Common.{AllLost, RoundLost, subst, sym, ◌∙◌}
+use Rattle.std.proofs.lemmas.Result.{on_ok_weaker}
+use Rattle.spec_machine.specs.Patches.{Standing, standing_of}
+use Rattle.finding.proofs.Shelving.{IsLost-shelved, IsShelved-begun}
 use Rattle.finding.proofs.round.Round.take_grown.Goals as goal
 
-pub take-requires-clause-begun : goal.take-requires-clause-begun
-take-requires-clause-begun c = (rw c.if-given.true at c.in_ok-given.ensures).begun
+pub take-requires-clause-order : goal.take-requires-clause-order
+take-requires-clause-order c =
+    IsShelved-begun (standing_of c.put_down-machine.result.0) c.put_down-machine.result.1 c.grow.new.self (sym c.put_down-machine.ensures.back)
+    c.args.history.now.recorded (sym c.put_down-machine.ensures.front) (rw c.if-given.true at c.in_ok-given.ensures.grown).begun
 
-pub take-requires-clause-round : goal.take-requires-clause-round
-take-requires-clause-round c = record { unread = c.requires.round.unread; lacking = c.requires.round.lacking; next = c.requires.round.next }
-
-pub returns-then-given : goal.returns-then-given
-returns-then-given c =
-    let grown = rw c.if-given.true at c.in_ok-given.ensures in
+pub returns-then-given-clause-covers : goal.returns-then-given-clause-covers
+returns-then-given-clause-covers c =
+    let history = c.args.history.now.recorded in
+    let at = c.put_down-machine.ensures.base ∙ c.in_ok-given.ensures.base in
+    on_ok_weaker c.take.result
+    (λ covers lost.
+    let old = covers (subst (λ (b : Standing). RoundLost history b c.take.new.self) (sym at) lost) in
     record {
-      round = c.in_ok-take.ensures.round;
-      covers = λ lost. let old = c.in_ok-take.ensures.covers lost in record { lacking = old.lacking; next = old.next };
-      taken = λ lost lines holds. grown.behind lines holds (c.in_ok-take.ensures.taken lost);
-    }
+      lacking = subst (λ (b : Standing). AllLost history b c.args.self.now.lacking.items) at old.lacking;
+      next = subst (λ (b : Standing). AllLost history b c.args.self.now.next.items) at old.next;
+    })
+    c.take.ensures.covers
 
-pub returns : goal.returns
-returns c =
-    let stays = rw c.if-given.false at c.in_ok-given.ensures in
-    record {
-      round = record { unread = c.requires.round.unread; lacking = c.requires.round.lacking; next = c.requires.round.next };
-      covers = λ lost. record { lacking = lost.lacking; next = lost.next };
-      taken = λ lost. stays.refused;
-    }
+pub returns-then-given-clause-taken : goal.returns-then-given-clause-taken
+returns-then-given-clause-taken c =
+    let history = c.args.history.now.recorded in
+    let at = c.put_down-machine.ensures.base ∙ c.in_ok-given.ensures.base in
+    let grown = rw c.if-given.true at c.in_ok-given.ensures.grown in
+    on_ok_weaker c.take.result
+    (λ taken lost lines holds. grown.behind lines holds
+    (IsLost-shelved (standing_of c.put_down-machine.result.0) c.put_down-machine.result.1 c.grow.new.self (sym c.put_down-machine.ensures.back)
+    history (sym c.put_down-machine.ensures.front)
+    (taken (subst (λ (b : Standing). RoundLost history b c.take.new.self) (sym at) lost))))
+    c.take.ensures.taken

@@ -1,25 +1,17 @@
 -- Another order is of the same calls to the same state, or it is put in.
 use Rattle.std.proofs.Common.{refl}
-use Rattle.finding.proofs.Rounds.{Covers-lacking, IsRound-lacking, taken-lacking}
+use Rattle.spec_machine.specs.Patches.{standing_of}
+use Rattle.finding.proofs.Rounds.{IsRound-lacking, taken-lacking}
 use Rattle.finding.proofs.round.Round.take_lacking.Goals as goal
 
-pub has_alike-requires-clause-begun : goal.has_alike-requires-clause-begun
-has_alike-requires-clause-begun c = rw c.as_slice.ensures.value c.requires.round.lacking
+pub returns-then-has_alike-clause-taken : goal.returns-then-has_alike-clause-taken
+returns-then-has_alike-clause-taken c = λ lost. (rw c.as_slice-lacking.ensures.value at c.has_alike.ensures) c.if-has_alike.true lost.lacking
 
-pub returns-then-stands : goal.returns-then-stands
-returns-then-stands c = record {
-  round = c.requires.round;
-  covers = λ lost. lost;
-  taken = λ lost. (rw c.as_slice.ensures.value at c.in_ok-stands.ensures) c.if-stands.true lost.lacking;
-}
+pub returns-clause-round : goal.returns-clause-round
+returns-clause-round c =
+    IsRound-lacking c.args.history.now.recorded (standing_of c.args.machine.now) c.args.self.now _ c.args.order c.in_ok-push.ensures.items refl
+    refl c.requires.round c.requires.order
 
-pub returns : goal.returns
-returns c =
-    let history = c.args.history.now.recorded in
-    let old = c.args.self.now in
-    let items = c.in_ok-push.ensures.items in
-    record {
-      round = IsRound-lacking history old _ c.args.begun items refl refl c.requires.round c.requires.begun;
-      covers = Covers-lacking history old _ c.args.begun items refl;
-      taken = taken-lacking history old _ c.args.begun items refl;
-    }
+pub returns-clause-taken : goal.returns-clause-taken
+returns-clause-taken c =
+    taken-lacking c.args.history.now.recorded (standing_of c.args.machine.now) c.args.self.now _ c.args.order c.in_ok-push.ensures.items refl

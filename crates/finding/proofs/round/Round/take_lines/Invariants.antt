@@ -1,15 +1,15 @@
--- The orders so far, the line that waits, and the lines that are left.
-use Rattle.finding.proofs.Common.{IsRound, Line, List, RoundLost, TriedIn}
-use Rattle.finding.specs.Begun.{Covers, Holds}
-use Rattle.finding.specs.Group.{is_inside}
-use Rattle.finding.specs.Waiting.{IsWaitingLost, MayWait}
+-- The machine is as it was, and the lines so far were taken.
+use Rattle.finding.proofs.Common.{IsRound, RoundLost, take, ◌≡◌}
+use Rattle.spec_machine.specs.Patches.{standing_of}
+use Rattle.finding.specs.Begun.{Covers, state_from}
+use Rattle.finding.specs.Waiting.{AllLeadNowhere}
 use Rattle.finding.proofs.round.Round.take_lines.Given as goal
 
 abbrev pub invariant-lines : goal.invariant-lines
 invariant-lines l = record {
-  round : IsRound l.history.recorded l.self;
-  covers : Covers l.history.recorded l.initial.self l.self;
-  waits : MayWait l.history.recorded l.begun l.stand.waiting;
-  tried : RoundLost l.history.recorded l.self → IsWaitingLost l.history.recorded l.begun l.stand.waiting → (lines : List Line)
-      → Holds l.history.recorded l.begun lines → TriedIn l.history.recorded (is_inside l.group) lines l.stand.left.from l.stand.left.above;
+  base : standing_of l.machine ≡ standing_of l.fn.machine;
+  round : IsRound l.history.recorded (standing_of l.fn.machine) l.self;
+  covers : Covers l.history.recorded (standing_of l.fn.machine) l.fn.self l.self;
+  taken : RoundLost l.history.recorded (standing_of l.fn.machine) l.self
+      → AllLeadNowhere l.history.recorded l.order.front.counts (state_from (standing_of l.fn.machine) l.order) (take l.next-index l.lines);
 }

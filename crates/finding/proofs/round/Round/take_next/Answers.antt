@@ -1,25 +1,17 @@
 -- Another order leads to it, or it is put in.
 use Rattle.std.proofs.Common.{refl}
-use Rattle.finding.proofs.Rounds.{Covers-next, IsRound-next, taken-next}
+use Rattle.spec_machine.specs.Patches.{standing_of}
+use Rattle.finding.proofs.Rounds.{IsRound-next, taken-next}
 use Rattle.finding.proofs.round.Round.take_next.Goals as goal
 
-pub has_beginning-requires-clause-begun : goal.has_beginning-requires-clause-begun
-has_beginning-requires-clause-begun c = rw c.as_slice.ensures.value c.requires.round.next
+pub returns-then-stands-clause-taken : goal.returns-then-stands-clause-taken
+returns-then-stands-clause-taken c = λ lost. (rw c.as_slice-next.ensures.value at c.in_ok-stands.ensures.has) c.if-stands.true lost.next
 
-pub returns-then-stands : goal.returns-then-stands
-returns-then-stands c = record {
-  round = c.requires.round;
-  covers = λ lost. lost;
-  taken = λ lost. (rw c.as_slice.ensures.value at c.in_ok-stands.ensures) c.if-stands.true lost.next;
-}
+pub returns-clause-round : goal.returns-clause-round
+returns-clause-round c =
+    IsRound-next c.args.history.now.recorded (standing_of c.args.machine) c.args.self.now _ c.args.order refl c.in_ok-push.ensures.items refl
+    c.requires.round c.requires.order
 
-pub returns : goal.returns
-returns c =
-    let history = c.args.history.now.recorded in
-    let old = c.args.self.now in
-    let items = c.in_ok-push.ensures.items in
-    record {
-      round = IsRound-next history old _ c.args.begun refl items refl c.requires.round c.requires.begun;
-      covers = Covers-next history old _ c.args.begun refl items;
-      taken = taken-next history old _ c.args.begun refl items;
-    }
+pub returns-clause-taken : goal.returns-clause-taken
+returns-clause-taken c =
+    taken-next c.args.history.now.recorded (standing_of c.args.machine) c.args.self.now _ c.args.order refl c.in_ok-push.ensures.items

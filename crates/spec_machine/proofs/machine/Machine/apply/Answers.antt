@@ -59,3 +59,9 @@ returns-clause-ok c =
     let m = c.args.self.now in
     (made m.granules (record c.change_beside.new.granules { list = c.apply.new.store }) c.args.change.now m.shaped c.requires
     (size c.before) (whole c.before)).1
+
+pub returns-clause-size : goal.returns-clause-size
+returns-clause-size c = size c.before
+
+pub returns-clause-whole : goal.returns-clause-whole
+returns-clause-whole c = whole c.before

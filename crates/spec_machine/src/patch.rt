@@ -1,0 +1,18 @@
+//! Changes of a machine that can be taken back.
+
+use crate::places::Places;
+use granule_cells::{Cell, Side};
+
+/// What is put in a place of a machine.
+#[derive(Drop)]
+pub(crate) enum Replaced {
+    Cell { granule: u64, cell: Cell },
+    Side(Side),
+    Places(Places),
+}
+
+/// What is put in places of a machine in place of what is there, the first one last.
+#[derive(Drop)]
+pub struct Patch {
+    pub(crate) items: Vec<Replaced>,
+}

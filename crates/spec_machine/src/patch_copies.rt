@@ -1,0 +1,52 @@
+//! Patches once more.
+
+use crate::copies::copied_view;
+use crate::patch::{Patch, Replaced};
+use cell_changes::CellView;
+use std::alloc::{AllocError, Global};
+
+impl Patch {
+    ghost use Rattle.std.specs.Prelude.{◌≡◌, IfOk};
+    ghost use Rattle.spec_machine.specs.Patches.{patched};
+
+    /// Nothing is put in.
+    #[tactic(auto, unfolding(crate::specs::Patches::patched))]
+    pub fn none(alloc: Global) -> Patch
+        ensures { patched result ≡ (λ s. s) }
+    {
+        Patch {
+            items: Vec::new(alloc),
+        }
+    }
+
+    /// The same patch once more.
+    #[tactic(auto, unfolding(crate::specs::Patches::patched))]
+    pub fn copy(&self, alloc: Global) -> Result<Patch, AllocError>
+        ensures { IfOk result (λ patch. patched patch ≡ patched self.now) }
+    {
+        let mut items = Vec::new(alloc);
+        for item in &self.items {
+            items.push(item.copy(alloc)?)?;
+        }
+        Ok(Patch { items })
+    }
+}
+
+impl Replaced {
+    ghost use Rattle.std.specs.Prelude.{◌≡◌, IfOk};
+    ghost use Rattle.spec_machine.specs.Patches.{put_in};
+
+    // What puts the same in.
+    fn copy(&self, alloc: Global) -> Result<Replaced, AllocError>
+        ensures { IfOk result (λ copy. put_in copy ≡ put_in self.now) }
+    {
+        match self {
+            Replaced::Cell { granule, cell } => Ok(Replaced::Cell {
+                granule: *granule,
+                cell: copied_view(alloc, CellView::of(cell))?,
+            }),
+            Replaced::Side(side) => Ok(Replaced::Side(side.copy(alloc)?)),
+            Replaced::Places(places) => Ok(Replaced::Places(places.copy(alloc)?)),
+        }
+    }
+}

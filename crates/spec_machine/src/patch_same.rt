@@ -1,0 +1,139 @@
+//! Whether two patches lead to one state.
+
+ghost use Rattle.std.specs.Prelude.{◌≡◌, IsTrue};
+ghost use Rattle.cell_changes.specs.OneCell.{cell_seen};
+ghost use Rattle.spec_machine.specs.PatchKeys.{compared};
+
+use crate::machine::Machine;
+use crate::patch::{Patch, Replaced};
+use crate::same::same_cell;
+use crate::unmeasured::like_cells;
+use cell_changes::{CellStore, CellView};
+use granule_cells::Cell;
+use memory_map::granule_at;
+
+impl Machine {
+    ghost use Rattle.std.specs.Prelude.{◌≡◌, ℕ, All, IsTrue, true, false};
+    ghost use Rattle.cell_changes.specs.OneCell.{cell_seen};
+    ghost use Rattle.spec_machine.specs.Patches.{patched, standing_of, state_at};
+    ghost use Rattle.spec_machine.specs.PatchKeys.{cell_after, AreAlikeAt, AreAlikeIn};
+    ghost use Rattle.spec_machine.specs.Unmeasured.{unmeasured};
+
+    /// Where it answers true, the two patches lead from here to one state.
+    pub fn are_same(&self, one: &Patch, other: &Patch) -> bool
+        ensures { IsTrue result → state_at (patched one.now (standing_of self.now)) ≡ state_at (patched other.now (standing_of self.now)) }
+    {
+        self.are_alike(one, other, true)
+    }
+
+    /// Where it answers true, the states that the two patches lead to are one but for the realms' measurements.
+    pub fn are_like(&self, one: &Patch, other: &Patch) -> bool
+        ensures { IsTrue result → unmeasured (state_at (patched one.now (standing_of self.now)))
+            ≡ unmeasured (state_at (patched other.now (standing_of self.now))) }
+    {
+        self.are_alike(one, other, false)
+    }
+
+    // Whether the same lies in each granule after both patches, with what was measured or without.
+    fn are_alike(&self, one: &Patch, other: &Patch, measured: bool) -> bool
+        ensures { IsTrue result → (granule : ℕ) → AreAlikeAt measured one.now.items.items other.now.items.items (standing_of self.now) granule }
+    {
+        self.are_alike_in(one.items.as_slice(), one, other, measured)
+            && self.are_alike_in(other.items.as_slice(), one, other, measured)
+    }
+
+    // The same of the granules that some items name.
+    fn are_alike_in(&self, items: &[Replaced], one: &Patch, other: &Patch, measured: bool) -> bool
+        ensures { IsTrue result → All (AreAlikeIn measured one.now.items.items other.now.items.items (standing_of self.now)) items.now }
+    {
+        for item in items {
+            if !self.is_alike_in(item, one, other, measured) {
+                return false;
+            }
+        }
+        true
+    }
+
+    // The same of the granule that one item names.
+    fn is_alike_in(&self, item: &Replaced, one: &Patch, other: &Patch, measured: bool) -> bool
+        ensures { IsTrue result → AreAlikeIn measured one.now.items.items other.now.items.items (standing_of self.now) item.now }
+    {
+        match item {
+            Replaced::Cell { granule, .. } => alike(
+                self.cell_after(one, *granule),
+                self.cell_after(other, *granule),
+                measured,
+            ),
+            Replaced::Side(_) | Replaced::Places(_) => true,
+        }
+    }
+
+    // What lies in the granule after the patch.
+    fn cell_after<'a>(&'a self, patch: &'a Patch, granule: u64) -> CellView<'a>
+        ensures { cell_seen result ≡ cell_after patch.now.items.items (standing_of self.now) granule }
+    {
+        let list = &self.granules.list;
+        if granule_at(&list.config, granule).is_none() {
+            return list.cell(granule);
+        }
+        match patch.cell(granule) {
+            Some(cell) => CellView::of(cell),
+            None => list.cell(granule),
+        }
+    }
+}
+
+impl Patch {
+    ghost use Rattle.std.specs.Prelude.{◌≡◌, IfNone, IfSome, IsTrue};
+    ghost use Rattle.rmm_spec.specs.Lookup.{is_granule};
+    ghost use Rattle.granule_cells.specs.Seen.{cell_of};
+    ghost use Rattle.spec_machine.specs.Patches.{Standing};
+    ghost use Rattle.spec_machine.specs.PatchKeys.{cell_after};
+
+    // The cell that is put in the granule last, where one is.
+    fn cell(&self, granule: u64) -> Option<&Cell>
+        ensures some { IfSome result (λ cell. (s : Standing) → IsTrue (is_granule s.config.granules granule)
+            → cell_of cell.now ≡ cell_after self.now.items.items s granule) }
+        ensures none { IfNone result ((s : Standing) → s.whole.cells granule ≡ cell_after self.now.items.items s granule) }
+    {
+        for item in &self.items {
+            if let Some(cell) = item.cell_in(granule) {
+                return Some(cell);
+            }
+        }
+        None
+    }
+}
+
+impl Replaced {
+    ghost use Rattle.std.specs.Prelude.{◌≡◌, IfNone, IfSome, IsTrue};
+    ghost use Rattle.rmm_spec.specs.Lookup.{is_granule};
+    ghost use Rattle.granule_cells.specs.Seen.{cell_of};
+    ghost use Rattle.spec_machine.specs.Patches.{put_in, Standing};
+
+    // The cell that it puts in the granule, where it does.
+    fn cell_in(&self, granule: u64) -> Option<&Cell>
+        ensures some { IfSome result (λ cell. (s : Standing) → IsTrue (is_granule s.config.granules granule)
+            → cell_of cell.now ≡ (put_in self.now s).whole.cells granule) }
+        ensures none { IfNone result ((s : Standing) → s.whole.cells granule ≡ (put_in self.now s).whole.cells granule) }
+    {
+        match self {
+            Replaced::Cell {
+                granule: place,
+                cell,
+            } if *place == granule => Some(cell),
+            _ => None,
+        }
+    }
+}
+
+// Whether two cells are the same, with what was measured or without.
+fn alike(one: CellView<'_>, other: CellView<'_>, measured: bool) -> bool
+    ensures { IsTrue result → compared measured (cell_seen one.entry) ≡ compared measured (cell_seen other.entry) }
+{
+    if measured {
+        same_cell(one, other)
+    } else {
+        like_cells(one, other)
+    }
+}
