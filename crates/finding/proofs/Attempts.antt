@@ -1,7 +1,6 @@
 -- The lines of a call that can come next: its recorded reply, or what the specification answers.
-use Rattle.finding.proofs.Common.{◌++◌, ◌+◌, ◌<◌, ◌∷◌, ◌≡◌, ◌≤◌, Choice, Frame, HasOnePlaces-from_history, History, IsFinished, IsHistory, LeadsNowhere, Line, List, None, Option, Reply, Some, State, Unfinished, [], ap, arith, cases_lt, inl, inr, rank_of, refl, subst, sym, ℕ}
+use Rattle.finding.proofs.Common.{◌++◌, ◌+◌, ◌<◌, ◌∷◌, ◌≡◌, ◌≤◌, Choice, HasOnePlaces-from_history, History, IsFinished, IsHistory, LeadsNowhere, Line, List, None, Option, Reply, Some, State, Unfinished, [], ap, arith, cases_lt, inl, inr, rank_of, refl, subst, sym, ℕ}
 use Rattle.std.proofs.Common.{Result, Ok}
-use Rattle.std.specs.Global.{Box}
 use Rattle.std.specs.Option.{MatchOption}
 use Rattle.std.proofs.lemmas.Option.{none-some, same_Some}
 use Rattle.rmm_spec.specs.declared.accepted.Accepted.{Accepted}
@@ -19,28 +18,14 @@ use Rattle.rmm_spec.specs.Step.{Step, CarriesOut, outcome}
 use Rattle.rmm_spec.specs.Step.Ripas.{IsReached}
 use Rattle.rmm_spec.specs.Linearization.{IsReturned, IsEntryOf}
 use Rattle.spec_lemmas.proofs.Places.{call_is_event}
-use Rattle.spec_machine.specs.declared.machine.Machine.{Machine}
 use Rattle.history.specs.Calls.{ArePlacesOf}
 use Rattle.spec_lemmas.proofs.Calls.{same_command}
 use Rattle.verdict_laws.proofs.CallOrder.{few_calls}
 use Rattle.verdict_laws.proofs.Nowhere.{nowhere_by}
 use Rattle.finding.specs.Attempt.{EndsLeadNowhere, MayTry, IsAnswered, IsAttempt}
+use Rattle.finding.specs.declared.attempt.Attempt.{Attempt}
 use Rattle.finding.specs.Ends.{IsBelow, IsEnd}
 use Rattle.finding.specs.Tried.{CallLeadsNowhere}
-
--- an attempt is one with a machine that is kept before it
-pub IsAttempt-marked : (history : History) (lines : List Line) (choice : Choice) (frame : Frame) (before : Option (Box Machine))
-    → IsAttempt history lines choice frame → IsAttempt history lines choice (record frame { before = before })
-IsAttempt-marked history lines choice frame before attempt = record {
-  is_line = attempt.is_line;
-  of_cpu = attempt.of_cpu;
-  numbered = attempt.numbered;
-  kind = attempt.kind;
-  left = λ nowhere. elim (attempt.left nowhere) [
-    | inl passed ↦ inl (record { from = passed.from; above = passed.above; nowhere = passed.nowhere })
-    | inr ended ↦ inr (record { from = ended.from; pending = ended.pending; nowhere = ended.nowhere })
-  ];
-}
 
 -- the places of a call that hasn't returned
 pub pending_at : (history : History) (choice : Choice) → ArePlacesOf history.events choice.cpu choice.number choice.places
@@ -110,19 +95,19 @@ module _ (history : History) (lines : List Line) (state : State) (choice : Choic
       nowhere_pending history lines choice.cpu choice.number pending (λ claimed. nowhere_claim claimed (λ new carried.
       subst (λ (r : Reply). LeadsNowhere history (lines ++ Unfinished choice.cpu choice.number r ∷ [])) (sym (only claimed new carried)) nowhere))
 
-  pub IsAttempt-only : (given : Reply) → ((claimed : Reply) (new : State) → CarriesOut answer state claimed new → claimed ≡ given) → (frame : Frame)
-      → frame.line ≡ Unfinished choice.cpu choice.number given → frame.from ≡ rank_of choice + 1 → frame.above ≡ None → IsReply given
-      → IsAttempt history lines choice frame
-  IsAttempt-only given only frame is_line from none has_text =
+  pub IsAttempt-only : (given : Reply) → ((claimed : Reply) (new : State) → CarriesOut answer state claimed new → claimed ≡ given) → (made : Attempt)
+      → made.line ≡ Unfinished choice.cpu choice.number given → made.left.from ≡ rank_of choice + 1 → made.left.above ≡ None → IsReply given
+      → IsAttempt history lines choice made
+  IsAttempt-only given only made is_line from none has_text =
       let at = of_a_line history may.is_history choice may.places in
-      let here : IsAttempt history lines choice (record frame { line = Unfinished choice.cpu choice.number given }) = record {
+      let here : IsAttempt history lines choice (record made { line = Unfinished choice.cpu choice.number given }) = record {
         is_line = (at.0, at.1, has_text);
         of_cpu = refl;
         numbered = refl;
         kind = pending;
         left = λ nowhere. inl (record { from = from; above = none; nowhere = only_reply given only nowhere });
       } in
-      subst (λ (l : Line). IsAttempt history lines choice (record frame { line = l })) (sym is_line) here
+      subst (λ (l : Line). IsAttempt history lines choice (record made { line = l })) (sym is_line) here
 
 -- what is reached is an end of the stretch
 IsEnd-reached : (s : State) (stretch : Stretch) (top : ℕ) → IsReached s stretch top → IsEnd stretch top
@@ -175,13 +160,13 @@ module _ (history : History) (lines : List Line) (state : State) (choice : Choic
       let top_is : top ≡ end = omega (arith, same, within, no_greater) in
       subst (λ (e : ℕ). LeadsNowhere history (lines ++ Unfinished choice.cpu choice.number (ok (e ∷ [])) ∷ [])) top_is nowhere))
 
-  pub IsAttempt-ended : (top : ℕ) → ((end : ℕ) → IsEnd stretch end → IsBelow above end → end ≤ top) → (frame : Frame)
-      → frame.line ≡ Unfinished choice.cpu choice.number (ok (top ∷ []))
-      → frame.from ≡ rank_of choice → frame.above ≡ Some top → IsReply (ok (top ∷ []))
-      → IsAttempt history lines choice frame
-  IsAttempt-ended top greatest frame is_line from is_above has_text =
+  pub IsAttempt-ended : (top : ℕ) → ((end : ℕ) → IsEnd stretch end → IsBelow above end → end ≤ top) → (made : Attempt)
+      → made.line ≡ Unfinished choice.cpu choice.number (ok (top ∷ []))
+      → made.left.from ≡ rank_of choice → made.left.above ≡ Some top → IsReply (ok (top ∷ []))
+      → IsAttempt history lines choice made
+  IsAttempt-ended top greatest made is_line from is_above has_text =
       let at = of_a_line history may.is_history choice may.places in
-      let here : IsAttempt history lines choice (record frame { line = Unfinished choice.cpu choice.number (ok (top ∷ [])) }) = record {
+      let here : IsAttempt history lines choice (record made { line = Unfinished choice.cpu choice.number (ok (top ∷ [])) }) = record {
         is_line = (at.0, at.1, has_text);
         of_cpu = refl;
         numbered = refl;
@@ -192,4 +177,4 @@ module _ (history : History) (lines : List Line) (state : State) (choice : Choic
           nowhere = subst (EndsLeadNowhere history lines choice) (sym is_above) (ended top greatest nowhere);
         });
       } in
-      subst (λ (l : Line). IsAttempt history lines choice (record frame { line = l })) (sym is_line) here
+      subst (λ (l : Line). IsAttempt history lines choice (record made { line = l })) (sym is_line) here

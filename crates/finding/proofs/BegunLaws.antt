@@ -1,5 +1,5 @@
 -- Orders that are begun, as they grow by a line and stand for others.
-use Rattle.finding.proofs.Common.{◌++◌, ◌+◌, ◌∙◌, ◌∷◌, ◌≡◌, Choice, Frame, History, IsBegun, IsFinished, IsHistory, IsLeast, IsNextCall, LeadsNowhere, Line, List, Option, Some, State, TriedIn, Unfinished, [], ap, arith, cpu_named, inl, inr, number_named, opening, rank_of, refl, state_of, subst, sym, ℕ}
+use Rattle.finding.proofs.Common.{◌++◌, ◌+◌, ◌∙◌, ◌∷◌, ◌≡◌, Choice, History, IsBegun, IsFinished, IsHistory, IsLeast, IsNextCall, LeadsNowhere, Line, List, Option, Some, State, TriedIn, Unfinished, [], ap, arith, cpu_named, inl, inr, number_named, opening, rank_of, refl, state_of, subst, sym, ℕ}
 use Rattle.std.proofs.Common.{Bool, true, set, append_assoc, subst₂}
 use Rattle.rmm_spec.specs.declared.line.Line.TheVariants.{Keep}
 use Rattle.rmm_spec.specs.FirstFault.{IsRefused}
@@ -14,15 +14,17 @@ use Rattle.finding.specs.Attempt.{IsAttempt, MayTry}
 use Rattle.finding.specs.Begun.{Holds, HoldsOf, IsBegunAt, IsGrown, IsLostAt, IsSoon, IsSoonAt, Stays}
 use Rattle.finding.specs.Counts.{AreCounts}
 use Rattle.finding.specs.Front.{IsFront}
-use Rattle.finding.specs.Search.{IsGiven}
+use Rattle.finding.specs.Offering.{IsGiven}
 use Rattle.finding.specs.Waiting.{MayCome}
 use Rattle.finding.specs.declared.begun.Begun.{Begun}
 use Rattle.finding.specs.declared.candidate.Candidate.{Candidate}
 use Rattle.finding.specs.declared.front.Front.{Front}
+use Rattle.verdict_laws.proofs.Configurations.{nowhere_alike}
+use Rattle.finding.specs.declared.attempt.Attempt.{Attempt}
 use Rattle.finding.proofs.Attempts.{of_a_line}
 use Rattle.finding.proofs.Choices.{rank_pending}
-use Rattle.finding.proofs.KeptLaws.{IsNowhere-of, same_counts}
-use Rattle.finding.proofs.Searches.{AreCounts-nil, AreCounts-push, Grows-given}
+use Rattle.finding.proofs.Counted.{AreCounts-nil, AreCounts-push, same_counts}
+use Rattle.finding.proofs.Growing.{Grows-given}
 use Rattle.finding.proofs.TriedLaws.{Tried-passed, Tried-ended}
 
 -- what continues a longer order continues the shorter one
@@ -36,7 +38,8 @@ pub IsLost-from : (history : History) → IsHistory history → (counts : List �
     → IsLostAt history counts state
 IsLost-from history is_history counts state lines holds nowhere = record {
   nowhere = λ other also.
-      IsNowhere-of history is_history lines state holds.reached counts holds.counts nowhere other also.reached also.counts;
+      nowhere_alike history is_history lines other state holds.reached also.reached
+      (same_counts history is_history lines other state state holds.reached also.reached counts holds.counts also.counts) nowhere;
 }
 
 -- what is held of the one is held of the other
@@ -131,16 +134,16 @@ module _ (history : History) (is_history : IsHistory history) (lines : List Line
   }
 
   -- the line that was tried leads nowhere
-  pub Tried-attempt : (group : ℕ → Bool) → TriedIn history group lines from above → (frame : Frame) → IsAttempt history lines choice frame
-      → LeadsNowhere history (lines ++ frame.line ∷ []) → TriedIn history group lines frame.from frame.above
-  Tried-attempt group tried frame attempt nowhere = elim (attempt.left nowhere) [
+  pub Tried-attempt : (group : ℕ → Bool) → TriedIn history group lines from above → (made : Attempt) → IsAttempt history lines choice made
+      → LeadsNowhere history (lines ++ made.line ∷ []) → TriedIn history group lines made.left.from made.left.above
+  Tried-attempt group tried made attempt nowhere = elim (attempt.left nowhere) [
     | inl passed ↦
-        subst (λ (f : ℕ). TriedIn history group lines f frame.above) (sym passed.from)
+        subst (λ (f : ℕ). TriedIn history group lines f made.left.above) (sym passed.from)
         (subst (λ (a : Option ℕ). TriedIn history group lines (rank_of choice + 1) a) (sym passed.above)
         (Tried-passed history is_history lines state reached counts are group from above tried choice next is_least (λ inside. passed.nowhere)))
     | inr ended ↦
-        subst (λ (f : ℕ). TriedIn history group lines f frame.above) (sym ended.from)
-        (Tried-ended history is_history lines state reached counts are group from above tried choice next is_least frame.above ended.nowhere)
+        subst (λ (f : ℕ). TriedIn history group lines f made.left.above) (sym ended.from)
+        (Tried-ended history is_history lines state reached counts are group from above tried choice next is_least made.left.above ended.nowhere)
   ]
 
 -- ---- what may come next

@@ -13,6 +13,5 @@ pub use Rattle.verdict_laws.proofs.Checked.{HasOnePlaces-from_history}
 pub use Rattle.verdict_laws.specs.Order.{LeadsNowhere}
 pub use Rattle.finding.specs.Begun.{AllLost, IsBegun, IsRound, RoundLost}
 pub use Rattle.finding.specs.Choice.{IsLeast, IsNextCall, rank_of}
-pub use Rattle.finding.specs.Search.{IsSearch, lines_of}
-pub use Rattle.finding.specs.Tried.{Tried, TriedIn, every}
-pub use Rattle.finding.specs.declared.{choice.Choice.Choice, frame.Frame.Frame, search.Search.Search}
+pub use Rattle.finding.specs.Tried.{TriedIn}
+pub use Rattle.finding.specs.declared.{choice.Choice.Choice, left.Left.Left}

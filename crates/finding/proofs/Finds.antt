@@ -1,19 +1,11 @@
--- What was found, by how a search or a look return by return ends.
-use Rattle.finding.proofs.Common.{◌+◌, ◌≡◌, inl, inr, History, IsHistory, IsSearch, LeadsNowhere, Search, [], refl, subst, take, ℕ}
+-- What was found, by how a look return by return ends.
+use Rattle.finding.proofs.Common.{◌+◌, ◌≡◌, inl, inr, History, LeadsNowhere, [], subst, take, ℕ}
 use Rattle.verdict_laws.proofs.Nowhere.{none-from_nowhere}
 use Rattle.finding.specs.Found.{HasNone, HasNoneUpTo, IsFound, IsFoundWatched}
 use Rattle.finding.specs.declared.finding.Found.{Found}
 use Rattle.finding.specs.declared.finding.Found.TheVariants as found
-use Rattle.finding.specs.declared.offers.Offers.{Offers}
-use Rattle.finding.proofs.Searches.{IsSearch-tried}
 
--- other offers were made
-pub IsSearch-offers : (history : History) → IsHistory history → (search : Search) (offers : Offers) → IsSearch history search
-    → IsSearch history (record search { offers = offers })
-IsSearch-offers history is_history search offers is_search =
-    IsSearch-tried history is_history search (record search { offers = offers }) is_search refl refl is_search.machine is_search.tried is_search.kept
-    is_search.checkpoint
-
+-- there is none of all calls
 pub HasNone-nowhere : (history : History) → LeadsNowhere history [] → HasNone history
 HasNone-nowhere history nowhere = λ lines. none-from_nowhere history lines nowhere
 

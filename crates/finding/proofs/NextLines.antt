@@ -1,5 +1,5 @@
 -- What is left behind the next line of an order that is begun.
-use Rattle.finding.proofs.Common.{State, inl, inr, ◌++◌, ◌+◌, ◌<◌, ◌^◌, ◌∙◌, ◌∷◌, ◌≡◌, ◌≤◌, [], Choice, Frame, History, IsFinished, IsHistory, IsLeast, IsNextCall, LeadsNowhere, Line, List, None, Option, Reply, Some, TriedIn, Unfinished, ap, arith, cpu_named, number_named, rank_of, refl, state_of, subst, sym, ℕ}
+use Rattle.finding.proofs.Common.{State, inl, inr, ◌++◌, ◌+◌, ◌<◌, ◌^◌, ◌∙◌, ◌∷◌, ◌≡◌, ◌≤◌, [], Choice, History, IsFinished, IsHistory, IsLeast, IsNextCall, LeadsNowhere, Line, List, None, Option, Reply, Some, TriedIn, Unfinished, ap, arith, cpu_named, number_named, rank_of, refl, state_of, subst, sym, ℕ}
 use Rattle.std.proofs.Common.{Bool, false, true}
 use Rattle.rmm_spec.specs.declared.line.Line.TheVariants.{Keep}
 use Rattle.rmm_spec.specs.Linearization.{IsOfItsKind, IsReturned}
@@ -9,18 +9,19 @@ use Rattle.verdict_laws.proofs.Settled.{nowhere_settled}
 use Rattle.verdict_laws.proofs.Groups.{nowhere_unless_inside}
 use Rattle.finding.specs.Attempt.{IsTriedNext, MayTry}
 use Rattle.finding.specs.Begun.{GoesBehind, Holds, IsGroup, IsLost, IsNextLine, IsSoon, MayStand}
+use Rattle.finding.specs.declared.attempt.Attempt.{Attempt}
 use Rattle.finding.specs.declared.begun.Begun.{Begun}
 use Rattle.finding.specs.declared.next_line.NextLine.TheVariants as next_line
-use Rattle.finding.specs.declared.search.Left.{Left}
+use Rattle.finding.specs.declared.left.Left.{Left}
 use Rattle.finding.proofs.Attempts.{nowhere_kept, pending_at}
 use Rattle.finding.proofs.BegunLaws.{MayTry-begun, Tried-attempt}
 use Rattle.finding.proofs.Choices.{returned_first}
 use Rattle.finding.proofs.OfferLaws.{returned_at}
-use Rattle.finding.specs.Search.{IsRefusedHere}
+use Rattle.finding.specs.Settled.{IsRefusedHere}
 use Rattle.finding.specs.Settled.{IsGivenHere, IsSettledHere}
 use Rattle.verdict_laws.proofs.Looked.{nowhere_looked}
 use Rattle.verdict_laws.proofs.UnreadOrders.{nowhere_extended}
-use Rattle.finding.proofs.Searches.{Grows-refused, Grows-returned, IsNextCall-0}
+use Rattle.finding.proofs.Growing.{Grows-refused, Grows-returned, IsNextCall-0}
 use Rattle.finding.proofs.TriedLaws.{IsKept-open, ReturnBehind-called, Tried-passed, counted, each_nowhere, of_machine, too_late}
 
 -- by its parts
@@ -207,22 +208,20 @@ module _ (history : History) (is_history : IsHistory history) (begun : Begun) (g
           choice next none_sooner group inside tried held is_held)))
 
       -- or this one
-      pub MayStand-pending : choice.places.returned ≡ None → (frame : Frame)
-          → ((lines : List Line) → MayTry history lines (state_of begun.machine) choice held → IsTriedNext history lines choice (Some frame))
-          → ((claimed : Reply) × (frame.line ≡ Unfinished choice.cpu choice.number claimed)) → (new : Left)
-          → new.from ≡ frame.from → new.above ≡ frame.above
-          → MayStand history begun group left choice frame.line new
-      MayStand-pending pending frame tries line new from above = record {
+      pub MayStand-pending : choice.places.returned ≡ None → (made : Attempt)
+          → ((lines : List Line) → MayTry history lines (state_of begun.machine) choice held → IsTriedNext history lines choice (Some made))
+          → ((claimed : Reply) × (made.line ≡ Unfinished choice.cpu choice.number claimed))
+          → MayStand history begun group left choice made.line made.left
+      MayStand-pending pending made tries line = record {
         next = IsNextCall-0 history begun.front.counts left.from choice next;
         of_cpu = ap cpu_named line.1;
         numbered = ap number_named line.1;
         kind = subst (IsOfItsKind history.events) (sym line.1) (pending_at history choice next.places pending);
         soon = soon;
         resumes = λ lines holds nowhere tried.
-            Tried-left history group lines frame.from frame.above new from above
-            (Tried-attempt history is_history lines
+            Tried-attempt history is_history lines
             (state_of begun.machine) holds.reached begun.front.counts holds.counts left.from left.above choice next none_sooner
-            group tried frame (tries lines
+            group tried made (tries lines
             (MayTry-begun history is_history lines (state_of begun.machine) holds.reached begun.front.counts holds.counts left.from left.above
-            choice next none_sooner group inside tried held is_held)) nowhere);
+            choice next none_sooner group inside tried held is_held)) nowhere;
       }

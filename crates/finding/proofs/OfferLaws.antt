@@ -13,7 +13,7 @@ use Rattle.history.specs.Calls.{ArePlacesOf}
 use Rattle.history.specs.declared.history.Places.{Places}
 use Rattle.spec_lemmas.proofs.Calls.{HasOnePlaces, told_at_call}
 use Rattle.verdict_laws.proofs.Checked.{IsRefused-from_step}
-use Rattle.finding.specs.Search.{IsGiven}
+use Rattle.finding.specs.Offering.{IsGiven}
 
 -- ---- places
 

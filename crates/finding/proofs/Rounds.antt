@@ -1,13 +1,16 @@
 -- Orders that are taken into a round.
-use Rattle.finding.proofs.Common.{◌++◌, ◌∷◌, ◌≡◌, AllLost, History, IsRound, IsTrue, List, RoundLost, Some, [], arith, length, subst, sym}
+use Rattle.finding.proofs.Common.{◌++◌, ◌∙◌, ◌∷◌, ◌≡◌, AllLost, History, IsRound, IsTrue, List, None, Option, RoundLost, Some, [], arith, length, subst, sym}
 use Rattle.std.proofs.lemmas.List.Elements.{All-pop, All-push}
-use Rattle.std.proofs.Common.{Bool}
+use Rattle.std.proofs.Common.{false}
+use Rattle.std.specs.Option.{IfSome}
+use Rattle.std.proofs.lemmas.Bool.{false≢true}
 use Rattle.verdict_laws.specs.Unread.{ReadsNothing}
 use Rattle.spec_machine.specs.Patches.{Standing, patched, standing_of}
 use Rattle.spec_machine.specs.declared.machine.Machine.{Machine}
-use Rattle.finding.specs.Begun.{AllShelved, AreOrders, Covers, IsLost, IsShelved, IsShelvedLost, base_of}
+use Rattle.finding.specs.Begun.{AllShelved, AreOrders, Covers, IsLost, IsShelved, IsShelvedLost, OrdersLost, base_of}
 use Rattle.finding.specs.declared.begun.Begun.{Begun}
 use Rattle.finding.specs.declared.round.Round.{Round}
+use Rattle.finding.specs.declared.scope.Scope.{Scope}
 use Rattle.finding.specs.declared.shelved.Orders.{Orders}
 use Rattle.finding.specs.declared.shelved.Shelved.{Shelved}
 use Rattle.finding.proofs.Shelving.{IsShelvedLost-begun}
@@ -43,16 +46,17 @@ AllShelved-pop history base old new order are all = All-pop (IsShelved history b
 module _ (history : History) (base : Standing) (old new : Round) (order : Shelved) where
   -- one that has the call
   module _ (lacking : new.lacking.items ≡ old.lacking.items) (next : new.next.items ≡ old.next.items ++ order ∷ []) where
-    pub IsRound-next : new.unread ≡ old.unread → IsRound history base old → IsShelved history base order → IsRound history base new
-    IsRound-next unread round is = record {
+    pub IsRound-next : new.scope ≡ old.scope → IsRound history base old → IsShelved history base order → IsRound history base new
+    IsRound-next scope round is = record {
       whole = round.whole;
-      unread = subst (λ (b : Bool). IsTrue b → ReadsNothing history.events) (sym unread) round.unread;
+      unread = subst (λ (s : Scope). IsTrue s.unread → ReadsNothing history.events) (sym scope) round.unread;
       lacking = subst (AllShelved history base) (sym lacking) round.lacking;
       next = AllShelved-push history base old.next.items new.next.items order next round.next is;
     }
 
-    pub Covers-next : Covers history base old new
-    Covers-next lost = record {
+    pub Covers-next : new.complete ≡ old.complete → Covers history base old new
+    Covers-next complete lost = record {
+      complete = subst IsTrue complete lost.complete;
       lacking = subst (AllLost history base) lacking lost.lacking;
       next = (AllLost-pop history base new.next.items old.next.items order next lost.next).0;
     }
@@ -62,22 +66,43 @@ module _ (history : History) (base : Standing) (old new : Round) (order : Shelve
 
   -- one that lacks it
   module _ (lacking : new.lacking.items ≡ old.lacking.items ++ order ∷ []) (next : new.next.items ≡ old.next.items) where
-    pub IsRound-lacking : new.unread ≡ old.unread → IsRound history base old → IsShelved history base order → IsRound history base new
-    IsRound-lacking unread round is = record {
+    pub IsRound-lacking : new.scope ≡ old.scope → IsRound history base old → IsShelved history base order → IsRound history base new
+    IsRound-lacking scope round is = record {
       whole = round.whole;
-      unread = subst (λ (b : Bool). IsTrue b → ReadsNothing history.events) (sym unread) round.unread;
+      unread = subst (λ (s : Scope). IsTrue s.unread → ReadsNothing history.events) (sym scope) round.unread;
       lacking = AllShelved-push history base old.lacking.items new.lacking.items order lacking round.lacking is;
       next = subst (AllShelved history base) (sym next) round.next;
     }
 
-    pub Covers-lacking : Covers history base old new
-    Covers-lacking lost = record {
+    pub Covers-lacking : new.complete ≡ old.complete → Covers history base old new
+    Covers-lacking complete lost = record {
+      complete = subst IsTrue complete lost.complete;
       lacking = (AllLost-pop history base new.lacking.items old.lacking.items order lacking lost.lacking).0;
       next = subst (AllLost history base) next lost.next;
     }
 
     pub taken-lacking : RoundLost history base new → IsShelvedLost history base order
     taken-lacking lost = (AllLost-pop history base new.lacking.items old.lacking.items order lacking lost.lacking).1
+
+-- one is left out, so that nothing is known of the round where the others lead nowhere
+module _ (history : History) (base : Standing) (old new : Round) (left : new.complete ≡ false) where
+  unfinished : RoundLost history base new → ⊥
+  unfinished lost = false≢true (sym left ∙ lost.complete)
+
+  pub IsRound-left : new.scope ≡ old.scope → new.lacking.items ≡ old.lacking.items → new.next.items ≡ old.next.items
+      → IsRound history base old → IsRound history base new
+  IsRound-left scope lacking next round = record {
+    whole = round.whole;
+    unread = subst (λ (s : Scope). IsTrue s.unread → ReadsNothing history.events) (sym scope) round.unread;
+    lacking = subst (AllShelved history base) (sym lacking) round.lacking;
+    next = subst (AllShelved history base) (sym next) round.next;
+  }
+
+  pub Covers-left : Covers history base old new
+  Covers-left lost = absurd (unfinished lost)
+
+  pub taken-left : (P : Type 0) → RoundLost history base new → P
+  taken-left P lost = absurd (unfinished lost)
 
 -- an order of the old round is taken at hand, the ones that are longer are taken, and the machine is back
 module _ (history : History) (base : Standing) (old new : Round) (begun : Begun) (same : base_of begun ≡ base) where
@@ -96,13 +121,18 @@ module _ (history : History) (base : Standing) (old new : Round) (begun : Begun)
       λ lost. IsShelvedLost-begun base order begun there history front (taken (RoundLost-there lost))
 
 -- what the orders before a return cover, those with its call do
-pub AreOrders-next : (history : History) (kept rebased next : Orders) (round : Round) (machine : Machine) (covered : Type 0)
-    → standing_of machine ≡ standing_of rebased.machine → AreOrders history kept covered
-    → AreOrders history rebased (AllLost history (standing_of kept.machine) kept.begun.items)
-    → (RoundLost history (standing_of rebased.machine) round → AllLost history (standing_of rebased.machine) rebased.begun.items)
-    → AreOrders history next (RoundLost history (standing_of machine) round)
-    → AreOrders history next covered
-AreOrders-next history kept rebased next round machine covered same are near sorted further = record {
+pub AreOrders-next : (history : History) (kept next : Orders) (covered : Type 0)
+    → AreOrders history kept covered → AreOrders history next (OrdersLost history kept) → AreOrders history next covered
+AreOrders-next history kept next covered are further = record { shelved = further.shelved; covers = λ lost. are.covers (further.covers lost) }
+
+-- as those that were sorted do
+pub AreOrders-sorted : (history : History) (kept ahead : Orders) (round : Round) (machine : Machine) (next : Option Orders)
+    → standing_of machine ≡ standing_of ahead.machine → AreOrders history ahead (OrdersLost history kept)
+    → (RoundLost history (standing_of ahead.machine) round → OrdersLost history ahead)
+    → IfSome next (λ orders. AreOrders history orders (RoundLost history (standing_of machine) round))
+    → IfSome next (λ orders. AreOrders history orders (OrdersLost history kept))
+AreOrders-sorted history kept ahead round machine None same are sorted further = tt
+AreOrders-sorted history kept ahead round machine (Some next) same are sorted further = record {
   shelved = further.shelved;
-  covers = λ lost. are.covers (near.covers (sorted (subst (λ (b : Standing). RoundLost history b round) same (further.covers lost))));
+  covers = λ lost. are.covers (sorted (subst (λ (b : Standing). RoundLost history b round) same (further.covers lost)));
 }

@@ -1,14 +1,14 @@
 -- Orders that are taken at hand and put down: what is held of them stays.
-use Rattle.finding.proofs.Common.{◌++◌, ◌∙◌, ◌∷◌, ◌≡◌, History, IsBegun, LeadsNowhere, List, Some, [], ap, arith, length, opening, state_of, subst, sym}
-use Rattle.std.proofs.Common.{subst₂}
+use Rattle.finding.proofs.Common.{◌++◌, ◌∙◌, ◌∷◌, ◌≡◌, History, IsBegun, LeadsNowhere, List, [], ap, arith, length, opening, state_of, subst, sym}
+use Rattle.std.proofs.Common.{IsTrue, subst₂}
 use Rattle.std.proofs.lemmas.List.{length-append, nil_from_length}
-use Rattle.std.proofs.lemmas.List.Elements.{All-cons, All-head, All-nil, All-pop}
+use Rattle.std.proofs.lemmas.List.Elements.{All-cons, All-head, All-nil}
 use Rattle.rmm_spec.specs.State.{State}
 unfoldable pub use Rattle.spec_machine.specs.Whole.{state_in}
 use Rattle.spec_machine.specs.declared.machine.Machine.{Machine}
 unfoldable pub use Rattle.spec_machine.specs.Patches.{state_at}
 use Rattle.spec_machine.specs.Patches.{IsWhole, Standing, patched, standing_of}
-use Rattle.finding.specs.Begun.{AllLost, AllShelved, AreOrders, HoldsOf, IsBegunAt, IsLost, IsLostAt, IsShelved, IsShelvedLost, state_from}
+use Rattle.finding.specs.Begun.{AllLost, AllShelved, AreOrders, HoldsOf, IsBegunAt, IsLost, IsLostAt, IsShelved, IsShelvedLost, OrdersLost, state_from}
 use Rattle.finding.specs.Front.{IsFront}
 use Rattle.finding.specs.declared.begun.Begun.{Begun}
 use Rattle.finding.specs.declared.front.Front.{Front}
@@ -70,23 +70,50 @@ AreOrders-one history orders order covered one is covers = record {
   shelved = subst (AllShelved history (standing_of orders.machine)) (sym one)
       (All-cons (IsShelved history (standing_of orders.machine)) order [] is (All-nil (IsShelved history (standing_of orders.machine))));
   covers = λ lost.
-      covers (All-head (IsShelvedLost history (standing_of orders.machine)) order [] (subst (AllLost history (standing_of orders.machine)) one lost));
+      covers (All-head (IsShelvedLost history (standing_of orders.machine)) order []
+      (subst (AllLost history (standing_of orders.machine)) one lost.begun));
 }
 
--- so it does where the one order leads from elsewhere
-pub AreOrders-rebased : (history : History) (base : Standing) (all rest : List Shelved) (before : Shelved) (new : Orders) (after : Shelved)
-    → AllShelved history base all → length all ≡ 1 → all ≡ rest ++ before ∷ [] → new.begun.items ≡ rest ++ after ∷ []
-    → after.front ≡ before.front → patched after.patch (standing_of new.machine) ≡ patched before.patch base
-    → AreOrders history new (AllLost history base all)
-AreOrders-rebased history base all rest before new after shelved one are items front there =
-    let none : rest ≡ [] = nil_from_length rest (omega (arith, ap length are, length-append rest (before ∷ []))) in
-    AreOrders-one history new after (AllLost history base all) (items ∙ ap (λ (xs : List Shelved). xs ++ after ∷ []) none)
-    (IsShelved-moved history base (standing_of new.machine) before after front there
-    (All-pop (IsShelved history base) all rest (Some before) are shelved).1)
-    (λ lost. subst (AllLost history base) (sym (are ∙ ap (λ (xs : List Shelved). xs ++ before ∷ []) none))
-    (All-cons (IsShelvedLost history base) before []
-    (IsShelvedLost-moved history (standing_of new.machine) base after before (sym front) (sym there) lost)
-    (All-nil (IsShelvedLost history base))))
+-- the one order was taken at hand, and gone on with
+module _ (history : History) (old new : Orders) (rest : List Shelved) (before : Shelved) (begun : Begun)
+    (one : length old.begun.items ≡ 1) (are : old.begun.items ≡ rest ++ before ∷ []) (front : begun.front ≡ before.front)
+    (there : standing_of begun.machine ≡ patched before.patch (standing_of old.machine)) where
+  -- there was no other
+  rest-none : rest ≡ []
+  rest-none = nil_from_length rest (omega (arith, ap length are, length-append rest (before ∷ []), one))
+
+  -- where it leads nowhere, all did
+  OrdersLost-begun : IsTrue old.complete → IsLost history begun → OrdersLost history old
+  OrdersLost-begun complete lost = record {
+    complete = complete;
+    begun = subst (AllLost history (standing_of old.machine)) (sym (are ∙ ap (λ (xs : List Shelved). xs ++ before ∷ []) rest-none))
+        (All-cons (IsShelvedLost history (standing_of old.machine)) before []
+        (IsShelvedLost-begun (standing_of old.machine) before begun there history front lost)
+        (All-nil (IsShelvedLost history (standing_of old.machine))));
+  }
+
+  -- it is kept where the machine is
+  pub AreOrders-advanced : (grown : Begun) (after : Shelved) → IsBegun history grown → (IsLost history grown → IsLost history begun)
+      → new.begun.items ≡ rest ++ after ∷ [] → new.complete ≡ old.complete → grown.front ≡ after.front
+      → standing_of grown.machine ≡ patched after.patch (standing_of new.machine)
+      → AreOrders history new (OrdersLost history old)
+  AreOrders-advanced grown after is lost items complete kept at =
+      let base = standing_of new.machine in
+      let alone = items ∙ ap (λ (xs : List Shelved). xs ++ after ∷ []) rest-none in
+      record {
+        shelved = subst (AllShelved history base) (sym alone)
+            (All-cons (IsShelved history base) after [] (IsShelved-begun base after grown at history kept is) (All-nil (IsShelved history base)));
+        covers = λ all. OrdersLost-begun (subst IsTrue complete all.complete)
+            (lost (IsLost-shelved base after grown at history kept
+            (All-head (IsShelvedLost history base) after [] (subst (AllLost history base) alone all.begun))));
+      }
+
+  -- none is left of it
+  pub AreOrders-refused : IsLost history begun → new.begun.items ≡ rest → new.complete ≡ old.complete → AreOrders history new (OrdersLost history old)
+  AreOrders-refused lost items complete = record {
+    shelved = subst (AllShelved history (standing_of new.machine)) (sym (items ∙ rest-none)) (All-nil (IsShelved history (standing_of new.machine)));
+    covers = λ all. OrdersLost-begun (subst IsTrue complete all.complete) lost;
+  }
 
 -- the machine is at the start, and the patch leads nowhere else
 module _ (history : History) (machine : Machine) (order : Shelved) (front : IsFront history order.front)

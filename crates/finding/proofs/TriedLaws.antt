@@ -1,42 +1,23 @@
 -- What was tried behind an order, call by call in the order in which they are tried.
-use Rattle.finding.proofs.Common.{◌++◌, ◌+◌, ◌<◌, ◌^◌, ◌∙◌, ◌∷◌, ◌≡◌, ◌≤◌, Choice, History, IsFinished, IsHistory, IsLeast, IsNextCall, LeadsNowhere, Line, List, None, Option, Reply, Some, State, Tried, TriedIn, Unfinished, [], ap, arith, cases_lt, cpu_named, number_named, inl, inr, rank_of, slice_get, slice_get_within, subst, sym, ℕ}
-use Rattle.std.proofs.Common.{Bool, true, get_or, append_assoc}
+use Rattle.finding.proofs.Common.{◌++◌, ◌+◌, ◌<◌, ◌^◌, ◌∙◌, ◌∷◌, ◌≡◌, ◌≤◌, Choice, History, IsFinished, IsHistory, IsLeast, IsNextCall, LeadsNowhere, Line, List, None, Option, Reply, Some, State, TriedIn, Unfinished, [], ap, arith, cases_lt, cpu_named, number_named, inl, inr, rank_of, slice_get, slice_get_within, subst, sym, ℕ}
+use Rattle.std.proofs.Common.{Bool, true, get_or}
 use Rattle.std.specs.Option.{MatchOption}
 use Rattle.std.proofs.lemmas.Option.{none-some}
 use Rattle.rmm_spec.specs.declared.command.Command.{Command}
 use Rattle.rmm_spec.specs.declared.event.Event.TheVariants.{Called, Returned}
 use Rattle.rmm_spec.specs.declared.line.Line.TheVariants.{Keep}
 use Rattle.rmm_spec.specs.Rows.{ok}
-use Rattle.rmm_spec.specs.Linearization.{IsCalled, IsReturned, IsKnown, IsLinearization, ReturnsBefore}
+use Rattle.rmm_spec.specs.Linearization.{IsCalled, IsReturned, IsKnown, ReturnsBefore}
 use Rattle.spec_lemmas.proofs.Places.{call_is_event, finished_is_known}
 use Rattle.verdict_laws.specs.Order.{count_of, HasOpen, IsNext, Reaches, ReturnBehind}
 use Rattle.verdict_laws.proofs.CallOrder.{finished_below, returns_in_order}
 use Rattle.verdict_laws.proofs.Nowhere.{nowhere_after, nowhere_past, nowhere_unless}
 use Rattle.finding.specs.Attempt.{EndsLeadNowhere}
+use Rattle.finding.specs.Begun.{HasReturned}
 use Rattle.finding.specs.Choice.{pending_rank, rank_at}
 use Rattle.finding.specs.Counts.{AreCounts}
 use Rattle.finding.specs.Tried.{CallLeadsNowhere}
 use Rattle.verdict_laws.specs.Forward.{IsKept}
-
--- nothing was tried yet
-pub Tried-none : (history : History) (group : ℕ → Bool) (lines : List Line) → TriedIn history group lines 0 None
-Tried-none history group lines = record {
-  returned = λ cpu number place given inside is_returned below. absurd (omega (arith, below));
-  pending = λ cpu number claimed inside pending below. absurd (omega (arith, below));
-  ended = λ cpu number end bound inside pending at is. absurd (none-some bound is);
-}
-
--- where the lines lead nowhere, each line behind them does
-pub Tried-all : (history : History) (lines : List Line) (from : ℕ) (above : Option ℕ) → LeadsNowhere history lines → Tried history lines from above
-Tried-all history lines from above nowhere = record {
-  returned = λ cpu number place given inside is_returned below. behind (Keep cpu number);
-  pending = λ cpu number claimed inside pending below. behind (Unfinished cpu number claimed);
-  ended = λ cpu number end bound inside pending at is within. behind (Unfinished cpu number (ok (end ∷ [])));
-}
-  where
-    behind : (line : Line) → LeadsNowhere history (lines ++ line ∷ [])
-    behind line =
-        record { none = λ more valid. nowhere.none (line ∷ more) (subst (IsLinearization history) (append_assoc lines (line ∷ []) more) valid) }
 
 module _ (history : History) (is_history : IsHistory history) (lines : List Line) (state : State)
     (reached : Reaches history lines state) (counts : List ℕ) (are_counts : AreCounts counts lines) where
@@ -197,6 +178,16 @@ module _ (history : History) (is_history : IsHistory history) (lines : List Line
       let no_sooner = is_least.returned cpu first.0 first.1 within is_next (omega arith) in
       omega (arith, below, no_sooner)
 
+  -- each call that returned before the least rank stands in the lines
+  pub HasReturned-least : (least until : ℕ) → IsLeast history.events counts 0 history.config.cpus least → until ≤ least
+      → HasReturned history counts until
+  HasReturned-least least until is_least early = λ cpu number at given is_returned before. elim (cases_lt number (count_of cpu lines)) [
+    | inl below ↦ subst (λ (n : ℕ). number < n) (sym (counted cpu (finished_of_machine cpu number (at, given, is_returned)))) below
+    | inr is_open ↦
+        let late = open_late least is_least cpu number at given is_returned is_open in
+        absurd (omega (arith, late, early, before))
+  ]
+
   -- at the return of an open call, of those the first, the lines are kept
   pub IsKept-open : (least : ℕ) → IsLeast history.events counts 0 history.config.cpus least → (cpu number : ℕ) (given : Reply)
       → IsReturned history.events least cpu number given → count_of cpu lines ≤ number → IsKept history least lines state
@@ -252,24 +243,6 @@ module _ (history : History) (is_history : IsHistory history) (lines : List Line
             sym is_called ∙ ap (λ (p : ℕ). slice_get history.events p) at ∙ is_returned in
             absurd (let bad : ⊥ = cc in bad)
       ]
-
-  -- no finished call is open
-  pub all_named : (least : ℕ) → IsLeast history.events counts 0 history.config.cpus least → 1000000 ≤ least
-      → (cpu number : ℕ) → IsFinished history.events cpu number → number < count_of cpu lines
-  all_named least is_least past cpu number finished = elim (cases_lt number (count_of cpu lines)) [
-    | inl below ↦ below
-    | inr is_open ↦
-        let late = open_late least is_least cpu number finished.0 finished.1 finished.2 is_open in
-        let within = return_within finished.0 cpu number finished.1 finished.2 in
-        absurd (omega (arith, past, late, within))
-  ]
-
-  -- a finished next call is open
-  pub HasOpen-first : (from : ℕ) (choice : Choice) → IsNextCall history counts from choice → IsFinished history.events choice.cpu choice.number
-      → HasOpen history.events lines
-  HasOpen-first from choice next finished =
-      let at : choice.number ≡ count_of choice.cpu lines = next.numbered ∙ counted choice.cpu next.of_machine in
-      record { cpu = choice.cpu; number = choice.number; finished = finished; unnamed = omega (arith, at) }
 
   -- an open call returned before the choice was made
   pub too_late : (first_from from : ℕ) (first choice : Choice) → IsNextCall history counts first_from first → IsNextCall history counts from choice

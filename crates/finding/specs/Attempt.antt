@@ -16,8 +16,9 @@ use Rattle.history.specs.Calls.{ArePlacesOf}
 use Rattle.verdict_laws.specs.Order.{LeadsNowhere, Reaches, count_of}
 use Rattle.finding.specs.Choice.{rank_of}
 use Rattle.finding.specs.Tried.{CallLeadsNowhere}
+use Rattle.finding.specs.declared.attempt.Attempt.{Attempt}
 use Rattle.finding.specs.declared.choice.Choice.{Choice}
-use Rattle.finding.specs.declared.frame.Frame.{Frame}
+use Rattle.finding.specs.declared.left.Left.{Left}
 
 -- the call's lines with an end of its stretch that isn't below the bound, where there is one, lead nowhere
 abbrev pub EndsLeadNowhere : History → List Line → Choice → Option ℕ → Type 0
@@ -39,26 +40,27 @@ pub record IsAnswered (history : History) (choice : Choice) (state : State) (com
   pub answered : answer ≡ outcome state choice.cpu (call_of command)
 
 -- no other line of the call is left to try
-pub record IsPassed (history : History) (lines : List Line) (choice : Choice) (frame : Frame) : Type 0 where
-  pub from : frame.from ≡ rank_of choice + 1
-  pub above : frame.above ≡ None
+pub record IsPassed (history : History) (lines : List Line) (choice : Choice) (left : Left) : Type 0 where
+  pub from : left.from ≡ rank_of choice + 1
+  pub above : left.above ≡ None
   pub nowhere : CallLeadsNowhere history lines choice.cpu choice.number
 
 -- lower ends of the call's stretch are left to try
-pub record IsEnded (history : History) (lines : List Line) (choice : Choice) (frame : Frame) : Type 0 where
-  pub from : frame.from ≡ rank_of choice
+pub record IsEnded (history : History) (lines : List Line) (choice : Choice) (left : Left) : Type 0 where
+  pub from : left.from ≡ rank_of choice
   pub pending : choice.places.returned ≡ None
-  pub nowhere : EndsLeadNowhere history lines choice frame.above
+  pub nowhere : EndsLeadNowhere history lines choice left.above
 
 -- The line is one of the call, and has a text. Where it leads nowhere, what is left behind it is known.
-pub record IsAttempt (history : History) (lines : List Line) (choice : Choice) (frame : Frame) : Type 0 where
-  pub is_line : IsLine frame.line
-  pub of_cpu : cpu_named frame.line ≡ choice.cpu
-  pub numbered : number_named frame.line ≡ choice.number
-  pub kind : IsOfItsKind history.events frame.line
-  pub left : LeadsNowhere history (lines ++ frame.line ∷ []) → IsPassed history lines choice frame ⊎ IsEnded history lines choice frame
+pub record IsAttempt (history : History) (lines : List Line) (choice : Choice) (attempt : Attempt) : Type 0 where
+  pub is_line : IsLine attempt.line
+  pub of_cpu : cpu_named attempt.line ≡ choice.cpu
+  pub numbered : number_named attempt.line ≡ choice.number
+  pub kind : IsOfItsKind history.events attempt.line
+  pub left : LeadsNowhere history (lines ++ attempt.line ∷ [])
+      → IsPassed history lines choice attempt.left ⊎ IsEnded history lines choice attempt.left
 
 -- the next line of the call, or all of them lead nowhere
-abbrev pub IsTriedNext : History → List Line → Choice → Option Frame → Type 0
+abbrev pub IsTriedNext : History → List Line → Choice → Option Attempt → Type 0
 IsTriedNext history lines choice None = CallLeadsNowhere history lines choice.cpu choice.number
-IsTriedNext history lines choice (Some frame) = IsAttempt history lines choice frame
+IsTriedNext history lines choice (Some attempt) = IsAttempt history lines choice attempt

@@ -1,9 +1,10 @@
 -- Orders that are begun, by what is held of them: how many calls of each CPU stand there, and the state behind them.
-use Rattle.std.specs.Prelude.{◌≡◌, ℕ, Bool, true, false, List, [], ◌∷◌, ◌++◌, Option, Some, None, IsTrue}
+use Rattle.std.specs.Prelude.{◌≡◌, ℕ, ◌<◌, Bool, true, false, List, [], ◌∷◌, ◌++◌, slice_index, Option, Some, None, IsTrue}
 use Rattle.std.specs.List.{All}
 use Rattle.rmm_spec.specs.declared.line.Line.{Line}
+use Rattle.rmm_spec.specs.declared.reply.Reply.{Reply}
 use Rattle.rmm_spec.specs.HistoryText.{History}
-use Rattle.rmm_spec.specs.Linearization.{IsOfItsKind, cpu_named, number_named}
+use Rattle.rmm_spec.specs.Linearization.{IsOfItsKind, IsReturned, cpu_named, number_named}
 use Rattle.rmm_spec.specs.State.{State}
 use Rattle.spec_machine.specs.Patches.{IsWhole, Standing, patched, standing_of, state_at}
 use Rattle.spec_machine.specs.View.{state_of}
@@ -22,7 +23,7 @@ use Rattle.finding.specs.declared.front.Front.{Front}
 use Rattle.finding.specs.declared.round.Round.{Round}
 use Rattle.finding.specs.declared.shelved.Orders.{Orders}
 use Rattle.finding.specs.declared.shelved.Shelved.{Shelved}
-use Rattle.finding.specs.declared.search.Left.{Left}
+use Rattle.finding.specs.declared.left.Left.{Left}
 
 -- so many calls of each CPU and the state are those of an order of these lines
 pub record HoldsOf (history : History) (given : List ℕ) (state : State) (lines : List Line) : Type 0 where
@@ -129,20 +130,35 @@ AllShelved history base orders = All (IsShelved history base) orders
 abbrev pub AllLost : History → Standing → List Shelved → Type 0
 AllLost history base orders = All (IsShelvedLost history base) orders
 
--- each is an order, and where all of them lead nowhere, the fact holds
+-- each call that returned before the place stands in an order of so many calls of each CPU
+abbrev pub HasReturned : History → List ℕ → ℕ → Type 0
+HasReturned history counts place =
+    (cpu number at : ℕ) (given : Reply) → IsReturned history.events at cpu number given → at < place → number < slice_index counts cpu
+
+-- it stands in each of them
+abbrev pub AllReturned : History → List Shelved → ℕ → Type 0
+AllReturned history orders place = All (λ (order : Shelved). HasReturned history order.front.counts place) orders
+
+-- no order was left out of them, and all lead nowhere
+pub record OrdersLost (history : History) (orders : Orders) : Type 0 where
+  pub complete : IsTrue orders.complete
+  pub begun : AllLost history (standing_of orders.machine) orders.begun.items
+
+-- each is an order, and where none was left out and all lead nowhere, the fact holds
 pub record AreOrders (history : History) (orders : Orders) (covered : Type 0) : Type 0 where
   pub shelved : AllShelved history (standing_of orders.machine) orders.begun.items
-  pub covers : AllLost history (standing_of orders.machine) orders.begun.items → covered
+  pub covers : OrdersLost history orders → covered
 
 -- orders may differ in measurements only where none is read
 pub record IsRound (history : History) (base : Standing) (round : Round) : Type 0 where
   pub whole : IsWhole base
-  pub unread : IsTrue round.unread → ReadsNothing history.events
+  pub unread : IsTrue round.scope.unread → ReadsNothing history.events
   pub lacking : AllShelved history base round.lacking.items
   pub next : AllShelved history base round.next.items
 
--- all orders of the round lead nowhere
+-- no order was left out of the round, and all of them lead nowhere
 pub record RoundLost (history : History) (base : Standing) (round : Round) : Type 0 where
+  pub complete : IsTrue round.complete
   pub lacking : AllLost history base round.lacking.items
   pub next : AllLost history base round.next.items
 

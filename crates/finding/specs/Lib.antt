@@ -4,13 +4,12 @@ pub mod Ends
 pub mod Tried
 pub mod Attempt
 pub mod Counts
-pub mod Held
-pub mod Kept
-pub mod Search
+pub mod Offering
 pub mod Begun
 pub mod Survey
 pub mod Found
 pub mod Told
 pub mod Group
 pub mod Waiting
+pub mod Only
 pub mod Settled

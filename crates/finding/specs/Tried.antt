@@ -19,13 +19,6 @@ pub record TriedIn (history : History) (group : ℕ → Bool) (lines : List Line
   pub ended : (cpu number end bound : ℕ) → group cpu ≡ true → ¬ IsFinished history.events cpu number → pending_rank cpu ≡ from
       → above ≡ Some bound → bound ≤ end → LeadsNowhere history (lines ++ Unfinished cpu number (ok (end ∷ [])) ∷ [])
 
--- of all CPUs
-abbrev pub every : ℕ → Bool
-every cpu = true
-
-abbrev pub Tried : History → List Line → ℕ → Option ℕ → Type 0
-Tried history lines from above = TriedIn history every lines from above
-
 -- each line of that call, of its kind, leads nowhere
 abbrev pub CallLeadsNowhere : History → List Line → ℕ → ℕ → Type 0
 CallLeadsNowhere history lines cpu number =

@@ -2,7 +2,7 @@
 
 ghost use Rattle.std.specs.Prelude.{◌≡◌, ◌<◌, IfOk, IsTrue, OnOk};
 ghost use Rattle.verdict_laws.specs.Unread.{ReadsNothing};
-ghost use Rattle.spec_machine.specs.Patches.{standing_of, IsWhole};
+ghost use Rattle.spec_machine.specs.Patches.{standing_of};
 ghost use Rattle.finding.specs.Begun.{base_of, AllLost, AllShelved, IsBegun, IsLost, IsShelved, IsShelvedLost};
 
 use crate::begun::Begun;
@@ -46,7 +46,6 @@ pub(crate) fn has_beginning(
     unread: bool,
 ) -> Result<(bool, Machine), AllocError>
     requires orders { AllShelved history.now.recorded (standing_of machine) orders.now }
-    requires whole { IsWhole (standing_of machine) }
     requires unread { IsTrue unread → ReadsNothing history.now.recorded.events }
     ensures base { IfOk result (λ found. standing_of found.1 ≡ standing_of machine) }
     ensures has { IfOk result (λ found. IsTrue found.0 → AllLost history.now.recorded (standing_of machine) orders.now
@@ -103,7 +102,6 @@ fn leads_to(
     unread: bool,
 ) -> Result<(bool, Machine), AllocError>
     requires begun { IsShelved history.now.recorded (standing_of machine) one.now }
-    requires whole { IsWhole (standing_of machine) }
     requires unread { IsTrue unread → ReadsNothing history.now.recorded.events }
     ensures base { IfOk result (λ found. standing_of found.1 ≡ standing_of machine) }
     ensures leads { IfOk result (λ found. IsTrue found.0 → IsShelvedLost history.now.recorded (standing_of machine) one.now
@@ -180,6 +178,5 @@ fn takes_next(
     if choice.places.returned.is_none() || rank(&first) < choice.places.called {
         return Ok(false);
     }
-    let last = begun.last;
-    begun.grow(offers, history, &with_its_reply(choice), last)
+    begun.grow(offers, history, &with_its_reply(choice))
 }

@@ -1,13 +1,19 @@
 //! An order at hand.
 
 use crate::candidate::Candidate;
-use crate::front::Front;
-use crate::offering::offer_logged;
+use crate::front::{Front, is_up_to};
+use crate::offering::offer;
 use crate::offers::Offers;
+use crate::only::{NextStep, next_step};
+use crate::scope::Scope;
 use crate::shelved::Shelved;
+use crate::trail::Trail;
 use history::History;
 use spec_machine::{Machine, Patch};
 use std::alloc::AllocError;
+
+/// How many calls are put in at most at a return: one of each CPU.
+const CALLS: usize = 8;
 
 /// How many calls of each CPU stand in an order, the machine after its lines, its last step, and what leads the machine back to where the
 /// patches of kept orders lead from.
@@ -20,20 +26,20 @@ pub(crate) struct Begun {
 }
 
 impl Begun {
-    ghost use Rattle.std.specs.Prelude.{◌≡◌, IfOk, OnOk};
+    ghost use Rattle.std.specs.Prelude.{◌≡◌, IfOk, IsTrue, OnOk};
     ghost use Rattle.std.specs.Bool.{MatchBool};
     ghost use Rattle.spec_machine.specs.Patches.{patched, standing_of, IsWhole};
     ghost use Rattle.spec_machine.specs.View.{state_of};
-    ghost use Rattle.finding.specs.Begun.{base_of, IsBegun, IsGrown, Stays};
+    ghost use Rattle.verdict_laws.specs.Unread.{ReadsNothing};
+    ghost use Rattle.finding.specs.Begun.{base_of, IsBegun, IsGrown, IsLost, Stays};
     ghost use Rattle.finding.specs.Waiting.{MayCome};
 
-    /// Makes the order longer by a line, which is the given step, where the machine gives its call the reply, and returns whether it did.
+    /// Makes the order longer by a line, where the machine gives its call the reply, and returns whether it did.
     pub(crate) fn grow(
         &mut self,
         offers: &mut Offers,
         history: &History,
         next: &Candidate,
-        last: usize,
     ) -> Result<bool, AllocError>
         requires begun { IsBegun history.now.recorded self.old }
         requires next { MayCome history.now.recorded self.old.front.counts (state_of self.old.machine) next.now }
@@ -43,7 +49,7 @@ impl Begun {
         ensures base { OnOk result (base_of self.new ≡ base_of self.old) }
     {
         let choice = next.choice;
-        let given = offer_logged(
+        let given = offer(
             offers,
             &mut self.machine,
             history,
@@ -53,9 +59,40 @@ impl Begun {
         )?;
         if given {
             self.front.set(history, choice.cpu, choice.number + 1);
-            self.last = last;
         }
         Ok(given)
+    }
+
+    /// Makes the order longer by one call after another, as long as one is tried alone, until each call that returned up to the scope's place
+    /// stands in it. Whether the machine gave each its reply.
+    pub(crate) fn go_on(
+        &mut self,
+        offers: &mut Offers,
+        history: &History,
+        scope: Scope,
+        trail: &mut Trail,
+    ) -> Result<bool, AllocError>
+        requires begun { IsBegun history.now.recorded self.old }
+        requires unread { IsTrue scope.unread → ReadsNothing history.now.recorded.events }
+        ensures begun { OnOk result (IsBegun history.now.recorded self.new) }
+        ensures covers { IfOk result (λ given. MatchBool given
+            (IsLost history.now.recorded self.new → IsLost history.now.recorded self.old)
+            (IsLost history.now.recorded self.old)) }
+    {
+        'calls: for _call in 0..CALLS {
+            if is_up_to(history, &self.front, scope.place) {
+                return Ok(true);
+            }
+            let NextStep::Only(next) = next_step(history, self, scope.unread) else {
+                return Ok(true);
+            };
+            let given = self.grow(offers, history, &next)?;
+            if !given {
+                return Ok(false);
+            }
+            self.last = trail.push(self.last, &next.line, scope.place as usize)?;
+        }
+        Ok(true)
     }
 
     /// Puts the order down: the machine goes back, and the order's patch leads here.

@@ -1,6 +1,8 @@
 //! How far an order has come on each CPU.
 
-ghost use Rattle.std.specs.Prelude.{◌≡◌, ◌<◌, [], ◌∷◌, slice_index, slice_set, IfSome};
+ghost use Rattle.std.specs.Prelude.{◌≡◌, ◌+◌, ◌<◌, [], ◌∷◌, slice_index, slice_set, IfSome, IsTrue};
+ghost use Rattle.rmm_spec.specs.State.{State};
+ghost use Rattle.finding.specs.Begun.{HasReturned, IsBegunAt};
 ghost use Rattle.finding.specs.Choice.{IsLeast, IsNextCall, IsNextOf, least_of};
 ghost use Rattle.finding.specs.Front.{IsFront};
 
@@ -99,6 +101,17 @@ impl Front {
     {
         let _fact = cpus_of(history);
         self.nexts[cpu as usize]
+    }
+}
+
+/// Whether each call that returned up to the place stands in an order.
+pub(crate) fn is_up_to(history: &History, front: &Front, place: u32) -> bool
+    requires begun { (state : State) × IsBegunAt history.now.recorded front.now state }
+    ensures { IsTrue result → HasReturned history.now.recorded front.now.counts (place + 1) }
+{
+    match front.first_at(history, 0) {
+        Some(first) => place < rank(&first),
+        None => true,
     }
 }
 

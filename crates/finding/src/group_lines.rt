@@ -1,19 +1,18 @@
 //! The lines of a group that may come next.
 
-ghost use Rattle.std.specs.Prelude.{◌<◌, IfOk, IfSome};
+ghost use Rattle.std.specs.Prelude.{IfOk, IfSome};
 ghost use Rattle.spec_machine.specs.View.{state_of};
-ghost use Rattle.finding.specs.Begun.{IsBegun, IsGroup, IsLost};
-ghost use Rattle.finding.specs.Choice.{IsLeast, IsNextCall, rank_of};
-ghost use Rattle.finding.specs.Group.{is_inside};
+ghost use Rattle.finding.specs.Begun.{IsBegun, IsLost};
+ghost use Rattle.finding.specs.Only.{IsFirstGroup};
 ghost use Rattle.finding.specs.Waiting.{AllLeadNowhere, AllMayCome};
 
 use crate::begun::Begun;
 use crate::candidate::Candidate;
 use crate::group::Group;
+use crate::left::Left;
 use crate::next_line::{NextLine, next_line};
 use crate::offering::is_line_refused;
 use crate::offers::Offers;
-use crate::search::Left;
 use history::History;
 use std::alloc::{AllocError, Global};
 
@@ -30,10 +29,7 @@ pub(crate) fn group_lines(
     group: Group,
 ) -> Result<Option<Vec<Candidate>>, AllocError>
     requires begun { IsBegun history.now.recorded begun.now }
-    requires first { IsNextCall history.now.recorded begun.now.front.counts 0 group.first }
-    requires least { IsLeast history.now.recorded.events begun.now.front.counts 0 history.now.recorded.config.cpus (rank_of group.first) }
-    requires returned { rank_of group.first < 1000000 }
-    requires group { IsGroup history.now.recorded begun.now group.first (is_inside group) }
+    requires group { IsFirstGroup history.now.recorded begun.now group }
     ensures come { IfOk result (λ found. IfSome found
         (λ lines. AllMayCome history.now.recorded begun.now.front.counts (state_of begun.now.machine) lines.items)) }
     ensures all { IfOk result (λ found. IfSome found (λ lines.

@@ -1,8 +1,7 @@
 //! The orders that are longer by one line, taken into a round.
 
 use crate::begun::Begun;
-use crate::candidate::{Candidate, with_its_reply};
-use crate::choice::Choice;
+use crate::candidate::Candidate;
 use crate::group::Group;
 use crate::group_lines::group_lines;
 use crate::offers::Offers;
@@ -13,13 +12,11 @@ use spec_machine::Machine;
 use std::alloc::{AllocError, Global};
 
 impl Round {
-    ghost use Rattle.std.specs.Prelude.{◌≡◌, ◌<◌, ℕ, true, IfOk, IsTrue, OnOk};
+    ghost use Rattle.std.specs.Prelude.{◌≡◌, IfOk, OnOk};
     ghost use Rattle.spec_machine.specs.Patches.{standing_of};
     ghost use Rattle.spec_machine.specs.View.{state_of};
-    ghost use Rattle.finding.specs.Begun.{base_of, state_from, Covers, IsBegun, IsGroup, IsLost, IsRound, IsShelved, IsSoon, RoundLost};
-    ghost use Rattle.finding.specs.Choice.{IsLeast, IsNextCall, rank_of};
-    ghost use Rattle.finding.specs.Group.{is_inside};
-    ghost use Rattle.finding.specs.Settled.{IsSettledHere};
+    ghost use Rattle.finding.specs.Begun.{base_of, state_from, Covers, IsBegun, IsLost, IsRound, IsShelved, RoundLost};
+    ghost use Rattle.finding.specs.Only.{IsFirstGroup};
     ghost use Rattle.finding.specs.Waiting.{AllLeadNowhere, AllMayCome, LeadsNowhereWith, MayCome};
 
     /// Takes the order that is longer by a line, where the machine gives the call the reply. The machine goes back.
@@ -41,14 +38,15 @@ impl Round {
             → LeadsNowhereWith history.now.recorded begun.front.counts (state_of begun.machine) next.now) }
     {
         let mut longer = begun;
-        let last = self.trail.push(longer.last, next.choice.cpu)?;
-        let given = longer.grow(offers, history, next, last)?;
-        let (machine, grown) = longer.put_down();
-        if given {
-            self.take(alloc, offers, history, machine, grown)
-        } else {
-            Ok(machine)
+        let given = longer.grow(offers, history, next)?;
+        if !given {
+            return Ok(longer.back());
         }
+        longer.last = self
+            .trail
+            .push(longer.last, &next.line, self.scope.place as usize)?;
+        let (machine, grown) = longer.put_down();
+        self.take(alloc, offers, history, machine, grown)
     }
 
     /// Takes the order that is longer by a line than one that is kept, where the machine gives the call the reply. The machine is as it was.
@@ -100,53 +98,7 @@ impl Round {
         Ok(machine)
     }
 
-    /// Takes the order that is longer by a call which may come next at once, so that nothing else need be tried.
-    pub(crate) fn take_settled(
-        &mut self,
-        alloc: Global,
-        offers: &mut Offers,
-        history: &History,
-        begun: Begun,
-        choice: Choice,
-    ) -> Result<Machine, AllocError>
-        requires round { IsRound history.now.recorded (base_of begun) self.old }
-        requires begun { IsBegun history.now.recorded begun }
-        requires next { IsNextCall history.now.recorded begun.front.counts 0 choice }
-        requires soon { IsSoon history.now.recorded begun choice }
-        requires settled { IsSettledHere history.now.recorded (state_of begun.machine) choice }
-        ensures base { IfOk result (λ machine. standing_of machine ≡ base_of begun) }
-        ensures round { OnOk result (IsRound history.now.recorded (base_of begun) self.new) }
-        ensures covers { OnOk result (Covers history.now.recorded (base_of begun) self.old self.new) }
-        ensures taken { OnOk result (RoundLost history.now.recorded (base_of begun) self.new → IsLost history.now.recorded begun) }
-    {
-        self.take_grown(alloc, offers, history, begun, &with_its_reply(choice))
-    }
-
-    /// Takes the order that is longer by the call that returned, where no other need come before it.
-    pub(crate) fn take_only(
-        &mut self,
-        alloc: Global,
-        offers: &mut Offers,
-        history: &History,
-        begun: Begun,
-        group: Group,
-    ) -> Result<Machine, AllocError>
-        requires round { IsRound history.now.recorded (base_of begun) self.old }
-        requires begun { IsBegun history.now.recorded begun }
-        requires first { IsNextCall history.now.recorded begun.front.counts 0 group.first }
-        requires least { IsLeast history.now.recorded.events begun.front.counts 0 history.now.recorded.config.cpus (rank_of group.first) }
-        requires returned { rank_of group.first < 1000000 }
-        requires group { IsGroup history.now.recorded begun group.first (is_inside group) }
-        requires alone { (cpu : ℕ) → cpu < 8 → is_inside group cpu ≡ true → cpu ≡ group.first.cpu }
-        ensures base { IfOk result (λ machine. standing_of machine ≡ base_of begun) }
-        ensures round { OnOk result (IsRound history.now.recorded (base_of begun) self.new) }
-        ensures covers { OnOk result (Covers history.now.recorded (base_of begun) self.old self.new) }
-        ensures taken { OnOk result (RoundLost history.now.recorded (base_of begun) self.new → IsLost history.now.recorded begun) }
-    {
-        self.take_grown(alloc, offers, history, begun, &with_its_reply(group.first))
-    }
-
-    /// Takes each order that is longer by a line of the group, and returns whether these are all. The machine goes back.
+    /// Takes each order that is longer by a line of the group, or leaves them out where there are too many. The machine goes back.
     pub(crate) fn take_group(
         &mut self,
         alloc: Global,
@@ -154,24 +106,27 @@ impl Round {
         history: &History,
         begun: Begun,
         group: Group,
-    ) -> Result<(bool, Machine), AllocError>
+    ) -> Result<Machine, AllocError>
         requires round { IsRound history.now.recorded (base_of begun) self.old }
         requires begun { IsBegun history.now.recorded begun }
-        requires first { IsNextCall history.now.recorded begun.front.counts 0 group.first }
-        requires least { IsLeast history.now.recorded.events begun.front.counts 0 history.now.recorded.config.cpus (rank_of group.first) }
-        requires returned { rank_of group.first < 1000000 }
-        requires group { IsGroup history.now.recorded begun group.first (is_inside group) }
-        ensures base { IfOk result (λ taken. standing_of taken.1 ≡ base_of begun) }
+        requires group { IsFirstGroup history.now.recorded begun group }
+        ensures base { IfOk result (λ machine. standing_of machine ≡ base_of begun) }
         ensures round { OnOk result (IsRound history.now.recorded (base_of begun) self.new) }
         ensures covers { OnOk result (Covers history.now.recorded (base_of begun) self.old self.new) }
-        ensures taken { IfOk result (λ taken. IsTrue taken.0 → RoundLost history.now.recorded (base_of begun) self.new
-            → IsLost history.now.recorded begun) }
+        ensures taken { OnOk result (RoundLost history.now.recorded (base_of begun) self.new → IsLost history.now.recorded begun) }
     {
-        let Some(lines) = group_lines(alloc, offers, history, &begun, group)? else {
-            return Ok((false, begun.back()));
+        let Some(mut lines) = group_lines(alloc, offers, history, &begun, group)? else {
+            self.complete = false;
+            return Ok(begun.back());
         };
+        let Some(last) = lines.pop() else {
+            return Ok(begun.back());
+        };
+        if lines.is_empty() {
+            return self.take_grown(alloc, offers, history, begun, &last);
+        }
         let (machine, order) = begun.put_down();
         let machine = self.take_lines(alloc, offers, history, machine, &order, lines.as_slice())?;
-        Ok((true, machine))
+        self.take_grown(alloc, offers, history, order.at_hand(machine), &last)
     }
 }

@@ -1,15 +1,16 @@
 //! The lines that may stand behind an order, one after another.
 
 ghost use Rattle.std.specs.Prelude.{◌≡◌, ◌+◌, ◌^◌, ◌<◌, ℕ, true, None, Some};
-ghost use Rattle.finding.specs.Begun.{IsBegun, IsGroup, IsNextLine, IsSoon};
+ghost use Rattle.finding.specs.Begun.{IsBegun, IsNextLine, IsSoon};
 ghost use Rattle.finding.specs.Choice.{IsLeast, IsNextCall, rank_of};
 ghost use Rattle.finding.specs.Group.{is_inside};
+ghost use Rattle.finding.specs.Only.{IsFirstGroup};
 
-use crate::attempt::attempt;
+use crate::attempt::{Attempt, next_attempt};
 use crate::begun::Begun;
 use crate::choice::{Choice, cpus_of, rank};
 use crate::group::Group;
-use crate::search::Left;
+use crate::left::Left;
 use history::History;
 use rmm_spec::Line;
 
@@ -31,10 +32,7 @@ pub(crate) enum NextLine {
 /// The next line, of what is left of the group's calls.
 pub(crate) fn next_line(history: &History, begun: &Begun, group: Group, left: Left) -> NextLine
     requires begun { IsBegun history.now.recorded begun.now }
-    requires first { IsNextCall history.now.recorded begun.now.front.counts 0 group.first }
-    requires least { IsLeast history.now.recorded.events begun.now.front.counts 0 history.now.recorded.config.cpus (rank_of group.first) }
-    requires returned { rank_of group.first < 1000000 }
-    requires group { IsGroup history.now.recorded begun.now group.first (is_inside group) }
+    requires group { IsFirstGroup history.now.recorded begun.now group }
     ensures { IsNextLine history.now.recorded begun.now (is_inside group) left result }
 {
     let Some(choice) = begun.front.first_at(history, left.from) else {
@@ -77,16 +75,9 @@ fn pending_line(
     ensures { IsNextLine history.now.recorded begun.now (is_inside group) left result }
 {
     let above = above_for(choice, left);
-    match attempt(history, &begun.machine, choice, above) {
+    match next_attempt(history, &begun.machine, choice, above) {
         None => NextLine::Passed(behind(choice)),
-        Some(frame) => NextLine::Line {
-            choice,
-            left: Left {
-                from: frame.from,
-                above: frame.above,
-            },
-            line: frame.line,
-        },
+        Some(Attempt { line, left }) => NextLine::Line { choice, line, left },
     }
 }
 

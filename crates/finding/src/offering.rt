@@ -6,7 +6,7 @@ ghost use Rattle.rmm_spec.specs.FirstFault.{IsRefused};
 ghost use Rattle.rmm_spec.specs.Linearization.{IsFinished, IsOfItsKind, IsReplyOf, IsReturned, cpu_named, number_named};
 ghost use Rattle.rmi_view.specs.Seen.{reply_seen};
 ghost use Rattle.history.specs.Calls.{ArePlacesOf};
-ghost use Rattle.finding.specs.Search.{IsGiven};
+ghost use Rattle.finding.specs.Offering.{IsGiven};
 ghost use Rattle.spec_machine.specs.Offers.{one_more};
 ghost use Rattle.spec_machine.specs.Patches.{patched, standing_of};
 ghost use Rattle.spec_machine.specs.View.{state_of};
@@ -19,35 +19,8 @@ use rmm_spec::Line;
 use spec_machine::{Machine, Patch};
 use std::alloc::AllocError;
 
-/// Whether the machine gives the call its reply: the recorded one, or the one that the line claims.
+/// Whether the machine gives the call its reply: the recorded one, or the one that the line claims. A log notes what the step replaces.
 pub(crate) fn offer(
-    offers: &mut Offers,
-    machine: &mut Machine,
-    history: &History,
-    choice: Choice,
-    line: &Line,
-) -> Result<bool, AllocError>
-    requires places { ArePlacesOf history.now.recorded.events choice.cpu choice.number choice.places }
-    requires of_cpu { cpu_named line.now ≡ choice.cpu }
-    requires numbered { number_named line.now ≡ choice.number }
-    requires kind { IsOfItsKind history.now.recorded.events line.now }
-    ensures given { IfOk result (λ given. MatchBool given
-        (IsGiven history.now.recorded.events line.now choice.places.called (state_of machine.old) (state_of machine.new))
-        (IsRefused history.now.recorded.events (state_of machine.old) line.now)) }
-    ensures kept { IfOk result (λ given. given ≡ false → state_of machine.new ≡ state_of machine.old) }
-    ensures counted { offers.new.count ≡ one_more offers.old.count }
-{
-    let _fact = history.well_formed();
-    let Some(command) = history.command_at(choice.places.called as usize) else {
-        unreachable!()
-    };
-    let reply = reply_of(history, choice, line);
-    let given = offers.make(machine, choice.cpu, command, reply)?;
-    Ok(given)
-}
-
-/// The same, where a log notes what the step puts something else in place of.
-pub(crate) fn offer_logged(
     offers: &mut Offers,
     machine: &mut Machine,
     history: &History,
@@ -70,7 +43,7 @@ pub(crate) fn offer_logged(
         unreachable!()
     };
     let reply = reply_of(history, choice, line);
-    let given = offers.make_logged(machine, choice.cpu, command, reply, log)?;
+    let given = offers.make(machine, choice.cpu, command, reply, log)?;
     Ok(given)
 }
 

@@ -11,14 +11,14 @@ use rmm_spec::{Accepted, Reply};
 use spec_machine::{Machine, Patch};
 use std::alloc::AllocError;
 
-/// A count of offers to machines. Nothing but an offer, or a test that shows one to be refused, makes it greater.
+/// A count of offers to machines, and of tests that show one to be refused.
 #[derive(Drop)]
 pub struct Offers {
     count: u64,
 }
 
 impl Offers {
-    ghost use Rattle.std.specs.Prelude.{◌≡◌, ◌≤◌, length, if◌then◌else◌, IfOk, OnOk, IsTrue, false};
+    ghost use Rattle.std.specs.Prelude.{◌≡◌, ◌+◌, ◌-◌, ◌^◌, ◌≤◌, ◌⊎◌, length, if◌then◌else◌, IfOk, OnOk, IsTrue, false};
     ghost use Rattle.spec_machine.specs.Patches.{patched, standing_of};
     ghost use Rattle.rmm_spec.specs.State.{State};
     ghost use Rattle.rmm_spec.specs.Step.{Step};
@@ -40,28 +40,15 @@ impl Offers {
         self.count
     }
 
-    /// Offers the machine a reply to the command of this CPU, and tells whether the machine took it, as `Machine::offer_seen` does.
-    pub(crate) fn make(
-        &mut self,
-        machine: &mut Machine,
-        cpu: u8,
-        command: CommandRef<'_>,
-        reply: ReplyRef<'_>,
-    ) -> Result<bool, AllocError>
-        ensures step { IfOk result (λ given. IsTrue given
-            → Step (state_of machine.old) cpu (command_seen command.entry) (reply_seen reply.entry) (state_of machine.new)) }
-        ensures only { IfOk result (λ given. given ≡ false
-            → (next : State) → ¬ Step (state_of machine.old) cpu (command_seen command.entry) (reply_seen reply.entry) next) }
-        ensures kept { IfOk result (λ given. given ≡ false → state_of machine.new ≡ state_of machine.old) }
-        ensures made { machine.new.offers ≡ one_more machine.old.offers }
-        ensures counted { self.new.count ≡ one_more self.old.count }
+    /// So many offers more were made elsewhere.
+    pub(crate) fn add(&mut self, more: u64)
+        ensures { (self.new.count ≡ self.old.count + more) ⊎ (self.new.count ≡ 2 ^ 64 - 1) }
     {
-        self.count = self.count.saturating_add(1);
-        machine.offer_seen(cpu, command, reply)
+        self.count = self.count.saturating_add(more);
     }
 
-    /// Offers a reply as `make` does, and notes in a log what the step puts something else in place of, as `Machine::offer_logged` does.
-    pub(crate) fn make_logged(
+    /// Offers the machine a reply to the command of this CPU, and tells whether the machine took it, as `Machine::offer_logged` does.
+    pub(crate) fn make(
         &mut self,
         machine: &mut Machine,
         cpu: u8,

@@ -5,7 +5,7 @@ ghost use Rattle.history.specs.Calls.{ArePlacesOf};
 ghost use Rattle.spec_machine.specs.View.{state_of};
 ghost use Rattle.finding.specs.Choice.{IsNextCall};
 ghost use Rattle.finding.specs.Front.{IsFront};
-ghost use Rattle.finding.specs.Search.{IsRefusedHere};
+ghost use Rattle.finding.specs.Settled.{IsRefusedHere};
 
 use crate::choice::{Choice, cpus_of};
 use crate::front::Front;

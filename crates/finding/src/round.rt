@@ -3,16 +3,14 @@
 ghost use Rattle.std.specs.Prelude.{◌≡◌, IfOk, IfSome, IsTrue};
 ghost use Rattle.verdict_laws.specs.Unread.{ReadsNothing};
 ghost use Rattle.spec_machine.specs.Patches.{standing_of};
-ghost use Rattle.finding.specs.Begun.{AllLost, AllShelved, AreOrders, IsBegunAt, IsRound, RoundLost};
-ghost use Rattle.finding.specs.Front.{IsFront};
+ghost use Rattle.finding.specs.Begun.{AllShelved, AreOrders, IsBegunAt, IsRound, OrdersLost, RoundLost};
 
 use crate::alike::{has_alike, has_beginning};
 use crate::begun::Begun;
-use crate::choice::{PENDING, rank};
-use crate::front::Front;
-use crate::group::group_at;
+use crate::front::is_up_to;
 use crate::offers::Offers;
-use crate::settled::settled_choice;
+use crate::only::{NextStep, next_step};
+use crate::scope::Scope;
 use crate::shelved::{Orders, Shelved};
 use crate::trail::Trail;
 use crate::watch::{Advance, Pace, Watch};
@@ -20,21 +18,18 @@ use history::History;
 use spec_machine::Machine;
 use std::alloc::{AllocError, Global};
 
-/// How many orders that lack a call are kept.
-const LACKING: usize = 2048;
-
-/// How many orders that lack none are kept.
-const NEXT: usize = 512;
+/// How many orders that lack a call are kept, for each that lacks none.
+const LACKING: usize = 4;
 
 /// How many calls may come before the one that returned, and that one.
 const DEPTH: u32 = 9;
 
-/// Orders that lack a call which returned up to the place, of one length, and those that lack none.
+/// Orders that lack a call which returned up to the scope's place, of one length, and those that lack none.
 #[derive(Drop)]
 pub(crate) struct Round {
-    pub(crate) place: u32,
-    // set only where no call reads a measurement, so that orders which differ in measurements alone stand for each other
-    pub(crate) unread: bool,
+    pub(crate) scope: Scope,
+    // no order was left out
+    pub(crate) complete: bool,
     pub(crate) lacking: Vec<Shelved>,
     pub(crate) next: Vec<Shelved>,
     pub(crate) trail: Trail,
@@ -45,7 +40,7 @@ impl Round {
     ghost use Rattle.spec_machine.specs.Patches.{standing_of};
     ghost use Rattle.finding.specs.Begun.{base_of, Covers, IsBegun, IsLost, IsRound, IsShelved, IsShelvedLost, RoundLost};
 
-    /// Takes an order, unless another stands for it. The machine is as it was.
+    /// Takes an order, unless another stands for it or there is no room for it. The machine is as it was.
     pub(crate) fn take(
         &mut self,
         alloc: Global,
@@ -62,7 +57,7 @@ impl Round {
         ensures taken { OnOk result (RoundLost history.now.recorded (standing_of machine) self.new
             → IsShelvedLost history.now.recorded (standing_of machine) order) }
     {
-        if is_up_to(history, &order.front, self.place) {
+        if is_up_to(history, &order.front, self.scope.place) {
             self.take_next(alloc, offers, history, machine, order)
         } else {
             self.take_lacking(history, &machine, order)?;
@@ -70,7 +65,7 @@ impl Round {
         }
     }
 
-    /// Takes an order that lacks no call, unless another leads to it. The machine is as it was.
+    /// Takes an order that lacks no call, unless another leads to it or there is no room for it. The machine is as it was.
     fn take_next(
         &mut self,
         alloc: Global,
@@ -95,16 +90,20 @@ impl Round {
             machine,
             next,
             &order,
-            self.unread,
+            self.scope.unread,
         )?;
         if stands {
+            return Ok(machine);
+        }
+        if self.next.len() >= self.scope.most {
+            self.complete = false;
             return Ok(machine);
         }
         self.next.push(order)?;
         Ok(machine)
     }
 
-    /// Takes an order that lacks a call, unless another is of the same calls to the same state.
+    /// Takes an order that lacks a call, unless another is of the same calls to the same state or there is no room for it.
     fn take_lacking(
         &mut self,
         history: &History,
@@ -119,57 +118,52 @@ impl Round {
             → IsShelvedLost history.now.recorded (standing_of machine.now) order) }
     {
         let lacking = self.lacking.as_slice();
-        if has_alike(history, machine, lacking, &order, self.unread) {
+        if has_alike(history, machine, lacking, &order, self.scope.unread) {
+            return Ok(());
+        }
+        if self.lacking.len() >= self.scope.most.saturating_mul(LACKING) {
+            self.complete = false;
             return Ok(());
         }
         self.lacking.push(order)?;
         Ok(())
     }
 
-    /// Takes each order that is longer by a line, and returns whether these are all. The machine goes back.
+    /// Takes each order that is longer by a line. The machine goes back.
     pub(crate) fn take_each(
         &mut self,
         alloc: Global,
         offers: &mut Offers,
         history: &History,
         begun: Begun,
-    ) -> Result<(bool, Machine), AllocError>
+    ) -> Result<Machine, AllocError>
         requires round { IsRound history.now.recorded (base_of begun) self.old }
         requires begun { IsBegun history.now.recorded begun }
-        ensures base { IfOk result (λ taken. standing_of taken.1 ≡ base_of begun) }
+        ensures base { IfOk result (λ machine. standing_of machine ≡ base_of begun) }
         ensures round { OnOk result (IsRound history.now.recorded (base_of begun) self.new) }
         ensures covers { OnOk result (Covers history.now.recorded (base_of begun) self.old self.new) }
-        ensures taken { IfOk result (λ taken. IsTrue taken.0 → RoundLost history.now.recorded (base_of begun) self.new
-            → IsLost history.now.recorded begun) }
+        ensures taken { OnOk result (RoundLost history.now.recorded (base_of begun) self.new → IsLost history.now.recorded begun) }
     {
-        let Some(first) = begun.front.first_at(history, 0) else {
-            return Ok((false, begun.back()));
-        };
-        if rank(&first) >= PENDING {
-            return Ok((false, begun.back()));
+        match next_step(history, &begun, self.scope.unread) {
+            NextStep::Only(next) => self.take_grown(alloc, offers, history, begun, &next),
+            NextStep::Group(group) => self.take_group(alloc, offers, history, begun, group),
+            NextStep::Nothing => {
+                self.complete = false;
+                Ok(begun.back())
+            }
         }
-        if let Some(choice) = settled_choice(history, &begun, rank(&first), self.unread) {
-            let machine = self.take_settled(alloc, offers, history, begun, choice)?;
-            return Ok((true, machine));
-        }
-        let group = group_at(history, &begun, first);
-        if group.is_alone() {
-            let machine = self.take_only(alloc, offers, history, begun, group)?;
-            return Ok((true, machine));
-        }
-        self.take_group(alloc, offers, history, begun, group)
     }
 
     /// How far it is, with one order at hand and so many left to make longer.
     fn advance(&self, left: usize) -> Advance {
         let kept = self.lacking.len().saturating_add(self.next.len());
         Advance {
-            events: self.place as usize,
+            events: self.scope.place as usize,
             orders: kept.saturating_add(left).saturating_add(1),
         }
     }
 
-    /// Makes the orders that lack a call longer by a line each; none where there are too many, or the watch stops it. The machine is as it was.
+    /// Makes the orders that lack a call longer by a line each; none where the watch stops it. The machine is as it was.
     fn deeper<W: Watch>(
         self,
         alloc: Global,
@@ -184,52 +178,23 @@ impl Round {
         ensures round { IfOk result (λ deeper. IfSome deeper (λ d. IsRound history.now.recorded (standing_of machine) d.0)) }
         ensures covers { IfOk result (λ deeper. IfSome deeper (λ d. Covers history.now.recorded (standing_of machine) self d.0)) }
     {
-        let Round {
-            place,
-            unread,
-            lacking,
-            next,
-            trail,
-        } = self;
-        let mut left = lacking;
+        let mut round = self;
+        let mut left = round.lacking;
+        round.lacking = Vec::new(alloc);
         let mut machine = machine;
-        let mut round = Round {
-            place,
-            unread,
-            lacking: Vec::new(alloc),
-            next,
-            trail,
-        };
         'orders: while let Some(order) = left.pop() {
             if pace.is_due_at(offers.count()) && !watch.goes_on(round.advance(left.len())) {
                 return Ok(None);
             }
             let begun = order.at_hand(machine);
-            let (all, after) = round.take_each(alloc, offers, history, begun)?;
-            machine = after;
-            if !all {
-                return Ok(None);
-            }
-            if round.lacking.len() > LACKING || round.next.len() > NEXT {
-                return Ok(None);
-            }
+            machine = round.take_each(alloc, offers, history, begun)?;
         }
         Ok(Some((round, machine)))
     }
 }
 
-/// Whether each call that returned up to the place stands in an order.
-fn is_up_to(history: &History, front: &Front, place: u32) -> bool
-    requires { IsFront history.now.recorded front.now }
-{
-    match front.first_at(history, 0) {
-        Some(first) => place < rank(&first),
-        None => true,
-    }
-}
-
-/// The orders that lack no call which returned up to the round's place: where they lead nowhere, all of the round do. None where there are too
-/// many, or the watch stops it.
+/// The orders that lack no call which returned up to the round's place: where they are all and lead nowhere, all of the round do. None where the
+/// watch stops it.
 pub(crate) fn next_orders<W: Watch>(
     alloc: Global,
     offers: &mut Offers,
@@ -247,9 +212,15 @@ pub(crate) fn next_orders<W: Watch>(
     let mut machine = machine;
     'depths: for _depth in 0..DEPTH {
         if round.lacking.is_empty() {
-            let Round { next, trail, .. } = round;
+            let Round {
+                complete,
+                next,
+                trail,
+                ..
+            } = round;
             return Ok(Some(Orders {
                 begun: next,
+                complete,
                 trail,
                 machine,
             }));
@@ -269,31 +240,30 @@ pub(crate) fn sorted(
     alloc: Global,
     history: &History,
     kept: Orders,
-    place: u32,
-    unread: bool,
+    scope: Scope,
 ) -> Result<(Round, Machine), AllocError>
     requires kept { AllShelved history.now.recorded (standing_of kept.machine) kept.begun.items }
-    requires unread { IsTrue unread → ReadsNothing history.now.recorded.events }
+    requires unread { IsTrue scope.unread → ReadsNothing history.now.recorded.events }
     ensures base { IfOk result (λ s. standing_of s.1 ≡ standing_of kept.machine) }
     ensures round { IfOk result (λ s. IsRound history.now.recorded (standing_of kept.machine) s.0) }
-    ensures covers { IfOk result (λ s. RoundLost history.now.recorded (standing_of kept.machine) s.0
-        → AllLost history.now.recorded (standing_of kept.machine) kept.begun.items) }
+    ensures covers { IfOk result (λ s. RoundLost history.now.recorded (standing_of kept.machine) s.0 → OrdersLost history.now.recorded kept) }
 {
     let Orders {
         begun,
+        complete,
         trail,
         machine,
     } = kept;
     let mut left = begun;
     let mut round = Round {
-        place,
-        unread,
+        scope,
+        complete,
         lacking: Vec::new(alloc),
         next: Vec::new(alloc),
         trail,
     };
     'orders: while let Some(order) = left.pop() {
-        if is_up_to(history, &order.front, place) {
+        if is_up_to(history, &order.front, scope.place) {
             round.next.push(order)?;
         } else {
             round.lacking.push(order)?;

@@ -3,7 +3,9 @@
 ghost use Rattle.std.specs.Prelude.{◌≡◌};
 
 use crate::begun::Begun;
-use crate::front::Front;
+use crate::front::{Front, is_up_to};
+use crate::offers::Offers;
+use crate::scope::Scope;
 use crate::trail::Trail;
 use history::History;
 use spec_machine::{Machine, Patch};
@@ -60,15 +62,18 @@ impl Shelved {
 #[derive(Drop)]
 pub(crate) struct Orders {
     pub(crate) begun: Vec<Shelved>,
+    // no order was left out
+    pub(crate) complete: bool,
     pub(crate) trail: Trail,
     pub(crate) machine: Machine,
 }
 
 impl Orders {
-    ghost use Rattle.std.specs.Prelude.{◌≡◌, [], IfOk};
+    ghost use Rattle.std.specs.Prelude.{◌≡◌, ◌+◌, [], IfOk, IsTrue};
     ghost use Rattle.verdict_laws.specs.Order.{LeadsNowhere};
+    ghost use Rattle.verdict_laws.specs.Unread.{ReadsNothing};
     ghost use Rattle.spec_machine.specs.Patches.{standing_of};
-    ghost use Rattle.finding.specs.Begun.{AllLost, AllShelved, AreOrders};
+    ghost use Rattle.finding.specs.Begun.{AllReturned, AllShelved, AreOrders, OrdersLost};
 
     /// The order in which no call stands yet.
     pub(crate) fn opening(alloc: Global, history: &History) -> Result<Orders, AllocError>
@@ -83,38 +88,52 @@ impl Orders {
         })?;
         Ok(Orders {
             begun,
+            complete: true,
             trail: Trail::new(alloc),
             machine,
         })
     }
 
-    /// The same orders; where there is one, the machine goes there, so that patches stay short.
-    pub(crate) fn rebased(self, alloc: Global, history: &History) -> Result<Orders, AllocError>
-        requires { AllShelved history.now.recorded (standing_of self.machine) self.begun.items }
-        ensures { IfOk result (λ orders. AreOrders history.now.recorded orders
-            (AllLost history.now.recorded (standing_of self.machine) self.begun.items)) }
+    /// The same orders; where there is one, the machine goes there, and on as long as a call is tried alone. None is left where one is refused.
+    pub(crate) fn advanced(
+        self,
+        alloc: Global,
+        offers: &mut Offers,
+        history: &History,
+        scope: Scope,
+    ) -> Result<Orders, AllocError>
+        requires shelved { AllShelved history.now.recorded (standing_of self.machine) self.begun.items }
+        requires unread { IsTrue scope.unread → ReadsNothing history.now.recorded.events }
+        ensures { IfOk result (λ orders. AreOrders history.now.recorded orders (OrdersLost history.now.recorded self)) }
     {
+        if self.begun.len() != 1 {
+            return Ok(self);
+        }
         let Orders {
             mut begun,
-            trail,
+            complete,
+            mut trail,
             machine,
         } = self;
-        if begun.len() != 1 {
-            return Ok(Orders {
-                begun,
-                trail,
-                machine,
-            });
-        }
         let Some(order) = begun.pop() else {
             unreachable!()
         };
+        let mut order = order.at_hand(machine);
+        let given = order.go_on(offers, history, scope, &mut trail)?;
         let Begun {
             front,
             machine,
             last,
             ..
-        } = order.at_hand(machine);
+        } = order;
+        if !given {
+            return Ok(Orders {
+                begun,
+                complete,
+                trail,
+                machine,
+            });
+        }
         begun.push(Shelved {
             front,
             last,
@@ -122,9 +141,23 @@ impl Orders {
         })?;
         Ok(Orders {
             begun,
+            complete,
             trail,
             machine,
         })
+    }
+
+    /// Whether none lacks a call that returned up to the place.
+    pub(crate) fn are_up_to(&self, history: &History, place: u32) -> bool
+        requires { AllShelved history.now.recorded (standing_of self.now.machine) self.now.begun.items }
+        ensures { IsTrue result → AllReturned history.now.recorded self.now.begun.items (place + 1) }
+    {
+        'orders: for order in self.begun.as_slice() {
+            if !is_up_to(history, &order.front, place) {
+                return false;
+            }
+        }
+        true
     }
 }
 

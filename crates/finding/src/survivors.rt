@@ -5,19 +5,22 @@ ghost use Rattle.std.specs.List.{All};
 ghost use Rattle.rmm_spec.specs.FirstFault.{Passes};
 ghost use Rattle.rmm_spec.specs.State.{State};
 
-use crate::first_part::first_part;
-use crate::forward::{Survey, forward};
-use crate::guided::order_of;
+use crate::forward::{Bounds, Survey, forward};
+use crate::judging::passing;
 use crate::offers::Offers;
 use crate::shelved::Orders;
-use crate::unread::unread;
-use crate::watch::Watch;
+use crate::survey::lines_of;
+use crate::unread::{reads_nothing, unread};
+use crate::watch::{Unwatched, Watch};
 use certificate::Certificate;
 use history::History;
 use std::alloc::{AllocError, Global};
 
+/// How many orders are kept of which some are told.
+const KEPT: usize = 16;
+
 /// How many orders are told.
-const MOST: usize = 4;
+const TOLD: usize = 4;
 
 /// Orders of the calls that returned before the place of an event, four at most: their lines pass.
 pub fn orders_before<W: Watch>(
@@ -29,60 +32,95 @@ pub fn orders_before<W: Watch>(
 ) -> Result<Vec<Certificate>, AllocError>
     ensures { IfOk result (λ orders. All (λ order. (state : State) × Passes history.now.recorded order.lines state) orders.items) }
 {
-    let count = place as usize;
-    if count > history.len() {
-        return Ok(Vec::new(alloc));
-    }
-    let Some(part) = first_part(alloc, history, count)? else {
-        return Ok(Vec::new(alloc));
+    let bounds = Bounds {
+        until: place as usize,
+        most: KEPT,
+        limit,
     };
-    match kept_orders(alloc, &part, limit, watch)? {
-        Some(orders) => first_orders(alloc, history, &orders, limit, watch),
-        None => Ok(Vec::new(alloc)),
+    match survey_of(alloc, history, bounds, watch)? {
+        Survey::Kept(orders) => first_orders(alloc, history, &orders),
+        _ => Ok(Vec::new(alloc)),
     }
 }
 
-/// Orders that are kept of all calls that returned, or of those of the history without readings, where too many would be.
-fn kept_orders<W: Watch>(
+/// The longest of the orders that are kept where a search ends, which has tried so many steps, was stopped by its watch, or is left with
+/// none: its lines pass. It takes about twice as long as that search.
+pub fn longest_order<W: Watch>(
     alloc: Global,
     history: &History,
     limit: u64,
     watch: &mut W,
-) -> Result<Option<Orders>, AllocError> {
-    let mut offers = Offers::none();
-    if let Survey::Kept(orders) = forward(alloc, &mut offers, history, limit / 2, watch)? {
-        return Ok(Some(orders));
-    }
-    let Some(unread) = unread(alloc, history)? else {
-        return Ok(None);
+) -> Result<Certificate, AllocError>
+    ensures { IfOk result (λ certificate. (state : State) × Passes history.now.recorded certificate.lines state) }
+{
+    let bounds = Bounds {
+        until: history.len(),
+        most: KEPT,
+        limit,
     };
-    match forward(alloc, &mut offers, &unread, limit, watch)? {
-        Survey::Kept(orders) => Ok(Some(orders)),
-        _ => Ok(None),
+    let place = match survey_of(alloc, history, bounds, watch)? {
+        Survey::Kept(orders) => return longest(alloc, history, &orders),
+        Survey::Lost(place) | Survey::Undecided(place) => place,
+    };
+    let before = Bounds {
+        until: place as usize,
+        ..bounds
+    };
+    match survey_of(alloc, history, before, &mut Unwatched)? {
+        Survey::Kept(orders) => longest(alloc, history, &orders),
+        _ => longest(alloc, history, &Orders::opening(alloc, history)?),
     }
 }
 
-/// The lines of the first orders whose calls are all given their replies: one of the history without readings may have a reading that isn't.
-fn first_orders<W: Watch>(
+/// Looks for orders, with no measurement read.
+fn survey_of<W: Watch>(
+    alloc: Global,
+    history: &History,
+    bounds: Bounds,
+    watch: &mut W,
+) -> Result<Survey, AllocError> {
+    let mut offers = Offers::none();
+    match unread(alloc, history)? {
+        Some(unread) => forward(alloc, &mut offers, &unread, bounds, watch),
+        None => forward(alloc, &mut offers, history, bounds, watch),
+    }
+}
+
+/// The first orders whose calls are all given their replies: a reading may not be.
+fn first_orders(
     alloc: Global,
     history: &History,
     orders: &Orders,
-    limit: u64,
-    watch: &mut W,
 ) -> Result<Vec<Certificate>, AllocError>
     ensures { IfOk result (λ told. All (λ order. (state : State) × Passes history.now.recorded order.lines state) told.items) }
 {
     let mut told = Vec::new(alloc);
     'orders: for order in orders.begun.as_slice() {
-        if told.len() >= MOST {
+        if told.len() >= TOLD {
             return Ok(told);
         }
-        let cpus = orders.trail.cpus_up_to(alloc, order.last)?;
-        let lines = order_of(alloc, history, cpus.as_slice(), limit, watch)?;
-        if lines.len() < cpus.len() {
+        let lines = lines_of(alloc, history, &orders.trail, order, true)?;
+        let count = lines.len();
+        let passing = passing(alloc, history, lines)?;
+        if passing.len() < count {
             continue;
         }
-        told.push(lines)?;
+        told.push(passing)?;
     }
     Ok(told)
+}
+
+/// The first lines that pass of an order, of one that has most of the first orders.
+fn longest(alloc: Global, history: &History, orders: &Orders) -> Result<Certificate, AllocError>
+    ensures { IfOk result (λ longest. (state : State) × Passes history.now.recorded longest.lines state) }
+{
+    let mut longest = passing(alloc, history, Certificate::new(alloc))?;
+    'orders: for order in orders.begun.as_slice().iter().take(TOLD) {
+        let lines = lines_of(alloc, history, &orders.trail, order, true)?;
+        let passing = passing(alloc, history, lines)?;
+        if longest.len() < passing.len() {
+            longest = passing;
+        }
+    }
+    Ok(longest)
 }

@@ -1,19 +1,50 @@
 //! The calls of kept orders as a tree, where what orders have in common stands once.
 
+use guessing::Placed;
+use rmi_view::copied_reply;
+use rmm_spec::{Line, Reply};
 use std::alloc::{AllocError, Global};
 
-/// The CPU of a call, and the step before it.
+/// A call, what it is claimed to have been answered where it is open, and the step before it.
 #[derive(Clone, Copy)]
 struct Step {
-    cpu: u8,
+    placed: Placed,
+    // which of the claims it has, counted from 1; 0 where it returns
+    claim: usize,
     before: usize,
 }
 
+/// What the last call of a CPU, which is open, is claimed to have been answered.
+#[derive(Drop)]
+pub(crate) struct Claim {
+    pub(crate) cpu: u8,
+    pub(crate) reply: Reply,
+}
+
+/// The calls of an order, and what those that are open are claimed to have been answered.
+#[derive(Drop)]
+pub(crate) struct Steps {
+    pub(crate) placed: Vec<Placed>,
+    pub(crate) claims: Vec<Claim>,
+}
+
+impl Steps {
+    /// The CPUs of the calls.
+    pub(crate) fn cpus(&self, alloc: Global) -> Result<Vec<u8>, AllocError> {
+        let mut cpus = Vec::with_capacity(alloc, self.placed.len())?;
+        for placed in &self.placed {
+            cpus.push(placed.cpu)?;
+        }
+        Ok(cpus)
+    }
+}
+
 /// The last steps of orders lead to their first ones. A step is told by its number, counted from 1; 0 stands before the first. No clause speaks
-/// of the calls: a search takes them for a guess.
+/// of the calls: whoever takes them has a machine give every reply once more.
 #[derive(Drop)]
 pub(crate) struct Trail {
     steps: Vec<Step>,
+    claims: Vec<Claim>,
 }
 
 impl Trail {
@@ -21,28 +52,70 @@ impl Trail {
     pub(crate) fn new(alloc: Global) -> Self {
         Trail {
             steps: Vec::new(alloc),
+            claims: Vec::new(alloc),
         }
     }
 
-    /// Takes a call after a step, and returns the new step.
-    pub(crate) fn push(&mut self, before: usize, cpu: u8) -> Result<usize, AllocError> {
-        self.steps.push(Step { cpu, before })?;
+    /// Takes the call of a line after a step, put in at the place of an event, and returns the new step.
+    pub(crate) fn push(
+        &mut self,
+        before: usize,
+        line: &Line,
+        at: usize,
+    ) -> Result<usize, AllocError> {
+        let (cpu, claim) = match line {
+            Line::Keep { cpu, .. } => (*cpu, 0),
+            Line::Unfinished { cpu, reply, .. } => {
+                self.claims.push(Claim {
+                    cpu: *cpu,
+                    reply: copied_reply(reply),
+                })?;
+                (*cpu, self.claims.len())
+            }
+        };
+        self.steps.push(Step {
+            placed: Placed { cpu, at },
+            claim,
+            before,
+        })?;
         Ok(self.steps.len())
     }
 
-    /// The CPUs of the calls up to a step, in their order.
-    pub(crate) fn cpus_up_to(&self, alloc: Global, last: usize) -> Result<Vec<u8>, AllocError> {
-        let mut cpus = Vec::new(alloc);
+    /// The calls up to a step, in their order.
+    pub(crate) fn up_to(&self, alloc: Global, last: usize) -> Result<Steps, AllocError> {
+        let mut steps = Steps {
+            placed: Vec::new(alloc),
+            claims: Vec::new(alloc),
+        };
         let mut at = last;
         for _step in 0..self.steps.len() {
-            if at == 0 || at > self.steps.len() {
+            let Some(step) = self.step(at) else {
                 break;
-            }
-            let step = self.steps[at - 1];
-            cpus.push(step.cpu)?;
+            };
+            steps.placed.push(step.placed)?;
+            self.take_claim(step.claim, &mut steps.claims)?;
             at = step.before;
         }
-        cpus.reverse();
-        Ok(cpus)
+        steps.placed.reverse();
+        Ok(steps)
+    }
+
+    fn step(&self, number: usize) -> Option<Step> {
+        self.steps.get(number.checked_sub(1)?).copied()
+    }
+
+    // Appends a claim, where there is one of that number.
+    fn take_claim(&self, number: usize, claims: &mut Vec<Claim>) -> Result<(), AllocError> {
+        let Some(index) = number.checked_sub(1) else {
+            return Ok(());
+        };
+        let Some(Claim { cpu, reply }) = self.claims.get(index) else {
+            return Ok(());
+        };
+        claims.push(Claim {
+            cpu: *cpu,
+            reply: copied_reply(reply),
+        })?;
+        Ok(())
     }
 }

@@ -2,10 +2,7 @@
 
 ghost use Rattle.std.specs.Prelude.{◌≡◌, false};
 
-use crate::search::Search;
-use history::History;
-
-/// How many steps of a search are made, or offers, before a watch is asked again.
+/// How many offers are made before a watch is asked again.
 const STEPS: u64 = 1024;
 
 /// How far a search is.
@@ -42,14 +39,13 @@ impl Watch for Unwatched {
 /// When a watch is asked: at first, and then each time that so much is done.
 #[derive(Drop)]
 pub(crate) struct Pace {
-    steps: u64,
     next: u64,
 }
 
 impl Pace {
     /// It is asked at first.
     pub(crate) fn new() -> Pace {
-        Pace { steps: 0, next: 0 }
+        Pace { next: 0 }
     }
 
     /// Whether the watch is asked at so many offers.
@@ -60,28 +56,4 @@ impl Pace {
         self.next = count.saturating_add(STEPS);
         true
     }
-
-    /// Whether it is asked before the next step.
-    fn is_due(&mut self) -> bool {
-        self.steps = self.steps.saturating_add(1);
-        self.is_due_at(self.steps)
-    }
-}
-
-/// Whether a search takes its next step, of which its watch is asked where that is due.
-pub(crate) fn steps_on<W: Watch>(
-    watch: &mut W,
-    pace: &mut Pace,
-    history: &History,
-    search: &Search,
-) -> bool
-    ensures { result ≡ false → W.has_stopped watch.new }
-{
-    if !pace.is_due() {
-        return true;
-    }
-    watch.goes_on(Advance {
-        events: search.place(history),
-        orders: 1,
-    })
 }

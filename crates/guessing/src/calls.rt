@@ -3,6 +3,7 @@
 ghost use Rattle.rmi_view.specs.Seen.{HasFewWords, reply_seen};
 ghost use Rattle.std.specs.Prelude.{◌≤◌, length, IfSome};
 
+use crate::steps::Step;
 use history::History;
 use rmi_view::{CommandRef, ReplyRef};
 use rmm_spec::FunctionId;
@@ -12,13 +13,26 @@ use rmm_spec::FunctionId;
 pub(crate) struct OpenCall {
     pub(crate) cpu: u8,
     /// The places of its two events.
-    pub(crate) called: usize,
-    pub(crate) returned: usize,
+    pub(crate) called: u32,
+    pub(crate) returned: u32,
     /// Whether it stands in the order already.
     pub(crate) is_placed: bool,
     /// The measurement that it reads or extends, where it stands in the order.
     pub(crate) register: Option<usize>,
     pub(crate) extends: bool,
+}
+
+impl OpenCall {
+    /// The call, as it was put in at the place.
+    pub(crate) fn step(&self, is_measured: bool, place: usize) -> Step {
+        Step {
+            cpu: self.cpu,
+            is_measured,
+            called: self.called,
+            returned: self.returned,
+            at: u32::try_from(place).unwrap_or(u32::MAX),
+        }
+    }
 }
 
 /// The command of the call at a place.
@@ -66,6 +80,11 @@ pub(crate) fn measured(command: CommandRef<'_>, reply: ReplyRef<'_>) -> Option<u
     ) {
         return None;
     }
+    number_of(command)
+}
+
+/// The extensible measurement that the command names first, counted from 0.
+pub(crate) fn number_of(command: CommandRef<'_>) -> Option<usize> {
     match command.words.first() {
         Some(1) => Some(0),
         Some(2) => Some(1),

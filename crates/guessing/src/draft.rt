@@ -2,6 +2,7 @@
 
 use crate::calls::{OpenCall, command_at, is_look, measured, reply_at, shares_word};
 use crate::registers::{Registers, Use};
+use crate::steps::{Checkpoint, Step, gives, insert};
 use command_rows::Sight;
 use history::History;
 use rmi_view::{CommandRef, ReplyRef};
@@ -12,19 +13,15 @@ use std::alloc::{AllocError, Global};
 /// How many CPUs there are at most.
 const CPUS: usize = 8;
 
-/// A call of the order, by its CPU, and the place of the event at which it was put in.
-#[derive(Clone, Copy)]
-pub(crate) struct Placed {
-    pub(crate) cpu: u8,
-    pub(crate) at: usize,
-}
-
-/// The calls that were put in so far, but those on extensible measurements, with the machine after all of them.
+/// The calls that were put in so far, with the machine after all of them, and one after some of them.
 #[derive(Drop)]
 pub(crate) struct Draft {
-    machine: Machine,
-    open: [Option<OpenCall>; CPUS],
-    pub(crate) placed: Vec<Placed>,
+    pub(crate) machine: Machine,
+    pub(crate) open: [Option<OpenCall>; CPUS],
+    // where a CPU's call was made that doesn't return
+    unreturned: [Option<usize>; CPUS],
+    pub(crate) steps: Vec<Step>,
+    pub(crate) checkpoint: Option<Checkpoint>,
     pub(crate) registers: Registers,
 }
 
@@ -36,13 +33,20 @@ impl Draft {
         Ok(Draft {
             machine: Machine::new(alloc, history.config())?,
             open: [None; CPUS],
-            placed: Vec::new(alloc),
+            unreturned: [None; CPUS],
+            steps: Vec::new(alloc),
+            checkpoint: None,
             registers: Registers::new(alloc),
         })
     }
 
     /// Takes the event at the place. Whether the order goes on: a call that returns has to stand in it.
-    pub(crate) fn take(&mut self, history: &History, place: usize) -> Result<bool, AllocError>
+    pub(crate) fn take(
+        &mut self,
+        alloc: Global,
+        history: &History,
+        place: usize,
+    ) -> Result<bool, AllocError>
         requires { place < length history.now.recorded.events }
     {
         match history.called_at(place) {
@@ -51,7 +55,7 @@ impl Draft {
                 self.place_looks(history, place)?;
                 Ok(true)
             }
-            None => self.take_return(history, place),
+            None => self.take_return(alloc, history, place),
         }
     }
 
@@ -61,13 +65,16 @@ impl Draft {
             return;
         };
         let Some(returned) = places.returned else {
+            if let Some(unreturned) = self.unreturned.get_mut(usize::from(cpu)) {
+                *unreturned = Some(places.called as usize);
+            }
             return;
         };
         if let Some(open) = self.open.get_mut(usize::from(cpu)) {
             *open = Some(OpenCall {
                 cpu,
-                called: places.called as usize,
-                returned: returned as usize,
+                called: places.called,
+                returned,
                 is_placed: false,
                 register: None,
                 extends: false,
@@ -75,12 +82,30 @@ impl Draft {
         }
     }
 
-    fn take_return(&mut self, history: &History, place: usize) -> Result<bool, AllocError> {
+    /// Adds the calls that don't return to their measurements, once all that return were taken.
+    pub(crate) fn add_unreturned(&mut self, history: &History) -> Result<(), AllocError> {
+        for (cpu, called) in self.unreturned.iter().enumerate() {
+            if let Some(called) = called {
+                self.registers.add_open(history, cpu as u8, *called)?;
+            }
+        }
+        Ok(())
+    }
+
+    fn take_return(
+        &mut self,
+        alloc: Global,
+        history: &History,
+        place: usize,
+    ) -> Result<bool, AllocError> {
         let Some(cpu) = self.returning(place) else {
             return Ok(true);
         };
         if !self.is_placed(cpu) && !self.place_with_others(history, cpu, place)? {
-            return Ok(false);
+            if !self.place_earlier(alloc, history, cpu)? {
+                return Ok(false);
+            }
+            self.place_looks(history, place)?;
         }
         self.close(cpu)?;
         Ok(true)
@@ -90,7 +115,7 @@ impl Draft {
     fn returning(&self, place: usize) -> Option<usize> {
         for cpu in 0..CPUS {
             if let Some(call) = self.open[cpu] {
-                if call.returned == place {
+                if call.returned as usize == place {
                     return Some(cpu);
                 }
             }
@@ -118,8 +143,8 @@ impl Draft {
         };
         let used = Use {
             cpu: call.cpu,
-            called: call.called,
-            returned: call.returned,
+            called: call.called as usize,
+            returned: call.returned as usize,
             extends: call.extends,
         };
         self.registers.add(register, used)
@@ -157,7 +182,7 @@ impl Draft {
             let Some(call) = self.next_return(last) else {
                 return Ok(false);
             };
-            last = call.returned;
+            last = call.returned as usize;
             let other = usize::from(call.cpu);
             if call.is_placed || self.are_related(history, cpu, other) != related {
                 continue;
@@ -176,7 +201,7 @@ impl Draft {
             let Some(call) = open else {
                 continue;
             };
-            if call.returned <= place {
+            if call.returned as usize <= place {
                 continue;
             }
             match next {
@@ -217,7 +242,7 @@ impl Draft {
     // The command of the CPU's open call.
     fn command<'h>(&self, history: &'h History, cpu: usize) -> Option<CommandRef<'h>> {
         match self.open.get(cpu) {
-            Some(Some(call)) => command_at(history, call.called),
+            Some(Some(call)) => command_at(history, call.called as usize),
             _ => None,
         }
     }
@@ -237,8 +262,8 @@ impl Draft {
             return false;
         };
         match (
-            command_at(history, call.called),
-            reply_at(history, call.returned),
+            command_at(history, call.called as usize),
+            reply_at(history, call.returned as usize),
         ) {
             (Some(command), Some(reply)) => is_look(command, reply),
             _ => false,
@@ -255,48 +280,36 @@ impl Draft {
         let Some(Some(call)) = self.open.get(cpu).copied() else {
             return Ok(false);
         };
-        let Some(command) = command_at(history, call.called) else {
+        let Some(command) = command_at(history, call.called as usize) else {
             return Ok(false);
         };
-        let Some(reply) = reply_at(history, call.returned) else {
+        let Some(reply) = reply_at(history, call.returned as usize) else {
             return Ok(false);
         };
-        let register = match measured(command, reply) {
-            Some(number) => self.registers.register(call.cpu, number),
-            None => None,
-        };
-        if !self.gives(call.cpu, command, reply, register.is_some())? {
+        let is_measured = self.register_of(call.cpu, command, reply).is_some();
+        if !gives(&mut self.machine, call.cpu, command, reply, is_measured)? {
             return Ok(false);
         }
-        self.note(call, command, reply, register, place)?;
+        let index = self.steps.len();
+        self.note(history, call, index, place)?;
         Ok(true)
     }
 
-    // Whether the machine gives the reply. What is read of a measurement is looked at later.
-    fn gives(
+    // Notes that the call stands in the order, where it was put in at the place and comes before the step of that index.
+    pub(crate) fn note(
         &mut self,
-        cpu: u8,
-        command: CommandRef<'_>,
-        reply: ReplyRef<'_>,
-        is_measured: bool,
-    ) -> Result<bool, AllocError>
-        requires { length command.words.now ≤ 10 }
-    {
-        if is_measured && matches!(command.function, FunctionId::MeasurementRead) {
-            return Ok(self.machine.outcome(cpu, &command.to_command()).is_ok());
-        }
-        self.machine.offer_seen(cpu, command, reply)
-    }
-
-    // Notes that the call stands in the order.
-    fn note(
-        &mut self,
+        history: &History,
         call: OpenCall,
-        command: CommandRef<'_>,
-        reply: ReplyRef<'_>,
-        register: Option<usize>,
+        index: usize,
         place: usize,
     ) -> Result<(), AllocError> {
+        let Some(command) = command_at(history, call.called as usize) else {
+            return Ok(());
+        };
+        let Some(reply) = reply_at(history, call.returned as usize) else {
+            return Ok(());
+        };
+        let register = self.register_of(call.cpu, command, reply);
         if let Some(open) = self.open.get_mut(usize::from(call.cpu)) {
             *open = Some(OpenCall {
                 is_placed: true,
@@ -305,14 +318,20 @@ impl Draft {
                 ..call
             });
         }
-        if register.is_none() {
-            self.placed.push(Placed {
-                cpu: call.cpu,
-                at: place,
-            })?;
-        }
+        insert(&mut self.steps, index, call.step(register.is_some(), place))?;
         let owner = self.owner(command);
         self.registers.note(call.cpu, command, reply, owner)
+    }
+
+    // The measurement that a call reads or extends.
+    pub(crate) fn register_of(
+        &self,
+        cpu: u8,
+        command: CommandRef<'_>,
+        reply: ReplyRef<'_>,
+    ) -> Option<usize> {
+        let number = measured(command, reply)?;
+        self.registers.register(cpu, number)
     }
 
     // The realm of the REC that a command enters.

@@ -1,15 +1,20 @@
 //! Puts an order of a history's calls together, event by event, as a guess at a linearization.
 //! Nothing is promised of the order: whoever takes it has a machine give every reply once more.
-//! A call stands where it returns. It stands earlier where it changes nothing, or where another call needs it for its reply.
+//! A call stands where it returns, or earlier: where it changes nothing, where another call needs it for its reply, or where it is given its own.
 //! Extensions of a measurement stand in an order that gives what was read of it, which is looked for by itself.
 //! The search for an order depends on it.
 #![tactic(auto)]
 
+mod arrangement;
 mod calls;
 mod draft;
 mod guessed;
+mod looking_back;
 mod order;
 mod registers;
 mod solving;
+mod steps;
 
+pub use arrangement::arranged;
 pub use guessed::guess;
+pub use order::Placed;

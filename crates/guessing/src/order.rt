@@ -1,12 +1,40 @@
 //! One order of all calls that were put in.
 
-use crate::draft::Placed;
-use crate::registers::Use;
+use crate::registers::{Registers, Use};
+use crate::solving::solved;
+use history::History;
 use std::alloc::{AllocError, Global};
 use std::cmp::min;
 
-/// Puts a measurement's calls in, in the order found: each at the first return of a call that doesn't come before it.
-pub(crate) fn place_uses(
+/// A call of an order, by its CPU, and the place of the event at which it was put in.
+#[derive(Clone, Copy)]
+pub struct Placed {
+    pub cpu: u8,
+    pub at: usize,
+}
+
+/// The CPUs of an order's calls, one after another, with the calls on measurements put in.
+pub(crate) fn with_uses(
+    alloc: Global,
+    history: &History,
+    others: Vec<Placed>,
+    registers: &Registers,
+) -> Result<Vec<u8>, AllocError> {
+    let mut placed = others;
+    for register in &registers.all {
+        let order = solved(alloc, history, register)?;
+        place_uses(
+            alloc,
+            &mut placed,
+            register.uses.as_slice(),
+            order.as_slice(),
+        )?;
+    }
+    cpus_in_order(alloc, placed.as_slice(), history.len())
+}
+
+// Puts a measurement's calls in, in the order found: each at the first return of a call that doesn't come before it.
+fn place_uses(
     alloc: Global,
     placed: &mut Vec<Placed>,
     uses: &[Use],
@@ -37,12 +65,8 @@ fn first_returns(alloc: Global, uses: &[Use], order: &[usize]) -> Result<Vec<usi
     Ok(returns)
 }
 
-/// The CPUs of the calls by the places at which they were put in. Those put in at one place keep their order.
-pub(crate) fn cpus_in_order(
-    alloc: Global,
-    placed: &[Placed],
-    places: usize,
-) -> Result<Vec<u8>, AllocError> {
+// The CPUs of the calls by the places at which they were put in. Those put in at one place keep their order.
+fn cpus_in_order(alloc: Global, placed: &[Placed], places: usize) -> Result<Vec<u8>, AllocError> {
     let mut ends = counted(alloc, placed, places)?;
     let mut cpus = vec![in alloc; 0; placed.len()]?;
     for call in placed.iter().rev() {

@@ -1,5 +1,7 @@
 //! Extensible measurements, and the calls that read and extend them.
 
+use crate::calls::{command_at, number_of};
+use history::History;
 use measure::Rem;
 use rmi_view::{CommandRef, ReplyRef};
 use rmm_spec::FunctionId;
@@ -11,6 +13,9 @@ const REMS: usize = 4;
 
 /// How many CPUs there are at most.
 const CPUS: usize = 8;
+
+/// The place of the return of a call that doesn't return.
+pub(crate) const NEVER: usize = usize::MAX;
 
 /// A call that reads or extends a measurement, with the places of its two events.
 #[derive(Clone, Copy)]
@@ -86,6 +91,34 @@ impl Registers {
             None => {}
         }
         Ok(())
+    }
+
+    /// A CPU's call that was made at the place doesn't return. Where it extends a measurement, another call may need it.
+    pub(crate) fn add_open(
+        &mut self,
+        history: &History,
+        cpu: u8,
+        called: usize,
+    ) -> Result<(), AllocError> {
+        let Some(command) = command_at(history, called) else {
+            return Ok(());
+        };
+        if !matches!(command.function, FunctionId::MeasurementExtend) {
+            return Ok(());
+        }
+        let Some(number) = number_of(command) else {
+            return Ok(());
+        };
+        let Some(register) = self.register(cpu, number) else {
+            return Ok(());
+        };
+        let used = Use {
+            cpu,
+            called,
+            returned: NEVER,
+            extends: true,
+        };
+        self.add(register, used)
     }
 
     /// Notes what a call does to a realm that was made, or that it makes. `owner` is the realm of a REC that is entered.

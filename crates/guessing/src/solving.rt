@@ -1,7 +1,7 @@
 //! The order of the calls that read and extend one measurement.
 
 use crate::calls::{command_at, reply_at};
-use crate::registers::{Register, Use};
+use crate::registers::{NEVER, Register, Use};
 use byteorder::{ByteOrder, LittleEndian};
 use history::History;
 use measure::{Rem, extend_bytes, words, words8};
@@ -59,7 +59,7 @@ enum Next {
 }
 
 /// An order of the measurement's calls, by their places in the order of returns: one in which each reads what it read, where that is
-/// found soon. Else the last calls stand as they return.
+/// found soon. Else the last calls stand as they return. A call that doesn't return stands there where a reading needs it.
 pub(crate) fn solved(
     alloc: Global,
     history: &History,
@@ -82,11 +82,11 @@ pub(crate) fn solved(
         .saturating_add(TRIED)
     {
         solver.pass_done();
-        if solver.first >= uses.len() || !solver.step(history, uses)? {
+        if !has_return(uses, solver.first) || !solver.step(history, uses)? {
             break;
         }
     }
-    solver.order()
+    solver.order(uses)
 }
 
 impl Solver {
@@ -101,12 +101,12 @@ impl Solver {
         self.first = self.done.len();
     }
 
-    // The calls that were put in, in their order, and then those that are left.
-    fn order(mut self) -> Result<Vec<usize>, AllocError> {
+    // The calls that were put in, in their order, and then those that are left and return.
+    fn order(mut self, uses: &[Use]) -> Result<Vec<usize>, AllocError> {
         self.settle()?;
         self.pass_done();
         for place in self.first..self.done.len() {
-            if !self.is_done(place) {
+            if !self.is_done(place) && has_return(uses, place) {
                 self.settled.push(place)?;
             }
         }
@@ -209,6 +209,14 @@ impl Solver {
             Some(done) => *done,
             None => true,
         }
+    }
+}
+
+// Whether there is a call of that place, which returns.
+fn has_return(uses: &[Use], place: usize) -> bool {
+    match uses.get(place) {
+        Some(used) => used.returned != NEVER,
+        None => false,
     }
 }
 

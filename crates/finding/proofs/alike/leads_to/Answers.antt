@@ -1,8 +1,8 @@
 -- By a copy that is taken at hand, grows and is put down.
 use Rattle.finding.proofs.Common.{◌∙◌, ap, subst, sym}
-use Rattle.spec_machine.specs.Patches.{Standing, standing_of}
+use Rattle.spec_machine.specs.Patches.{IsWhole, Standing, standing_of}
 use Rattle.finding.specs.Begun.{IsShelvedLost}
-use Rattle.finding.proofs.Shelving.{IsBegun-shelved, IsLost-shelved, IsShelved-begun, IsShelved-moved, IsShelvedLost-begun, IsShelvedLost-moved}
+use Rattle.finding.proofs.Shelving.{IsBegun-shelved, IsLost-shelved, IsShelved-begun, IsShelved-moved, IsShelvedLost-begun, IsShelvedLost-moved, standing-whole}
 use Rattle.finding.proofs.alike.leads_to.Goals as goal
 
 pub takes_lacking-requires : goal.takes_lacking-requires
@@ -35,3 +35,7 @@ returns-clause-leads c = λ alike lost.
     subst (λ (s : Standing). IsShelvedLost history s c.args.other.now)
     (c.put_down-machine.ensures.base ∙ c.in_ok-takes.ensures.base ∙ c.at_hand-longer.ensures.base)
     (c.is_alike-alike.ensures alike longer)
+
+pub put_down-machine-requires : goal.put_down-machine-requires
+put_down-machine-requires c =
+    subst IsWhole (sym (c.in_ok-takes.ensures.base ∙ c.at_hand-longer.ensures.base)) (standing-whole c.args.machine)

@@ -14,11 +14,11 @@ returns-in-Err-clause-tried c = λ history lines state command answered may.
 
 pub returns-in-Ok-Done-clause-tried : goal.returns-in-Ok-Done-clause-tried
 returns-in-Ok-Done-clause-tried c = λ history lines state command answered may.
-    let frame = c.only_claim-in-Ok-Done in
+    let made = c.only_claim-in-Ok-Done in
     IsAttempt-only history lines state c.args.choice c.args.above may command _
     (subst (IsAnswered history c.args.choice state command) (c.in-Ok-Done.is ∙ ap (λ (a : Accepted). Ok a) c.in-Ok-Done.field-0-is) answered) _
     (λ claimed new carried. carried.0)
-    frame.result frame.ensures.line frame.ensures.from frame.ensures.above frame.ensures.has_text
+    made.result made.ensures.line made.ensures.from made.ensures.above made.ensures.has_text
 
 pub returns-in_err-top-in-Ok-Reaches-clause-tried : goal.returns-in_err-top-in-Ok-Reaches-clause-tried
 returns-in_err-top-in-Ok-Reaches-clause-tried c = λ history lines state command answered may.
@@ -29,8 +29,8 @@ returns-in_err-top-in-Ok-Reaches-clause-tried c = λ history lines state command
 
 pub returns-in_ok-top-in-Ok-Reaches-clause-tried : goal.returns-in_ok-top-in-Ok-Reaches-clause-tried
 returns-in_ok-top-in-Ok-Reaches-clause-tried c = λ history lines state command answered may.
-    let frame = c.one_end in
+    let made = c.one_end in
     IsAttempt-ended history lines state c.args.choice c.args.above may command c.in-Ok-Reaches.stretch
     (subst (IsAnswered history c.args.choice state command)
     (c.in-Ok-Reaches.is ∙ ap (λ (a : Accepted). Ok a) c.in-Ok-Reaches.field-0-is) answered) c.in_ok-top-in-Ok-Reaches.top
-    c.in_ok-top-in-Ok-Reaches.ensures.some frame.result frame.ensures.line frame.ensures.from frame.ensures.above frame.ensures.has_text
+    c.in_ok-top-in-Ok-Reaches.ensures.some made.result made.ensures.line made.ensures.from made.ensures.above made.ensures.has_text

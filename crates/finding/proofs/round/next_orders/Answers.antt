@@ -17,8 +17,9 @@ returns-then-is_empty g c =
       shelved = subst (λ (b : Standing). AllShelved history b round.next.items) (sym there) c.depths.invariant.round.next;
       covers = λ lost.
           c.depths.invariant.covers (record {
+            complete = lost.complete;
             lacking = AllLost-none history _ round.lacking.items (sym same ∙ empty);
-            next = subst (λ (b : Standing). AllLost history b round.next.items) there lost;
+            next = subst (λ (b : Standing). AllLost history b round.next.items) there lost.begun;
           });
     }
 

@@ -9,7 +9,7 @@ is_up_to-requires c =
     let popped =
     AllShelved-pop c.args.history.now.recorded (standing_of c.args.kept.machine) c.orders.left.items c.pop.new.self.items
     c.in-Some.order c.in-Some.ensures.items c.orders.invariant.left in
-    popped.1.begun.front
+    record { begun = (_, popped.1.begun) }
 
 pub orders-preserved-in-Continue-1 : goal.orders-preserved-in-Continue-1
 orders-preserved-in-Continue-1 c =
@@ -22,7 +22,7 @@ orders-preserved-in-Continue-1 c =
       round = IsRound-next history base old _ order refl c.in_ok-push.ensures.items refl c.orders.invariant.round popped.1;
       left = popped.0;
       covers = λ lost left.
-          c.orders.invariant.covers (Covers-next history base old _ order refl c.in_ok-push.ensures.items lost)
+          c.orders.invariant.covers (Covers-next history base old _ order refl c.in_ok-push.ensures.items refl lost)
           (AllLost-push history base c.pop.new.self.items c.orders.left.items order c.in-Some.ensures.items left
           (taken-next history base old _ order refl c.in_ok-push.ensures.items lost));
     }
@@ -38,7 +38,7 @@ orders-preserved c =
       round = IsRound-lacking history base old _ order c.in_ok-push-2.ensures.items refl refl c.orders.invariant.round popped.1;
       left = popped.0;
       covers = λ lost left.
-          c.orders.invariant.covers (Covers-lacking history base old _ order c.in_ok-push-2.ensures.items refl lost)
+          c.orders.invariant.covers (Covers-lacking history base old _ order c.in_ok-push-2.ensures.items refl refl lost)
           (AllLost-push history base c.pop.new.self.items c.orders.left.items order c.in-Some.ensures.items left
           (taken-lacking history base old _ order c.in_ok-push-2.ensures.items refl lost));
     }

@@ -1,7 +1,7 @@
 -- The orders so far, and those that are left.
 use Rattle.std.proofs.Common.{vec_len}
 use Rattle.spec_machine.specs.Patches.{standing_of}
-use Rattle.finding.specs.Begun.{AllLost, AllShelved, IsRound, RoundLost}
+use Rattle.finding.specs.Begun.{AllLost, AllShelved, IsRound, OrdersLost, RoundLost}
 use Rattle.finding.proofs.round.sorted.Given as goal
 
 abbrev pub invariant-orders : goal.invariant-orders
@@ -10,7 +10,7 @@ invariant-orders l = record {
   left : AllShelved l.history.recorded (standing_of l.fn.kept.machine) l.left.items;
   covers : RoundLost l.history.recorded (standing_of l.fn.kept.machine) l.round
       → AllLost l.history.recorded (standing_of l.fn.kept.machine) l.left.items
-      → AllLost l.history.recorded (standing_of l.fn.kept.machine) l.fn.kept.begun.items;
+      → OrdersLost l.history.recorded l.fn.kept;
 }
 
 abbrev pub decreases-orders : goal.decreases-orders

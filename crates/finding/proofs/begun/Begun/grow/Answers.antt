@@ -2,7 +2,7 @@
 use Rattle.std.proofs.Common.{refl, arith}
 use Rattle.finding.proofs.Attempts.{of_a_line}
 use Rattle.finding.proofs.BegunLaws.{IsGrown-given, Stays-refused}
-use Rattle.finding.proofs.Searches.{number_of_next}
+use Rattle.finding.proofs.Growing.{number_of_next}
 use Rattle.finding.proofs.begun.Begun.grow.Goals as goal
 
 pub overflow_add-choice : goal.overflow_add-choice

@@ -28,7 +28,7 @@ orders-preserved g c =
     let old = c.orders.round in
     let order = c.in-Some.order in
     let begun = c.at_hand-begun.result in
-    let taken = c.in_ok-all.ensures in
+    let taken = c.in_ok-machine.ensures in
     let same = c.at_hand-begun.ensures.base ∙ c.orders.invariant.there in
     let popped = AllShelved-pop history base c.orders.left.items c.pop.new.self.items order c.in-Some.ensures.items c.orders.invariant.left in
     record {
@@ -39,5 +39,5 @@ orders-preserved g c =
           c.orders.invariant.covers (Covers-back history base old _ begun same taken.covers lost)
           (AllLost-push history base c.pop.new.self.items c.orders.left.items order c.in-Some.ensures.items left
           (taken-back history base old _ begun same order (c.at_hand-begun.ensures.there ∙ ap (patched order.patch) c.orders.invariant.there)
-          c.at_hand-begun.ensures.front (taken.taken c.if-not-all.false) lost));
+          c.at_hand-begun.ensures.front taken.taken lost));
     }

@@ -1,9 +1,6 @@
--- A call that may come at once.
-use Rattle.finding.proofs.NextLines.{IsSoon-called}
+-- Where the call that is tried alone leads nowhere, the order does.
+use Rattle.std.proofs.lemmas.Result.{on_ok_weaker}
 use Rattle.finding.proofs.round.Round.take_each.Goals as goal
 
-pub take_settled-requires-clause-soon : goal.take_settled-requires-clause-soon
-take_settled-requires-clause-soon c =
-    IsSoon-called c.args.history.now.recorded c.requires.begun.front.is_history c.args.begun c.in-Some.first c.in-Some.ensures.least 0
-    c.in-Some-settled_choice.choice c.in-Some-settled_choice.ensures.next
-    (rw c.rank-2.ensures.rank at c.in-Some-settled_choice.ensures.bound)
+pub returns-in-Only-clause-taken : goal.returns-in-Only-clause-taken
+returns-in-Only-clause-taken c = on_ok_weaker c.take_grown.result (λ taken lost. c.in-Only.ensures.alone (taken lost)) c.take_grown.ensures.taken

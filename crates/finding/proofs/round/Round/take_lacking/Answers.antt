@@ -1,4 +1,4 @@
--- Another order is of the same calls to the same state, or it is put in.
+-- Another order is of the same calls to the same state, or it is put in, or left out.
 use Rattle.std.proofs.Common.{refl}
 use Rattle.spec_machine.specs.Patches.{standing_of}
 use Rattle.finding.proofs.Rounds.{IsRound-lacking, taken-lacking}

@@ -1,4 +1,4 @@
--- Another order leads to it, or it is put in.
+-- Another order leads to it, or it is put in, or left out.
 use Rattle.std.proofs.Common.{refl}
 use Rattle.spec_machine.specs.Patches.{standing_of}
 use Rattle.finding.proofs.Rounds.{IsRound-next, taken-next}

@@ -1,0 +1,179 @@
+//! One look at a history.
+
+ghost use Rattle.std.specs.Prelude.{[], IfOk, IfSome};
+ghost use Rattle.rmm_spec.specs.Linearization.{IsLinearization};
+ghost use Rattle.verdict_laws.specs.Order.{LeadsNowhere};
+ghost use Rattle.finding.specs.Survey.{IsAnswer};
+
+use crate::forward::{Bounds, Survey, forward};
+use crate::judging::linearization;
+use crate::lines::certificate_of;
+use crate::offers::Offers;
+use crate::shelved::{Orders, Shelved};
+use crate::trail::Trail;
+use crate::unread::{reads_nothing, unread};
+use crate::watch::{Advance, Watch};
+use certificate::Certificate;
+use guessing::arranged;
+use history::History;
+use registers::lost_register;
+use std::alloc::{AllocError, Global};
+use std::cmp::min;
+
+/// How many steps are tried for each event to find an earlier return than a reading that has no order.
+const STEPS_A_PLACE: u64 = 16;
+
+/// How many orders are judged.
+const JUDGED: usize = 4;
+
+/// How far it is before the first event.
+pub(crate) const FIRST: Advance = Advance {
+    events: 0,
+    orders: 1,
+};
+
+/// What a look at a history finds.
+#[derive(Drop)]
+pub(crate) enum Answer {
+    /// A linearization.
+    Order(Certificate),
+    /// There is none: no order survives the return at the place.
+    Lost(u32),
+    /// Neither.
+    Open,
+}
+
+/// Looks for orders return by return. Where measurements are read, it asks first of each register whether its own calls have an order, and then
+/// of the history without readings whether it has one: where either has none, this has none.
+pub(crate) fn answer_of<W: Watch>(
+    alloc: Global,
+    offers: &mut Offers,
+    history: &History,
+    bounds: Bounds,
+    watch: &mut W,
+) -> Result<Answer, AllocError>
+    ensures { IfOk result (IsAnswer history.now.recorded) }
+{
+    if reads_nothing(history) {
+        return answer_forward(alloc, offers, history, bounds, watch);
+    }
+    if offers.count() >= bounds.limit || !watch.goes_on(FIRST) {
+        return Ok(Answer::Open);
+    }
+    let lost = lost_register(alloc, history)?;
+    if let Some(place) = lost {
+        let first = first_lost(alloc, offers, history, bounds, place, watch)?;
+        return Ok(Answer::Lost(first));
+    }
+    let answer = answer_unread(alloc, offers, history, bounds, watch)?;
+    match answer {
+        Answer::Open => answer_forward(alloc, offers, history, bounds, watch),
+        answer => Ok(answer),
+    }
+}
+
+/// Looks for orders of the history as it is.
+fn answer_forward<W: Watch>(
+    alloc: Global,
+    offers: &mut Offers,
+    history: &History,
+    bounds: Bounds,
+    watch: &mut W,
+) -> Result<Answer, AllocError>
+    ensures { IfOk result (IsAnswer history.now.recorded) }
+{
+    let found = forward(alloc, offers, history, bounds, watch)?;
+    match found {
+        Survey::Lost(place) => Ok(Answer::Lost(place)),
+        Survey::Kept(orders) => answer_among(alloc, offers, history, &orders, false),
+        Survey::Undecided(_) => Ok(Answer::Open),
+    }
+}
+
+/// Looks for orders of the history without readings of measurements. Half of the steps that are left are tried for it at most.
+fn answer_unread<W: Watch>(
+    alloc: Global,
+    offers: &mut Offers,
+    history: &History,
+    bounds: Bounds,
+    watch: &mut W,
+) -> Result<Answer, AllocError>
+    ensures { IfOk result (IsAnswer history.now.recorded) }
+{
+    let _fact = history.well_formed();
+    let Some(unread) = unread(alloc, history)? else {
+        return Ok(Answer::Open);
+    };
+    let count = offers.count();
+    let half = Bounds {
+        limit: count.saturating_add(bounds.limit.saturating_sub(count) / 2),
+        ..bounds
+    };
+    let found = forward(alloc, offers, &unread, half, watch)?;
+    match found {
+        Survey::Lost(place) => Ok(Answer::Lost(place)),
+        Survey::Kept(orders) => answer_among(alloc, offers, history, &orders, true),
+        Survey::Undecided(_) => Ok(Answer::Open),
+    }
+}
+
+/// The place, or an earlier one of a return that no order survives of the history without readings, where one is found soon: a call that was given
+/// another reply may show in a later reading alone.
+fn first_lost<W: Watch>(
+    alloc: Global,
+    offers: &mut Offers,
+    history: &History,
+    bounds: Bounds,
+    place: u32,
+    watch: &mut W,
+) -> Result<u32, AllocError> {
+    let Some(unread) = unread(alloc, history)? else {
+        return Ok(place);
+    };
+    let soon = u64::from(place).saturating_mul(STEPS_A_PLACE);
+    let near = Bounds {
+        until: place as usize,
+        limit: min(bounds.limit, offers.count().saturating_add(soon)),
+        ..bounds
+    };
+    match forward(alloc, offers, &unread, near, watch)? {
+        Survey::Lost(earlier) => Ok(min(earlier, place)),
+        _ => Ok(place),
+    }
+}
+
+/// One of the first orders that is a linearization, if one is.
+fn answer_among(
+    alloc: Global,
+    offers: &mut Offers,
+    history: &History,
+    orders: &Orders,
+    arranges: bool,
+) -> Result<Answer, AllocError>
+    ensures { IfOk result (IsAnswer history.now.recorded) }
+{
+    for order in orders.begun.as_slice().iter().take(JUDGED) {
+        let order = lines_of(alloc, history, &orders.trail, order, arranges)?;
+        if let Some(order) = linearization(alloc, offers, history, order)? {
+            return Ok(Answer::Order(order));
+        }
+    }
+    Ok(Answer::Open)
+}
+
+/// The lines of an order that is kept, where the calls on measurements may be arranged anew.
+pub(crate) fn lines_of(
+    alloc: Global,
+    history: &History,
+    trail: &Trail,
+    order: &Shelved,
+    arranges: bool,
+) -> Result<Certificate, AllocError> {
+    let steps = trail.up_to(alloc, order.last)?;
+    let cpus = if arranges {
+        arranged(alloc, history, steps.placed.as_slice())?
+    } else {
+        steps.cpus(alloc)?
+    };
+    certificate_of(alloc, history, cpus.as_slice(), steps.claims.as_slice())
+}

@@ -1,0 +1,92 @@
+//! A call that has to stand before calls that returned earlier.
+
+use crate::calls::OpenCall;
+use crate::draft::Draft;
+use crate::steps::{Checkpoint, last_taken, takes, takes_all};
+use history::History;
+use spec_machine::Machine;
+use std::alloc::{AllocError, Global};
+use std::cmp::max;
+
+/// How many calls are looked back at most.
+const MOST: usize = 256;
+
+impl Draft {
+    /// Puts the CPU's call in before calls that were put in since it was made, at the last place where it is given its reply, if these are given
+    /// theirs after it.
+    pub(crate) fn place_earlier(
+        &mut self,
+        alloc: Global,
+        history: &History,
+        cpu: usize,
+    ) -> Result<bool, AllocError> {
+        let Some(Some(call)) = self.open.get(cpu).copied() else {
+            return Ok(false);
+        };
+        let start = match self.checkpoint.take() {
+            Some(checkpoint) => checkpoint,
+            None => Checkpoint {
+                steps: 0,
+                machine: Machine::new(alloc, history.config())?,
+            },
+        };
+        let first = max(start.steps, self.first_since(call.called));
+        let mut machine = start.machine;
+        let Some(before) = self.steps.as_slice().get(start.steps..first) else {
+            return Ok(false);
+        };
+        if !takes_all(history, &mut machine, before)? {
+            return Ok(false);
+        }
+        let copy = machine.copy()?;
+        self.checkpoint = Some(Checkpoint {
+            steps: first,
+            machine: machine.copy()?,
+        });
+        self.place_since(history, machine, copy, first, call)
+    }
+
+    // The same, where both machines are after so many steps.
+    fn place_since(
+        &mut self,
+        history: &History,
+        looking: Machine,
+        placing: Machine,
+        first: usize,
+        call: OpenCall,
+    ) -> Result<bool, AllocError> {
+        let Some(since) = self.steps.as_slice().get(first..) else {
+            return Ok(false);
+        };
+        let step = call.step(false, 0);
+        let Some(index) = last_taken(history, looking, since, step)? else {
+            return Ok(false);
+        };
+        let Some(next) = since.get(index).copied() else {
+            return Ok(false);
+        };
+        let (before, after) = since.split_at(index);
+        let mut machine = placing;
+        if !takes_all(history, &mut machine, before)? || !takes(history, &mut machine, step)? {
+            return Ok(false);
+        }
+        if !takes_all(history, &mut machine, after)? {
+            return Ok(false);
+        }
+        self.machine = machine;
+        self.note(history, call, first.saturating_add(index), next.at as usize)?;
+        Ok(true)
+    }
+
+    // After which of the steps those come that were put in since the place.
+    fn first_since(&self, place: u32) -> usize {
+        let mut first = self.steps.len();
+        for _step in 0..MOST {
+            match self.steps.as_slice().get(..first) {
+                Some([.., last]) if last.at >= place => first = first.saturating_sub(1),
+                _ => return first,
+            }
+        }
+        first
+    }
+}

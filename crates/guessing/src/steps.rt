@@ -1,0 +1,135 @@
+//! Calls that stand in an order, and a machine after them.
+
+ghost use Rattle.std.specs.Prelude.{◌≤◌, length};
+
+use crate::calls::{command_at, reply_at};
+use crate::order::Placed;
+use history::History;
+use rmi_view::{CommandRef, ReplyRef};
+use rmm_spec::{Accepted, FunctionId, Reply};
+use spec_machine::Machine;
+use std::alloc::{AllocError, Global};
+
+/// A call of an order, with the places of its events and of the event at which it was put in.
+#[derive(Clone, Copy)]
+pub(crate) struct Step {
+    pub(crate) cpu: u8,
+    /// Whether it reads or extends an extensible measurement.
+    pub(crate) is_measured: bool,
+    pub(crate) called: u32,
+    pub(crate) returned: u32,
+    pub(crate) at: u32,
+}
+
+/// The machine after the first steps, so many.
+#[derive(Drop)]
+pub(crate) struct Checkpoint {
+    pub(crate) steps: usize,
+    pub(crate) machine: Machine,
+}
+
+/// Whether the machine gives a call its reply, and carries it out. What is read of a measurement is looked at later.
+pub(crate) fn gives(
+    machine: &mut Machine,
+    cpu: u8,
+    command: CommandRef<'_>,
+    reply: ReplyRef<'_>,
+    is_measured: bool,
+) -> Result<bool, AllocError>
+    requires { length command.words.now ≤ 10 }
+{
+    if is_measured && matches!(command.function, FunctionId::MeasurementRead) {
+        return Ok(machine.outcome(cpu, &command.to_command()).is_ok());
+    }
+    machine.offer_seen(cpu, command, reply)
+}
+
+/// Whether the machine gives each step its reply, and carries them out.
+pub(crate) fn takes_all(
+    history: &History,
+    machine: &mut Machine,
+    steps: &[Step],
+) -> Result<bool, AllocError> {
+    for step in steps {
+        if !takes(history, machine, *step)? {
+            return Ok(false);
+        }
+    }
+    Ok(true)
+}
+
+/// Whether the machine gives the step its reply, and carries it out.
+pub(crate) fn takes(
+    history: &History,
+    machine: &mut Machine,
+    step: Step,
+) -> Result<bool, AllocError> {
+    let Some(command) = command_at(history, step.called as usize) else {
+        return Ok(false);
+    };
+    let Some(reply) = reply_at(history, step.returned as usize) else {
+        return Ok(false);
+    };
+    gives(machine, step.cpu, command, reply, step.is_measured)
+}
+
+/// Before which of the steps, the last of them, the machine may give a call its reply, from where it is on.
+pub(crate) fn last_taken(
+    history: &History,
+    machine: Machine,
+    steps: &[Step],
+    call: Step,
+) -> Result<Option<usize>, AllocError> {
+    let mut machine = machine;
+    let mut last = None;
+    for (index, step) in steps.iter().enumerate() {
+        if would_take(history, &machine, call) {
+            last = Some(index);
+        }
+        if !takes(history, &mut machine, *step)? {
+            return Ok(last);
+        }
+    }
+    Ok(last)
+}
+
+// Whether the machine may give the step its reply. How far a stretch reaches isn't looked at.
+fn would_take(history: &History, machine: &Machine, step: Step) -> bool {
+    let Some(command) = command_at(history, step.called as usize) else {
+        return false;
+    };
+    let Some(reply) = reply_at(history, step.returned as usize) else {
+        return false;
+    };
+    match machine.outcome(step.cpu, &command.to_command()) {
+        Err(refusal) => reply.is(&refusal.reply()),
+        Ok(Accepted::Done { words, .. }) => step.is_measured || reply.is(&Reply::Ok(words)),
+        Ok(Accepted::Reaches(_)) => matches!(reply, ReplyRef::Ok(_)),
+    }
+}
+
+/// Puts a step in before one of the steps.
+pub(crate) fn insert(steps: &mut Vec<Step>, index: usize, step: Step) -> Result<(), AllocError> {
+    let mut moved = step;
+    for at in index..steps.len() {
+        let next = steps[at];
+        steps[at] = moved;
+        moved = next;
+    }
+    steps.push(moved)?;
+    Ok(())
+}
+
+/// The steps on no measurement, by their CPUs.
+pub(crate) fn others(alloc: Global, steps: &[Step]) -> Result<Vec<Placed>, AllocError> {
+    let mut placed = Vec::with_capacity(alloc, steps.len())?;
+    for step in steps {
+        if !step.is_measured {
+            placed.push(Placed {
+                cpu: step.cpu,
+                at: step.at as usize,
+            })?;
+        }
+    }
+    Ok(placed)
+}
