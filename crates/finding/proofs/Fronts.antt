@@ -18,7 +18,7 @@ AreNexts history counts nexts ranks bound =
     (cpu : ℕ) (next : Option Choice) → cpu < bound → slice_get nexts cpu ≡ Some next → IsNextAt history counts ranks cpu next
 
 -- an element of a list in which one was set
-set_cases : {A : Type 0} (xs : List (Option A)) (i : ℕ) (x : Option A) (at : ℕ) (o : Option A) → slice_get (set xs i x) at ≡ Some o
+pub set_cases : {A : Type 0} (xs : List (Option A)) (i : ℕ) (x : Option A) (at : ℕ) (o : Option A) → slice_get (set xs i x) at ≡ Some o
     → (P : Option A → Type 0) → (at ≡ i → P x) → (at ≢ i → slice_get xs at ≡ Some o → P o) → P o
 set_cases xs i x at o is P here there = elim (eqb_tells at i) [
   | inl same ↦

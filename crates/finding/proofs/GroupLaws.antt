@@ -1,26 +1,35 @@
 -- What the next calls of CPUs tell of the order in which they may come.
-use Rattle.finding.proofs.Common.{◌++◌, ◌<◌, ◌∙◌, ◌∷◌, ◌≡◌, Choice, HasOnePlaces-from_history, History, IsBegun, Line, List, None, Option, Some, [], ap, cpu_named, number_named, refl, state_of, subst, sym, ℕ}
-use Rattle.std.proofs.Common.{Bool, true, false, get_or, zero, suc, ◌⊎◌, inl, inr}
+use Rattle.finding.proofs.Common.{◌++◌, ◌+◌, ◌<◌, ◌∙◌, ◌∷◌, ◌≡◌, ◌≤◌, Choice, HasOnePlaces-from_history, History, IsBegun, Line, List, None, Option, Some, [], ap, arith, cpu_named, number_named, rank_of, refl, slice_get, state_of, subst, sym, ℕ}
+use Rattle.std.proofs.Common.{Bool, true, false, get_or, zero, suc}
 use Rattle.std.specs.Prelude.{IfSome, slice_set}
+use Rattle.std.proofs.lemmas.Option.{slice_get-get_or}
+use Rattle.rmm_spec.specs.declared.call.Call.{Call}
 use Rattle.rmm_spec.specs.declared.command.Command.{Command}
 use Rattle.rmm_spec.specs.declared.event.Event.{Event}
-use Rattle.rmm_spec.specs.Call.{call_of}
 use Rattle.rmm_spec.specs.declared.reply.Reply.{Reply}
-use Rattle.rmm_spec.specs.Linearization.{IsCalled, IsKnown, IsReplyOf, IsReturned}
+use Rattle.rmm_spec.specs.Call.{call_of}
+use Rattle.rmm_spec.specs.Linearization.{IsCalled, IsReplyOf, IsReturned}
 use Rattle.rmm_spec.specs.Locks.{is_named}
 use Rattle.rmm_spec.specs.Ownership.{is_accepted}
 use Rattle.rmm_spec.specs.Step.Terms.{named}
+use Rattle.rmi_view.specs.Seen.{reply_seen}
+use Rattle.rmi_view.specs.declared.reply.ReplyRef.{ReplyRef}
 use Rattle.spec_lemmas.proofs.Calls.{same_command, same_reply, told_at_call}
 use Rattle.verdict_laws.specs.Order.{IsNext}
-use Rattle.verdict_laws.specs.Apart.{is_apart_from, lent}
-use Rattle.verdict_laws.specs.Forward.{AreOpen, IsOpen}
-use Rattle.verdict_laws.specs.Separate.{AreSeparate, AreSeparateLines}
+use Rattle.verdict_laws.specs.Apart.{IsCarriedOut, is_apart_from, lent, lets_lend}
+use Rattle.verdict_laws.specs.Beside.{AreBeside}
+use Rattle.verdict_laws.specs.Ending.{EndsApart}
+use Rattle.verdict_laws.specs.Forward.{AreOpen, IsKept, IsOpen, Passes}
+use Rattle.verdict_laws.specs.Making.{AreMadeApart}
 use Rattle.verdict_laws.proofs.Steps.{kept_line}
-use Rattle.verdict_laws.proofs.Passing.{Passes-from_done_lending, Passes-from_lending, Passes-from_separate}
+use Rattle.verdict_laws.proofs.Passing.{Passes-from_done_lending, Passes-from_ending, Passes-from_entry, Passes-from_lending, Passes-from_lent, Passes-from_made_apart, Passes-from_work}
 use Rattle.finding.specs.Begun.{Holds, IsGroup}
-use Rattle.finding.specs.Choice.{IsNextOf}
-use Rattle.finding.specs.Group.{AreSeparateCalls, IsNextApart, IsNextCarriedOut, IsReplyTo, LendsNext, NamesOthersNext, PassInside, PassesCpu, is_outside}
+use Rattle.finding.specs.Group.{PassInside, PassesWhere, is_outside}
+use Rattle.finding.specs.MayPass.{AreRelated, MayPass, Apart, Ends, Enters, LendsApart, LendsFirst, LendsLast, Works}
+use Rattle.finding.specs.Next as next
+use Rattle.finding.specs.Next.{AreOpenCalls, HasNoneBefore, IsNextFound, IsNextWith}
 use Rattle.finding.specs.declared.begun.Begun.{Begun}
+use Rattle.finding.specs.declared.next_call.NextCall.{NextCall}
 use Rattle.finding.proofs.TriedLaws.{counted, of_machine}
 
 -- the last two of open lines are open
@@ -33,157 +42,174 @@ module _ (history : History) (begun : Begun) (is_begun : IsBegun history begun) 
   -- a line of the CPU's next call names it
   next_number : (lines : List Line) (line : Line) (cpu : ℕ) → Holds history begun lines → cpu_named line ≡ cpu → IsNext history.events lines line
       → number_named line ≡ get_or begun.front.counts cpu 0
-  next_number lines line cpu holds of_cpu next =
+  next_number lines line cpu holds of_cpu is_next =
       let within = of_machine history is_begun.front.is_history lines (state_of begun.machine) holds.reached begun.front.counts holds.counts
-      (cpu_named line) (number_named line) next.known in
-      next.numbered
+      (cpu_named line) (number_named line) is_next.known in
+      is_next.numbered
       ∙ sym (counted history is_begun.front.is_history lines (state_of begun.machine) holds.reached begun.front.counts holds.counts
       (cpu_named line) within)
       ∙ ap (λ (c : ℕ). get_or begun.front.counts c 0) of_cpu
 
-  module _ (cpu : ℕ) (choice : Choice) (is_next : IsNextOf history begun.front.counts cpu (Some choice)) (command : Command)
-      (made : (c : ℕ) × (n : ℕ) × IsCalled history.events choice.places.called c n command) where
-    -- so it has that call's command
-    next_command : (lines : List Line) (line : Line) → Holds history begun lines → cpu_named line ≡ cpu → IsNext history.events lines line
-        → (called : ℕ) (other : Command) → IsCalled history.events called (cpu_named line) (number_named line) other → command ≡ other
-    next_command lines line holds of_cpu next called other is_called =
-        let here = told_at_call history.events choice.places.called choice.cpu choice.number command is_next.0.places.called made in
-        let same_cpu : choice.cpu ≡ cpu_named line = is_next.1 ∙ sym of_cpu in
-        let same_number : choice.number ≡ number_named line =
-        is_next.0.numbered ∙ ap (λ (c : ℕ). get_or begun.front.counts c 0) is_next.1 ∙ sym (next_number lines line cpu holds of_cpu next) in
-        let there : IsCalled history.events choice.places.called (cpu_named line) (number_named line) command =
-        subst (λ (c : ℕ). IsCalled history.events choice.places.called c (number_named line) command) same_cpu
-        (subst (λ (n : ℕ). IsCalled history.events choice.places.called choice.cpu n command) same_number here) in
-        same_command history.events (HasOnePlaces-from_history history is_begun.front.is_history) choice.places.called called (cpu_named line)
-        (number_named line) command other there is_called
+  module _ (cpu : ℕ) (call : NextCall) (is : IsNextWith history begun.front.counts cpu call) (lines : List Line) (line : Line)
+      (holds : Holds history begun lines) (of_cpu : cpu_named line ≡ cpu) (is_next : IsNext history.events lines line) where
+    same_cpu : call.choice.cpu ≡ cpu_named line
+    same_cpu = is.is_next.1 ∙ sym of_cpu
 
-    -- it lends what its command lends
-    pub LendsNext-command : (granule : ℕ) → lent (call_of command) ≡ Some granule → LendsNext history begun cpu granule
-    LendsNext-command granule lends = λ lines line holds of_cpu next called other is_called.
-        subst (λ (c : Command). lent (call_of c) ≡ Some granule) (next_command lines line holds of_cpu next called other is_called) lends
+    same_number : call.choice.number ≡ number_named line
+    same_number =
+        is.is_next.0.numbered ∙ ap (λ (c : ℕ). get_or begun.front.counts c 0) is.is_next.1
+        ∙ sym (next_number lines line cpu holds of_cpu is_next)
 
-    pub LendsNext-lent : (lends : Option ℕ) → lends ≡ lent (call_of command) → IfSome lends (LendsNext history begun cpu)
-    LendsNext-lent None is = tt
-    LendsNext-lent (Some granule) is = LendsNext-command granule (sym is)
+    -- its command is that call's
+    line_call : (called : ℕ) (other : Command) → IsCalled history.events called (cpu_named line) (number_named line) other → call.call ≡ call_of other
+    line_call called other is_called =
+        let there : IsCalled history.events call.choice.places.called (cpu_named line) (number_named line) is.command =
+        subst (λ (c : ℕ). IsCalled history.events call.choice.places.called c (number_named line) is.command) same_cpu
+        (subst (λ (n : ℕ). IsCalled history.events call.choice.places.called call.choice.cpu n is.command) same_number is.is_called) in
+        is.is_call
+        ∙ ap call_of (same_command history.events (HasOnePlaces-from_history history is_begun.front.is_history) call.choice.places.called called
+        (cpu_named line) (number_named line) is.command other there is_called)
 
-    -- and is apart from what its command is apart from
-    pub IsNextApart-command : (granule : ℕ) → is_apart_from (call_of command) granule ≡ true → IsNextApart history begun cpu granule
-    IsNextApart-command granule apart = λ lines line holds of_cpu next called other is_called.
-        subst (λ (c : Command). is_apart_from (call_of c) granule ≡ true) (next_command lines line holds of_cpu next called other is_called) apart
+    -- and so is its reply
+    line_reply : (other : Reply) → IsReplyOf history.events line other → next.IsReplyOf call other
+    line_reply other is_reply = by call.reply is.returned
+      where
+        by : (found : Option ReplyRef)
+            → IfSome found (λ r. (place : ℕ) × IsReturned history.events place call.choice.cpu call.choice.number (reply_seen r))
+            → IfSome found (λ r. reply_seen r ≡ other)
+        by None returned = tt
+        by (Some r) returned =
+            let there : IsReturned history.events returned.0 (cpu_named line) (number_named line) (reply_seen r) =
+            subst (λ (c : ℕ). IsReturned history.events returned.0 c (number_named line) (reply_seen r)) same_cpu
+            (subst (λ (n : ℕ). IsReturned history.events returned.0 call.choice.cpu n (reply_seen r)) same_number returned.1) in
+            let kept = kept_line history.events line (cpu_named line) (number_named line) is_next.kind refl refl (returned.0, reply_seen r, there) in
+            let is_given : IsReplyOf history.events line (reply_seen r) =
+            subst (λ (l : Line). IsReplyOf history.events l (reply_seen r)) (sym kept) (returned.0, there) in
+            same_reply history.events (HasOnePlaces-from_history history is_begun.front.is_history) line (reply_seen r) other is_given is_reply
 
-    -- and names what its command names
-    pub NamesOthersNext-command : (granule : ℕ) → is_named (named (call_of command)) granule ≡ false → NamesOthersNext history begun cpu granule
-    NamesOthersNext-command granule others = λ lines line holds of_cpu next called other is_called.
-        subst (λ (c : Command). is_named (named (call_of c)) granule ≡ false) (next_command lines line holds of_cpu next called other is_called)
-        others
+    -- where the call was carried out, the line's is
+    line_done : next.IsCarriedOut call → IsCarriedOut history.events line
+    line_done done = λ given is_reply. by call.reply given done (line_reply given is_reply)
+      where
+        by : (found : Option ReplyRef) (given : Reply) → next.IsAccepted found → IfSome found (λ r. reply_seen r ≡ given)
+            → is_accepted given ≡ true
+        by None given accepted same = absurd accepted
+        by (Some r) given accepted same = subst (λ (g : Reply). is_accepted g ≡ true) same accepted
 
-  module _ (cpu : ℕ) (choice : Choice) (is_next : IsNextOf history begun.front.counts cpu (Some choice)) where
-    -- where the call returned, the line has its reply
-    next_reply : (given : Reply) → (returned : ℕ) × IsReturned history.events returned choice.cpu choice.number given
-        → (lines : List Line) (line : Line) → Holds history begun lines → cpu_named line ≡ cpu → IsNext history.events lines line
-        → (other : Reply) → IsReplyOf history.events line other → given ≡ other
-    next_reply given told lines line holds of_cpu next other is_reply =
-        let same_cpu : choice.cpu ≡ cpu_named line = is_next.1 ∙ sym of_cpu in
-        let same_number : choice.number ≡ number_named line =
-        is_next.0.numbered ∙ ap (λ (c : ℕ). get_or begun.front.counts c 0) is_next.1 ∙ sym (next_number lines line cpu holds of_cpu next) in
-        let there : IsReturned history.events told.0 (cpu_named line) (number_named line) given =
-        subst (λ (c : ℕ). IsReturned history.events told.0 c (number_named line) given) same_cpu
-        (subst (λ (n : ℕ). IsReturned history.events told.0 choice.cpu n given) same_number told.1) in
-        let kept = kept_line history.events line (cpu_named line) (number_named line) next.kind refl refl (told.0, given, there) in
-        let is_given : IsReplyOf history.events line given =
-        subst (λ (l : Line). IsReplyOf history.events l given) (sym kept) (told.0, there) in
-        same_reply history.events (HasOnePlaces-from_history history is_begun.front.is_history) line given other is_given is_reply
+  module _ (place cpu other : ℕ) (one two : NextCall) (is_one : IsNextWith history begun.front.counts cpu one)
+      (is_two : IsNextWith history begun.front.counts other two) (lines : List Line) (line later : Line)
+      (kept : IsKept history place lines (state_of begun.machine)) (holds : Holds history begun lines)
+      (of_cpu : cpu_named line ≡ cpu) (of_other : cpu_named later ≡ other)
+      (opened : IsOpen history.events place lines line × IsOpen history.events place lines later) where
+    -- what relates the calls relates the lines' commands
+    commands_related : (related : Call → Call → Type 0) → related one.call two.call → (called called_too : ℕ) (command also : Command)
+        → IsCalled history.events called (cpu_named line) (number_named line) command
+        → IsCalled history.events called_too (cpu_named later) (number_named later) also → related (call_of command) (call_of also)
+    commands_related related are called called_too command also is_called is_called_too =
+        subst (λ (c : Call). related c (call_of also))
+        (line_call cpu one is_one lines line holds of_cpu opened.0.next called command is_called)
+        (subst (λ (c : Call). related one.call c)
+        (line_call other two is_two lines later holds of_other opened.1.next called_too also is_called_too) are)
 
-    -- so it is carried out where the call was
-    pub IsNextCarriedOut-returned : (given : Reply) → (returned : ℕ) × IsReturned history.events returned choice.cpu choice.number given
-        → is_accepted given ≡ true → IsNextCarriedOut history begun cpu
-    IsNextCarriedOut-returned given told accepted = λ lines line holds of_cpu next other is_reply.
-        subst (λ (r : Reply). is_accepted r ≡ true) (next_reply given told lines line holds of_cpu next other is_reply) accepted
+    -- and with their replies the lines
+    lines_related : (related : Call → Reply → Call → Reply → Type 0) → AreRelated related one two
+        → (called called_too : ℕ) (command also : Command) (given answered : Reply)
+        → IsCalled history.events called (cpu_named line) (number_named line) command → IsReplyOf history.events line given
+        → IsCalled history.events called_too (cpu_named later) (number_named later) also → IsReplyOf history.events later answered
+        → related (call_of command) given (call_of also) answered
+    lines_related related are called called_too command also given answered is_called is_given is_called_too is_answered =
+        commands_related (λ c d. related c given d answered)
+        (are given answered (line_reply cpu one is_one lines line holds of_cpu opened.0.next given is_given)
+        (line_reply other two is_two lines later holds of_other opened.1.next answered is_answered))
+        called called_too command also is_called is_called_too
 
-  -- a CPU that has no next call has none that isn't apart
-  pub IsNextApart-none : (cpu granule : ℕ) → IsNextOf history begun.front.counts cpu None → IsNextApart history begun cpu granule
-  IsNextApart-none cpu granule none = λ lines line holds of_cpu next called other is_called.
-      absurd (none (subst (λ (n : ℕ). IsKnown history.events cpu n) (next_number lines line cpu holds of_cpu next)
-      (subst (λ (c : ℕ). IsKnown history.events c (number_named line)) of_cpu next.known)))
+    -- the line passes the other where its call may pass the other's
+    Passes-may : MayPass one two → Passes history place lines (state_of begun.machine) line later
+    Passes-may (LendsApart granule lends apart) =
+        Passes-from_lending history place lines (state_of begun.machine) line later granule kept
+        (λ called c is_called. subst (λ (x : Call). lent x ≡ Some granule)
+        (line_call cpu one is_one lines line holds of_cpu opened.0.next called c is_called) lends)
+        (λ called c is_called. subst (λ (x : Call). is_apart_from x granule ≡ true)
+        (line_call other two is_two lines later holds of_other opened.1.next called c is_called) apart)
+    Passes-may (LendsFirst granule lends done unnamed) =
+        Passes-from_done_lending history place lines (state_of begun.machine) line later granule kept
+        (λ called c is_called. subst (λ (x : Call). lent x ≡ Some granule)
+        (line_call cpu one is_one lines line holds of_cpu opened.0.next called c is_called) lends)
+        (line_done cpu one is_one lines line holds of_cpu opened.0.next done)
+        (λ called c is_called. subst (λ (x : Call). is_named (named x) granule ≡ false)
+        (line_call other two is_two lines later holds of_other opened.1.next called c is_called) unnamed)
+    Passes-may (LendsLast granule lends done lets) =
+        Passes-from_lent history place lines (state_of begun.machine) line later granule kept
+        (λ called c is_called. subst (λ (x : Call). lent x ≡ Some granule)
+        (line_call other two is_two lines later holds of_other opened.1.next called c is_called) lends)
+        (line_done other two is_two lines later holds of_other opened.1.next done)
+        (λ called called_too command also is_called is_called_too.
+        commands_related (λ c d. lets_lend c d granule ≡ true) lets called called_too command also is_called is_called_too)
+    Passes-may (Apart related) =
+        Passes-from_made_apart history place lines (state_of begun.machine) line later kept (lines_related AreMadeApart related)
+    Passes-may (Enters beside) =
+        Passes-from_entry history place lines (state_of begun.machine) line later kept
+        (λ called called_too command also answered is_called is_called_too is_answered.
+        commands_related (λ c d. AreBeside c d answered)
+        (beside answered (line_reply other two is_two lines later holds of_other opened.1.next answered is_answered))
+        called called_too command also is_called is_called_too)
+    Passes-may (Works beside) =
+        Passes-from_work history place lines (state_of begun.machine) line later kept
+        (λ called_too called also command given is_called_too is_called is_given.
+        commands_related (λ c d. AreBeside d c given)
+        (beside given (line_reply cpu one is_one lines line holds of_cpu opened.0.next given is_given))
+        called called_too command also is_called is_called_too)
+    Passes-may (Ends apart done done_too) =
+        Passes-from_ending history place lines (state_of begun.machine) line later kept
+        (λ called called_too command also is_called is_called_too.
+        commands_related EndsApart apart called called_too command also is_called is_called_too)
+        (line_done cpu one is_one lines line holds of_cpu opened.0.next done)
+        (line_done other two is_two lines later holds of_other opened.1.next done_too)
 
-  -- nor any that has to pass or be passed
-  none_next : (cpu : ℕ) → IsNextOf history begun.front.counts cpu None → (lines : List Line) (line : Line) → Holds history begun lines
-      → cpu_named line ≡ cpu → ¬ IsNext history.events lines line
-  none_next cpu none lines line holds of_cpu next =
-      none (subst (λ (n : ℕ). IsKnown history.events cpu n) (next_number lines line cpu holds of_cpu next)
-      (subst (λ (c : ℕ). IsKnown history.events c (number_named line)) of_cpu next.known))
+  -- a line whose call wasn't made before the place isn't open there
+  not_open : (place cpu : ℕ) → HasNoneBefore history begun.front.counts place cpu → (lines : List Line) (line : Line)
+      → Holds history begun lines → cpu_named line ≡ cpu → ¬ IsOpen history.events place lines line
+  not_open place cpu none lines line holds of_cpu opened =
+      let behind = none opened.called opened.command
+      (subst (λ (n : ℕ). IsCalled history.events opened.called cpu n opened.command) (next_number lines line cpu holds of_cpu opened.next)
+      (subst (λ (c : ℕ). IsCalled history.events opened.called c (number_named line) opened.command) of_cpu opened.is_called)) in
+      let before = opened.before in
+      absurd (omega (arith, behind, before))
 
-  pub NamesOthersNext-none : (cpu granule : ℕ) → IsNextOf history begun.front.counts cpu None → NamesOthersNext history begun cpu granule
-  NamesOthersNext-none cpu granule none = λ lines line holds of_cpu next. absurd (none_next cpu none lines line holds of_cpu next)
-
-  pub PassesCpu-none : (cpu other : ℕ) → IsNextOf history begun.front.counts cpu None ⊎ IsNextOf history begun.front.counts other None
-      → PassesCpu history begun cpu other
-  PassesCpu-none cpu other nobody = λ place lines line later kept holds of_cpu of_other before old new are_open earlier given.
-      let opened = two_open history.events place lines before line later are_open in
-      elim nobody [
-        | inl none ↦ absurd (none_next cpu none lines line holds of_cpu opened.0.next)
-        | inr none ↦ absurd (none_next other none lines later holds of_other opened.1.next)
-      ]
-
-  -- a call may as well come behind one from which it is separate
-  pub PassesCpu-separate : (cpu other : ℕ) (one two : Choice) → IsNextOf history begun.front.counts cpu (Some one)
-      → IsNextOf history begun.front.counts other (Some two) → AreSeparateCalls history.events one two → PassesCpu history begun cpu other
-  PassesCpu-separate cpu other one two is_one is_two calls =
-      λ place lines line later kept holds of_cpu of_other before old new are_open earlier given.
-      let opened = two_open history.events place lines before line later are_open in
-      let separate : AreSeparateLines history.events line later =
-      λ called called_too command also told answered is_called is_given is_called_too is_answered.
-      let same_command = next_command cpu one is_one calls.command (one.cpu, one.number, calls.is_called) lines line holds of_cpu opened.0.next called
-      command is_called in
-      let same_also = next_command other two is_two calls.also (two.cpu, two.number, calls.is_called_too) lines later holds of_other opened.1.next
-      called_too also is_called_too in
-      let replied : IsReplyTo history.events one told =
-      λ at r returned. next_reply cpu one is_one r (at, returned) lines line holds of_cpu opened.0.next told is_given in
-      let replied_too : IsReplyTo history.events two answered =
-      λ at r returned. next_reply other two is_two r (at, returned) lines later holds of_other opened.1.next answered is_answered in
-      subst (λ (c : Command). AreSeparate (call_of c) told (call_of also) answered) same_command
-      (subst (λ (c : Command). AreSeparate (call_of calls.command) told (call_of c) answered) same_also
-      (calls.separate told answered replied replied_too)) in
-      Passes-from_separate history place lines (state_of begun.machine) line later separate before old new are_open earlier given
-
-  -- a call that lends a granule may as well come behind one that is apart from it
-  pub PassesCpu-apart : (cpu other granule : ℕ) → LendsNext history begun cpu granule → IsNextApart history begun other granule
-      → PassesCpu history begun cpu other
-  PassesCpu-apart cpu other granule lends apart = λ place lines line later kept holds of_cpu of_other before old new are_open earlier given.
-      let opened = two_open history.events place lines before line later are_open in
-      Passes-from_lending history place lines (state_of begun.machine) line later granule kept
-      (lends lines line holds of_cpu opened.0.next) (apart lines later holds of_other opened.1.next) before old new are_open earlier given
-
-  -- where it is carried out, it may come behind one that doesn't name the granule
-  pub PassesCpu-done : (cpu other granule : ℕ) → LendsNext history begun cpu granule → IsNextCarriedOut history begun cpu
-      → NamesOthersNext history begun other granule → PassesCpu history begun cpu other
-  PassesCpu-done cpu other granule lends done others = λ place lines line later kept holds of_cpu of_other before old new are_open earlier given.
-      let opened = two_open history.events place lines before line later are_open in
-      Passes-from_done_lending history place lines (state_of begun.machine) line later granule kept
-      (lends lines line holds of_cpu opened.0.next) (done lines line holds of_cpu opened.0.next)
-      (others lines later holds of_other opened.1.next) before old new are_open earlier given
-
-  -- an open call is of one of the machine's CPUs, so that only these need pass
-  PassesCpu-bounded : (cpu other : ℕ) → (cpu < history.config.cpus → other < history.config.cpus → PassesCpu history begun cpu other)
-      → PassesCpu history begun cpu other
-  PassesCpu-bounded cpu other passes = λ place lines line later kept holds of_cpu of_other before old new are_open earlier given.
-      let opened = two_open history.events place lines before line later are_open in
-      let within : (x : Line) → IsOpen history.events place lines x → cpu_named x < history.config.cpus =
-      λ x is_open. of_machine history is_begun.front.is_history lines (state_of begun.machine) holds.reached begun.front.counts holds.counts
-      (cpu_named x) (number_named x) is_open.next.known in
-      passes (subst (λ (c : ℕ). c < history.config.cpus) of_cpu (within line opened.0))
-      (subst (λ (c : ℕ). c < history.config.cpus) of_other (within later opened.1)) place lines line later kept holds of_cpu of_other
-      before old new are_open earlier given
+  -- by what is found of both CPUs' calls
+  Passes-found : (place cpu other : ℕ) (one two : Option NextCall) → IsNextFound history begun.front.counts place cpu one
+      → IsNextFound history begun.front.counts place other two → PassesWhere one two → (lines : List Line) (line later : Line)
+      → IsKept history place lines (state_of begun.machine) → Holds history begun lines → cpu_named line ≡ cpu → cpu_named later ≡ other
+      → Passes history place lines (state_of begun.machine) line later
+  Passes-found place cpu other None two here there may lines line later kept holds of_cpu of_other before old new are_open earlier given =
+      absurd (not_open place cpu here lines line holds of_cpu (two_open history.events place lines before line later are_open).0)
+  Passes-found place cpu other (Some one) None here there may lines line later kept holds of_cpu of_other before old new are_open earlier given =
+      absurd (not_open place other there lines later holds of_other (two_open history.events place lines before line later are_open).1)
+  Passes-found place cpu other (Some one) (Some two) here there may lines line later kept holds of_cpu of_other before old new are_open earlier is =
+      Passes-may place cpu other one two here there lines line later kept holds of_cpu of_other
+      (two_open history.events place lines before line later are_open) may before old new are_open earlier is
 
   -- so the CPUs inside are a group
-  pub IsGroup-drawn : (first : Choice) (group : ℕ → Bool) → group first.cpu ≡ true → PassInside history begun group history.config.cpus
+  pub IsGroup-drawn : (first : Choice) (calls : List (Option NextCall)) (group : ℕ → Bool) → group first.cpu ≡ true
+      → history.config.cpus ≤ 8 → AreOpenCalls history begun.front.counts (rank_of first) calls → PassInside calls group 8
       → IsGroup history begun first group
-  IsGroup-drawn first group has passes = record {
+  IsGroup-drawn first calls group has few are pass = record {
     has_first = has;
-    passes = λ place lines line other kept holds is_out is_in.
-        PassesCpu-bounded (cpu_named line) (cpu_named other)
-        (λ within other_within. passes (cpu_named line) within is_out (cpu_named other) other_within is_in)
-        place lines line other kept holds refl refl;
+    passes = λ lines line other kept holds is_out is_in before old new are_open earlier given.
+        let opened = two_open history.events (rank_of first) lines before line other are_open in
+        let within : (x : Line) → IsOpen history.events (rank_of first) lines x → cpu_named x < history.config.cpus =
+        λ x is_open. of_machine history is_begun.front.is_history lines (state_of begun.machine) holds.reached begun.front.counts holds.counts
+        (cpu_named x) (number_named x) is_open.next.known in
+        let one = within line opened.0 in
+        let two = within other opened.1 in
+        let eight = are.eight in
+        let here = slice_get-get_or calls (cpu_named line) None (omega (arith, one, few, eight)) in
+        let there = slice_get-get_or calls (cpu_named other) None (omega (arith, two, few, eight)) in
+        Passes-found (rank_of first) (cpu_named line) (cpu_named other) (get_or calls (cpu_named line) None) (get_or calls (cpu_named other) None)
+        (are.each (cpu_named line) (get_or calls (cpu_named line) None) one here)
+        (are.each (cpu_named other) (get_or calls (cpu_named other) None) two there)
+        (pass (cpu_named line) (omega (arith, one, few)) is_out (cpu_named other) (omega (arith, two, few)) is_in)
+        lines line other kept holds refl refl before old new are_open earlier given;
   }
 
 -- a CPU that comes inside is inside

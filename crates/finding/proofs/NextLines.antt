@@ -107,7 +107,7 @@ module _ (history : History) (is_history : IsHistory history) (begun : Begun) (g
         is_least first.cpu first.number first_returned.0 first_returned.1 (omega (arith, at)) in
         nowhere_unless_inside history is_history (rank_of first) lines (state_of begun.machine) kept first.cpu first.number
         (λ line. group (cpu_named line)) is_group.has_first
-        (λ line other outside inside. is_group.passes (rank_of first) lines line other kept holds outside inside)
+        (λ line other outside inside. is_group.passes lines line other kept holds outside inside)
         (λ line new inside is_open given.
         each_nowhere history is_history lines (state_of begun.machine) holds.reached begun.front.counts holds.counts group left.from left.above
         tried least none_sooner past line inside is_open.next)
@@ -137,7 +137,7 @@ module _ (history : History) (is_history : IsHistory history) (begun : Begun) (g
           is_least first.cpu first.number first_returned.0 first_returned.1 (omega (arith, at)) in
           nowhere_unless_inside history is_history (rank_of first) lines (state_of begun.machine) kept first.cpu first.number
           (λ line. group (cpu_named line)) is_group.has_first
-          (λ line other outside inside. is_group.passes (rank_of first) lines line other kept holds outside inside)
+          (λ line other outside inside. is_group.passes lines line other kept holds outside inside)
           (λ line new inside is_open given.
           let within = of_machine history is_history lines (state_of begun.machine) holds.reached begun.front.counts holds.counts
           (cpu_named line) (number_named line) is_open.next.known in

@@ -11,9 +11,11 @@ use Rattle.rmm_spec.specs.Locks.{is_named}
 use Rattle.rmm_spec.specs.Rows.{Needed}
 use Rattle.rmm_spec.specs.Step.Terms.{named}
 use Rattle.rmi_view.specs.Seen.{reply_seen}
-use Rattle.verdict_laws.specs.Separate.{AreSeparate, is_freed, is_local, table_realm, works_on}
-use Rattle.finding.specs.Group.{AreSeparateCalls, IsWorkOf}
-use Rattle.finding.specs.declared.choice.Choice.{Choice}
+use Rattle.verdict_laws.specs.Making.{AreMadeApart, is_making, own_realm, taken_vmid}
+use Rattle.verdict_laws.specs.Separate.{is_local, works_on}
+use Rattle.finding.specs.MayPass.{AreRelated}
+use Rattle.finding.specs.Next.{IsReplyOf, IsWorkOf}
+use Rattle.finding.specs.declared.next_call.NextCall.{NextCall}
 use Rattle.finding.specs.declared.separate.Work.{Work}
 
 -- what passes for none of the granules that are named doesn't for one that is
@@ -27,32 +29,26 @@ unnamed-elsewhere p (n ∷ names) g none named =
       | inr there ↦ unnamed-elsewhere p names g parts.1 there
     ]
 
--- what works on a granule with one reply does with any that frees the same
-works_on-replied : (c : Call) (given told : Reply) (g : ℕ) → is_freed c given g ≡ is_freed c told g → works_on c given g ≡ works_on c told g
-works_on-replied c given told g same = ap (λ (b : Bool). is_named (named c) g || b) same
+-- what a call works on is what its work does, whatever it is replied
+pub works_on-known : (next : NextCall) (work : Work) → IsWorkOf next work → (given : Reply) (g : ℕ) → IsReplyOf next given
+    → works_on next.call given g ≡ works_on work.call (reply_seen work.reply) g
+works_on-known next work is given g replied =
+    ap (λ (b : Bool). is_named (named next.call) g || b) (is.frees given g replied)
+    ∙ ap (λ (c : Call). works_on c (reply_seen work.reply) g) (sym is.is_call)
 
--- two works of which this is found are of separate calls
-pub AreSeparate-works : (events : List Event) (one two : Choice) (first second : Work) → IsWorkOf events one first → IsWorkOf events two second
-    → is_local first.call ≡ true → is_local second.call ≡ true
-    → ((rd other : ℕ) → table_realm first.call ≡ Some rd → table_realm second.call ≡ Some other → ¬ (rd ≡ other))
+-- two works of which this is found are of calls that are apart
+pub AreRelated-made_apart : (one two : NextCall) (first second : Work) → IsWorkOf one first → IsWorkOf two second
+    → (is_making one.call || is_local one.call) ≡ true → (is_making two.call || is_local two.call) ≡ true
+    → ((rd other : ℕ) → own_realm one.call ≡ Some rd → own_realm two.call ≡ Some other → ¬ (rd ≡ other))
+    → ((vmid other : ℕ) → taken_vmid one.call ≡ Some vmid → taken_vmid two.call ≡ Some other → ¬ (vmid ≡ other))
     → ((g : ℕ) → works_on first.call (reply_seen first.reply) g ≡ true → works_on second.call (reply_seen second.reply) g ≡ false)
-    → AreSeparateCalls events one two
-AreSeparate-works events one two first second here there is is_too realms granules = record {
-  command = here.command;
-  also = there.command;
-  is_called = here.is_called;
-  is_called_too = there.is_called;
-  separate = λ given answered replied replied_too.
-      let whole : AreSeparate (call_of here.command) (reply_seen first.reply) (call_of there.command) (reply_seen second.reply) =
-      subst (λ (c : Call). AreSeparate c (reply_seen first.reply) (call_of there.command) (reply_seen second.reply)) here.is_call
-      (subst (λ (d : Call). AreSeparate first.call (reply_seen first.reply) d (reply_seen second.reply)) there.is_call
-      (record { first = is; second = is_too; realms = realms; granules = granules })) in
-      record {
-        first = whole.first;
-        second = whole.second;
-        realms = whole.realms;
-        granules = λ g works.
-            works_on-replied (call_of there.command) answered (reply_seen second.reply) g (there.frees answered g replied_too)
-            ∙ whole.granules g (sym (works_on-replied (call_of here.command) given (reply_seen first.reply) g (here.frees given g replied)) ∙ works);
-      };
+    → AreRelated AreMadeApart one two
+AreRelated-made_apart one two first second here there is is_too realms vmids granules = λ given answered replied replied_too. record {
+  first = is;
+  second = is_too;
+  realms = realms;
+  vmids = vmids;
+  granules = λ g works.
+      works_on-known two second there answered g replied_too
+      ∙ granules g (sym (works_on-known one first here given g replied) ∙ works);
 }

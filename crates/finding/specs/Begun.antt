@@ -9,7 +9,7 @@ use Rattle.rmm_spec.specs.State.{State}
 use Rattle.spec_machine.specs.Patches.{IsWhole, Standing, patched, standing_of, state_at}
 use Rattle.spec_machine.specs.View.{state_of}
 use Rattle.verdict_laws.specs.Order.{LeadsNowhere, Reaches, ReturnBehind}
-use Rattle.finding.specs.Choice.{IsNextCall}
+use Rattle.finding.specs.Choice.{IsNextCall, rank_of}
 use Rattle.finding.specs.Counts.{AreCounts}
 use Rattle.finding.specs.Front.{IsFront}
 use Rattle.finding.specs.Tried.{TriedIn}
@@ -81,9 +81,9 @@ pub record Stays (history : History) (line : Line) (old new : Begun) : Type 0 wh
 -- other open call may as well come behind any of the group.
 pub record IsGroup (history : History) (begun : Begun) (first : Choice) (group : ℕ → Bool) : Type 0 where
   pub has_first : group first.cpu ≡ true
-  pub passes : (place : ℕ) (lines : List Line) (line other : Line) → IsKept history place lines (state_of begun.machine)
+  pub passes : (lines : List Line) (line other : Line) → IsKept history (rank_of first) lines (state_of begun.machine)
       → Holds history begun lines → group (cpu_named line) ≡ false → group (cpu_named other) ≡ true
-      → Passes history place lines (state_of begun.machine) line other
+      → Passes history (rank_of first) lines (state_of begun.machine) line other
 
 -- where each line of the group leads nowhere that isn't left, each leads nowhere that isn't left here
 abbrev pub GoesBehind : History → Begun → (ℕ → Bool) → Left → Left → Type 0

@@ -20,6 +20,12 @@ IsFoundWatched history limit stopped (found.Order certificate) = IsLinearization
 IsFoundWatched history limit stopped (found.None place) = HasNone history × IfSome place (HasNoneUpTo history)
 IsFoundWatched history limit stopped (found.GaveUp offers) = (limit ≤ offers.count) ⊎ stopped
 
+-- one of the two
+abbrev pub IsDecided : History → Found → Type 0
+IsDecided history (found.Order certificate) = IsLinearization history certificate.lines
+IsDecided history (found.None place) = HasNone history × IfSome place (HasNoneUpTo history)
+IsDecided history (found.GaveUp offers) = ⊥
+
 -- the same where nobody follows it
 abbrev pub IsFound : History → ℕ → Found → Type 0
 IsFound history limit (found.Order certificate) = IsLinearization history certificate.lines

@@ -13,3 +13,7 @@ pub mod Group
 pub mod Waiting
 pub mod Only
 pub mod Settled
+pub mod Judged
+pub mod Naming
+pub mod Next
+pub mod MayPass

@@ -53,3 +53,17 @@ fn frees_unnamed(call: &Call) -> bool
             | Call::RttRemove { .. }
     )
 }
+
+/// Whether a lending of the granule that is carried out behind a call may come before it.
+pub(crate) fn lets_lend(call: &Call, lending: &Call, granule: u64) -> bool
+    ensures { result ≡ spec.lets_lend call.now lending.now granule }
+{
+    !names(call, granule) && (is_delegation(lending) || !frees_unnamed(call))
+}
+
+#[tactic(auto, unfolding(verdict_laws::specs::Apart::is_delegation))]
+fn is_delegation(call: &Call) -> bool
+    ensures { result ≡ spec.is_delegation call.now }
+{
+    matches!(call, Call::GranuleDelegate { .. })
+}

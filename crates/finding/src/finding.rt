@@ -1,24 +1,25 @@
 //! Orders found from a history alone.
 
 ghost use Rattle.std.specs.Prelude.{IfOk, IfSome};
-ghost use Rattle.rmm_spec.specs.Linearization.{IsLinearization};
-ghost use Rattle.finding.specs.Found.{IsFound, IsFoundWatched};
+ghost use Rattle.finding.specs.Found.{HasNoneUpTo, IsDecided, IsFound, IsFoundWatched};
+ghost use Rattle.finding.specs.Judged.{IsJudged};
 
 use crate::forward::Bounds;
-use crate::judging::linearization;
+use crate::judging::{Judged, judgement_of};
 use crate::lines::certificate_of;
-use crate::naming::named_place;
+use crate::naming::{Beginning, beginning_up_to, named_before, named_place};
 use crate::offers::Offers;
 use crate::survey::{Answer, FIRST, answer_of};
 use crate::watch::{Unwatched, Watch};
 use certificate::Certificate;
-use guessing::guess;
+use guessing::{GuessedOrder, guess};
 use history::History;
 use std::alloc::{AllocError, Global};
-use std::cmp::max;
+use std::cmp::{max, min};
+use verdict_laws::first_parts_have_orders;
 
 /// How many orders that lack no call are kept at first.
-const FIRST_MOST: usize = 16;
+const FIRST_MOST: usize = 64;
 
 /// How many times as many are kept where orders were left out.
 const WIDER: usize = 8;
@@ -51,25 +52,35 @@ pub fn find_watched<W: Watch>(
     ensures { IfOk result (IsFoundWatched history.now.recorded limit (W.has_stopped watch.new)) }
 {
     let mut offers = Offers::none();
+    let mut suspected = None;
     if limit > 0 && watch.goes_on(FIRST) {
-        if let Some(order) = guessed(alloc, &mut offers, history)? {
-            return Ok(Found::Order(order));
+        match guessed(alloc, &mut offers, history)? {
+            Judged::Linearization(order) => return Ok(Found::Order(order)),
+            Judged::Fails(place) => suspected = place,
         }
     }
-    find_wider(alloc, offers, history, limit, watch)
+    find_wider(alloc, offers, history, limit, suspected, watch)
 }
 
-/// The guess, where it is a linearization.
-fn guessed(
-    alloc: Global,
-    offers: &mut Offers,
-    history: &History,
-) -> Result<Option<Certificate>, AllocError>
-    ensures { IfOk result (λ found. IfSome found (λ order. IsLinearization history.now.recorded order.lines)) }
+/// The guess, judged. Where it is no linearization, the place of the first return that it doesn't explain.
+fn guessed(alloc: Global, offers: &mut Offers, history: &History) -> Result<Judged, AllocError>
+    ensures { IfOk result (IsJudged history.now.recorded) }
 {
-    let cpus = guess(alloc, history)?;
+    let GuessedOrder { cpus, unexplained } = guess(alloc, history)?;
     let order = certificate_of(alloc, history, cpus.as_slice(), &[])?;
-    linearization(alloc, offers, history, order)
+    match judgement_of(alloc, offers, history, order)? {
+        Judged::Fails(place) => Ok(Judged::Fails(earlier(place, unexplained))),
+        order => Ok(order),
+    }
+}
+
+/// The earlier of two places, where there are two.
+fn earlier(one: Option<u32>, other: Option<u32>) -> Option<u32> {
+    match (one, other) {
+        (Some(one), Some(other)) => Some(min(one, other)),
+        (Some(place), None) | (None, Some(place)) => Some(place),
+        (None, None) => None,
+    }
 }
 
 /// Looks for orders return by return, and keeps more of them each time that some were left out.
@@ -78,11 +89,13 @@ fn find_wider<W: Watch>(
     offers: Offers,
     history: &History,
     limit: u64,
+    suspected: Option<u32>,
     watch: &mut W,
 ) -> Result<Found, AllocError>
     ensures { IfOk result (IsFoundWatched history.now.recorded limit (W.has_stopped watch.new)) }
 {
     let mut offers = offers;
+    let mut suspected = suspected;
     let mut most = FIRST_MOST;
     'wider: while offers.count() < limit {
         if !watch.goes_on(FIRST) {
@@ -94,17 +107,61 @@ fn find_wider<W: Watch>(
             limit: limit - offers.count(),
         };
         let mut made = Offers::none();
-        let answer = answer_of(alloc, &mut made, history, bounds, watch)?;
-        match answer {
-            Answer::Order(order) => return Ok(Found::Order(order)),
-            Answer::Lost(place) => {
-                let named = named_place(alloc, &mut made, history, bounds, place, watch)?;
-                return Ok(Found::None(named));
-            }
-            Answer::Open => {}
+        let found = look(alloc, &mut made, history, bounds, &mut suspected, watch)?;
+        if let Some(found) = found {
+            return Ok(found);
         }
         offers.add(max(made.count(), 1));
         most = most.saturating_mul(WIDER);
     }
     Ok(Found::GaveUp(offers))
+}
+
+/// Looks once: first at the events up to the return that is suspected to have no order, until it is known that they have one, and then at all.
+fn look<W: Watch>(
+    alloc: Global,
+    offers: &mut Offers,
+    history: &History,
+    bounds: Bounds,
+    suspected: &mut Option<u32>,
+    watch: &mut W,
+) -> Result<Option<Found>, AllocError>
+    ensures { IfOk result (λ found. IfSome found (IsDecided history.now.recorded)) }
+{
+    if let Some(last) = *suspected {
+        match beginning_up_to(alloc, offers, history, bounds, last, watch)? {
+            Beginning::Lost(place) => {
+                return found_none_up_to(alloc, offers, history, bounds, place, last, watch);
+            }
+            Beginning::Ordered => *suspected = None,
+            Beginning::Open => return Ok(None),
+        }
+    }
+    match answer_of(alloc, offers, history, bounds, watch)? {
+        Answer::Order(order) => Ok(Some(Found::Order(order))),
+        Answer::Lost(place) => {
+            let named = named_place(alloc, offers, history, bounds, place, watch)?;
+            Ok(Some(Found::None(named)))
+        }
+        Answer::Open => Ok(None),
+    }
+}
+
+/// There is none, since the events up to the last place have none: the return that is named is at that place or at an earlier one, from `place` on.
+fn found_none_up_to<W: Watch>(
+    alloc: Global,
+    offers: &mut Offers,
+    history: &History,
+    bounds: Bounds,
+    place: u32,
+    last: u32,
+    watch: &mut W,
+) -> Result<Option<Found>, AllocError>
+    requires { HasNoneUpTo history.now.recorded last }
+    ensures { IfOk result (λ found. IfSome found (IsDecided history.now.recorded)) }
+{
+    let _fact = history.well_formed();
+    let _law = first_parts_have_orders();
+    let named = named_before(alloc, offers, history, bounds, place, last, watch)?;
+    Ok(Some(Found::None(Some(named))))
 }

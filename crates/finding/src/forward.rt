@@ -81,7 +81,7 @@ pub(crate) fn forward<W: Watch>(
 }
 
 /// The orders that have the call which returned at the scope's place, from those that have all calls which returned before. None where the watch
-/// stops it.
+/// stops it, or where one lacks the call still after as many calls as there are CPUs.
 fn orders_after<W: Watch>(
     alloc: Global,
     offers: &mut Offers,

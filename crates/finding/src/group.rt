@@ -3,11 +3,12 @@
 ghost use Rattle.std.specs.Prelude.{◌≡◌, ◌<◌, false, true, IfNone, IfSome, IsTrue};
 ghost use Rattle.finding.specs.Begun.{IsBegun, IsGroup};
 ghost use Rattle.finding.specs.Choice.{IsNextCall};
-ghost use Rattle.finding.specs.Group.{PassInside, PassesCpu, PassesInside, is_inside};
+ghost use Rattle.finding.specs.Group.{PassInside, PassesAt, PassesInside, is_inside};
 
 use crate::begun::Begun;
-use crate::choice::{Choice, cpus_of};
-use crate::passing::passes_next;
+use crate::choice::{Choice, cpus_of, rank};
+use crate::next_call::{NextCall, open_calls};
+use crate::passing::may_pass;
 use history::History;
 
 /// The open call that returned first, and the CPUs outside of its group.
@@ -65,13 +66,14 @@ pub(crate) fn group_at(history: &History, begun: &Begun, first: Choice) -> Group
     ensures group { IsGroup history.now.recorded begun.now first (is_inside result) }
 {
     let _fact = cpus_of(history);
+    let calls = open_calls(history, &begun.front, rank(&first));
     let nobody = Group {
         first,
         outside: [true; 8],
     };
     let mut group = nobody.with(first.cpu);
     'drawn: for _cpu in 0..8 {
-        match drawn_in(history, begun, group) {
+        match drawn_in(&calls, group) {
             Some(cpu) => group = group.with(cpu),
             None => return group,
         }
@@ -82,60 +84,55 @@ pub(crate) fn group_at(history: &History, begun: &Begun, first: Choice) -> Group
     }
 }
 
-/// A CPU outside whose open call may have to come before one inside.
-fn drawn_in(history: &History, begun: &Begun, group: Group) -> Option<u8>
-    requires { IsBegun history.now.recorded begun.now }
+/// A CPU outside whose call may have to come before one inside.
+fn drawn_in(calls: &[Option<NextCall<'_>>; 8], group: Group) -> Option<u8>
     ensures some { IfSome result (λ cpu. cpu < 8) }
-    ensures none { IfNone result (PassInside history.now.recorded begun.now (is_inside group) history.now.recorded.config.cpus) }
+    ensures none { IfNone result (PassInside calls.now (is_inside group) 8) }
 {
-    for cpu in 0..cpus_of(history) {
-        if !stays_outside(history, begun, group, cpu) {
+    for cpu in 0..8 {
+        if !stays_outside(calls, group, cpu) {
             return Some(cpu);
         }
     }
     None
 }
 
-/// Whether the CPU is inside, or its open call may as well come behind each one inside.
-fn stays_outside(history: &History, begun: &Begun, group: Group, cpu: u8) -> bool
-    requires begun { IsBegun history.now.recorded begun.now }
-    requires cpu { cpu < history.now.recorded.config.cpus }
-    ensures { IsTrue result → is_inside group cpu ≡ false
-        → PassesInside history.now.recorded begun.now (is_inside group) cpu history.now.recorded.config.cpus }
+/// Whether the CPU is inside, or its call may as well come behind each one inside.
+fn stays_outside(calls: &[Option<NextCall<'_>>; 8], group: Group, cpu: u8) -> bool
+    requires { cpu < 8 }
+    ensures { IsTrue result → is_inside group cpu ≡ false → PassesInside calls.now (is_inside group) cpu 8 }
 {
-    let _fact = cpus_of(history);
     if group.has(cpu) {
         true
     } else {
-        passes_inside(history, begun, group, cpu)
+        passes_inside(calls, group, cpu)
     }
 }
 
-/// Whether the CPU's open call may as well come behind each one inside.
-fn passes_inside(history: &History, begun: &Begun, group: Group, cpu: u8) -> bool
-    requires begun { IsBegun history.now.recorded begun.now }
-    requires cpu { cpu < history.now.recorded.config.cpus }
-    ensures { IsTrue result → PassesInside history.now.recorded begun.now (is_inside group) cpu history.now.recorded.config.cpus }
+/// Whether the CPU's call may as well come behind each one inside.
+fn passes_inside(calls: &[Option<NextCall<'_>>; 8], group: Group, cpu: u8) -> bool
+    requires { cpu < 8 }
+    ensures { IsTrue result → PassesInside calls.now (is_inside group) cpu 8 }
 {
-    for other in 0..cpus_of(history) {
-        if !passes_where_inside(history, begun, group, cpu, other) {
+    for other in 0..8 {
+        if group.has(other) && !passes(calls, cpu, other) {
             return false;
         }
     }
     true
 }
 
-/// Whether the other CPU is outside, or the open call of the one may as well come behind its open call.
-fn passes_where_inside(history: &History, begun: &Begun, group: Group, cpu: u8, other: u8) -> bool
-    requires begun { IsBegun history.now.recorded begun.now }
-    requires cpu { cpu < history.now.recorded.config.cpus }
-    requires other { other < history.now.recorded.config.cpus }
-    ensures { IsTrue result → is_inside group other ≡ true → PassesCpu history.now.recorded begun.now cpu other }
+/// Whether the call of the one CPU may as well come behind that of the other, where both have one.
+fn passes(calls: &[Option<NextCall<'_>>; 8], cpu: u8, other: u8) -> bool
+    requires cpu { cpu < 8 }
+    requires other { other < 8 }
+    ensures { IsTrue result → PassesAt calls.now cpu other }
 {
-    let _fact = cpus_of(history);
-    if group.has(other) {
-        passes_next(history, begun, cpu, other)
-    } else {
-        true
+    let Some(one) = &calls[cpu as usize] else {
+        return true;
+    };
+    match &calls[other as usize] {
+        Some(two) => may_pass(one, two),
+        None => true,
     }
 }

@@ -1,10 +1,10 @@
 //! Orders that the checker judges.
 
-ghost use Rattle.std.specs.Prelude.{◌≡◌, IfOk, IfSome, take};
+ghost use Rattle.std.specs.Prelude.{◌≡◌, IfOk, take};
 ghost use Rattle.certificate.specs.LineRef.{line_seen};
 ghost use Rattle.rmm_spec.specs.FirstFault.{Passes};
-ghost use Rattle.rmm_spec.specs.Linearization.{IsLinearization};
 ghost use Rattle.rmm_spec.specs.State.{State};
+ghost use Rattle.finding.specs.Judged.{IsJudged};
 
 use crate::offers::Offers;
 use certificate::{Certificate, LineRef};
@@ -15,21 +15,43 @@ use rmm_spec::Line;
 use std::alloc::{AllocError, Global};
 use std::cmp::min;
 
-/// The order, where it is a linearization. Each line that is judged counts as a step.
-pub(crate) fn linearization(
+/// What the checker says of an order.
+#[derive(Drop)]
+pub(crate) enum Judged {
+    /// It is a linearization.
+    Linearization(Certificate),
+    /// It is none. The call of the line that fails returned at the place, where a line does and its call returned.
+    Fails(Option<u32>),
+}
+
+/// Judges an order. Each line that is judged counts as a step.
+pub(crate) fn judgement_of(
     alloc: Global,
     offers: &mut Offers,
     history: &History,
     order: Certificate,
-) -> Result<Option<Certificate>, AllocError>
-    ensures { IfOk result (λ found. IfSome found (λ order. IsLinearization history.now.recorded order.lines)) }
+) -> Result<Judged, AllocError>
+    ensures { IfOk result (IsJudged history.now.recorded) }
 {
     let _fact = history.well_formed();
     let judged = judged_order(alloc, history, &order)?;
     offers.add(judged.machine.offers());
     match judged.verdict {
-        Verdict::Yes(_) => Ok(Some(order)),
-        _ => Ok(None),
+        Verdict::Yes(_) => Ok(Judged::Linearization(order)),
+        Verdict::No { step, .. } => Ok(Judged::Fails(return_at(history, &order, step))),
+        _ => Ok(Judged::Fails(None)),
+    }
+}
+
+/// The place at which the call of the line at a step returned, where there is one.
+fn return_at(history: &History, order: &Certificate, step: u64) -> Option<u32> {
+    let index = step.checked_sub(1)?;
+    if index >= order.len() as u64 {
+        return None;
+    }
+    match order.line(index as usize) {
+        LineRef::Keep { cpu, number } => history.places_of(cpu, number)?.returned,
+        LineRef::Unfinished { .. } => None,
     }
 }
 

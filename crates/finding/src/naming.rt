@@ -2,11 +2,13 @@
 
 ghost use Rattle.std.specs.Prelude.{◌≤◌, IfOk, IfSome, IsTrue};
 ghost use Rattle.finding.specs.Found.{HasNoneUpTo};
+ghost use Rattle.finding.specs.Naming.{IsBeginning};
 
 use crate::first_part::first_part;
-use crate::forward::Bounds;
+use crate::forward::{Bounds, Survey, forward};
 use crate::offers::Offers;
 use crate::survey::{Answer, answer_of};
+use crate::unread::{reads_nothing, unread};
 use crate::watch::Watch;
 use history::History;
 use rmm_spec::Event;
@@ -18,6 +20,20 @@ const MOST: usize = 512;
 
 /// How many steps are tried at most to name it.
 const TRIED: u64 = 8_000_000;
+
+/// How many steps are tried for each event to find an earlier return than a reading that has no order.
+const STEPS_A_PLACE: u64 = 16;
+
+/// What is found of a history's events up to a place.
+#[derive(Drop)]
+pub(crate) enum Beginning {
+    /// They have no order: none survives the return at the place.
+    Lost(u32),
+    /// They have one.
+    Ordered,
+    /// Neither.
+    Open,
+}
 
 /// The place of the first return up to which the history has no order, from a place on at which none is left: a call that is open there may show
 /// that by the reply with which it returns later. None where that isn't found within so many steps.
@@ -31,22 +47,77 @@ pub(crate) fn named_place<W: Watch>(
 ) -> Result<Option<u32>, AllocError>
     ensures { IfOk result (λ named. IfSome named (HasNoneUpTo history.now.recorded)) }
 {
-    let near = Bounds {
-        until: history.len(),
-        most: max(bounds.most, MOST),
-        limit: min(bounds.limit, offers.count().saturating_add(TRIED)),
-    };
-    if is_lost_up_to(alloc, offers, history, near, place, watch)? {
+    let bounds = bounds_for(offers, bounds);
+    let place = unread_place(alloc, offers, history, bounds, place, watch)?;
+    if is_lost_up_to(alloc, offers, history, bounds, place, watch)? {
         return Ok(Some(place));
     }
     let last = last_return(history, place);
-    if last == place {
+    if last == place || !is_lost_up_to(alloc, offers, history, bounds, last, watch)? {
         return Ok(None);
     }
-    if !is_lost_up_to(alloc, offers, history, near, last, watch)? {
-        return Ok(None);
+    let named = first_lost(alloc, offers, history, bounds, place, last, watch)?;
+    Ok(Some(named))
+}
+
+/// The same, up to a last place, where the events up to there have no order.
+pub(crate) fn named_before<W: Watch>(
+    alloc: Global,
+    offers: &mut Offers,
+    history: &History,
+    bounds: Bounds,
+    place: u32,
+    last: u32,
+    watch: &mut W,
+) -> Result<u32, AllocError>
+    requires { HasNoneUpTo history.now.recorded last }
+    ensures { IfOk result (HasNoneUpTo history.now.recorded) }
+{
+    if last <= place {
+        return Ok(last);
     }
-    first_lost(alloc, offers, history, near, place, last, watch)
+    let bounds = bounds_for(offers, bounds);
+    if is_lost_up_to(alloc, offers, history, bounds, place, watch)? {
+        return Ok(place);
+    }
+    first_lost(alloc, offers, history, bounds, place, last, watch)
+}
+
+/// How far is looked to name a return.
+fn bounds_for(offers: &Offers, bounds: Bounds) -> Bounds {
+    Bounds {
+        most: max(bounds.most, MOST),
+        limit: min(bounds.limit, offers.count().saturating_add(TRIED)),
+        ..bounds
+    }
+}
+
+/// The place, or an earlier one of a return that no order survives of the history without readings, where one is found soon: a call that was given
+/// another reply may show in a later reading alone.
+fn unread_place<W: Watch>(
+    alloc: Global,
+    offers: &mut Offers,
+    history: &History,
+    bounds: Bounds,
+    place: u32,
+    watch: &mut W,
+) -> Result<u32, AllocError> {
+    if reads_nothing(history) {
+        return Ok(place);
+    }
+    let Some(unread) = unread(alloc, history)? else {
+        return Ok(place);
+    };
+    let soon = u64::from(place).saturating_mul(STEPS_A_PLACE);
+    let near = Bounds {
+        until: place as usize,
+        limit: min(bounds.limit, offers.count().saturating_add(soon)),
+        ..bounds
+    };
+    match forward(alloc, offers, &unread, near, watch)? {
+        Survey::Lost(earlier) => Ok(min(earlier, place)),
+        _ => Ok(place),
+    }
 }
 
 /// The first place after one up to which there is an order, and up to another where there is none.
@@ -58,10 +129,10 @@ fn first_lost<W: Watch>(
     place: u32,
     last: u32,
     watch: &mut W,
-) -> Result<Option<u32>, AllocError>
+) -> Result<u32, AllocError>
     requires after { place ≤ last }
     requires none { HasNoneUpTo history.now.recorded last }
-    ensures { IfOk result (λ named. IfSome named (HasNoneUpTo history.now.recorded)) }
+    ensures { IfOk result (HasNoneUpTo history.now.recorded) }
 {
     let mut before = place;
     let mut lost = last;
@@ -73,7 +144,7 @@ fn first_lost<W: Watch>(
             before = middle;
         }
     }
-    Ok(Some(lost))
+    Ok(lost)
 }
 
 /// The last place at which a call returns that is open at the place.
@@ -98,7 +169,7 @@ fn last_return(history: &History, place: u32) -> u32
     last
 }
 
-/// Whether no order is found of the history up to the place.
+/// Whether it is found that the events up to the place have no order.
 fn is_lost_up_to<W: Watch>(
     alloc: Global,
     offers: &mut Offers,
@@ -109,16 +180,34 @@ fn is_lost_up_to<W: Watch>(
 ) -> Result<bool, AllocError>
     ensures { IfOk result (λ lost. IsTrue lost → HasNoneUpTo history.now.recorded place) }
 {
+    match beginning_up_to(alloc, offers, history, bounds, place, watch)? {
+        Beginning::Lost(_) => Ok(true),
+        Beginning::Ordered | Beginning::Open => Ok(false),
+    }
+}
+
+/// Looks at the events up to the place.
+pub(crate) fn beginning_up_to<W: Watch>(
+    alloc: Global,
+    offers: &mut Offers,
+    history: &History,
+    bounds: Bounds,
+    place: u32,
+    watch: &mut W,
+) -> Result<Beginning, AllocError>
+    ensures { IfOk result (IsBeginning history.now.recorded place) }
+{
     let count = place as usize + 1;
     if count > history.len() {
-        return Ok(false);
+        return Ok(Beginning::Open);
     }
     let Some(part) = first_part(alloc, history, count)? else {
-        return Ok(false);
+        return Ok(Beginning::Open);
     };
     let answer = answer_of(alloc, offers, &part, bounds, watch)?;
     match answer {
-        Answer::Lost(_) => Ok(true),
-        _ => Ok(false),
+        Answer::Lost(lost) => Ok(Beginning::Lost(lost)),
+        Answer::Order(_) => Ok(Beginning::Ordered),
+        Answer::Open => Ok(Beginning::Open),
     }
 }

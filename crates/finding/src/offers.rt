@@ -40,7 +40,7 @@ impl Offers {
         self.count
     }
 
-    /// So many offers more were made elsewhere.
+    /// So many more count.
     pub(crate) fn add(&mut self, more: u64)
         ensures { (self.new.count ≡ self.old.count + more) ⊎ (self.new.count ≡ 2 ^ 64 - 1) }
     {

@@ -1,115 +1,85 @@
-//! Whether the next call of one CPU may as well come behind that of another.
+//! Whether a call may as well come behind another.
 
-ghost use Rattle.std.specs.Prelude.{◌<◌, IfSome, IsTrue};
-ghost use Rattle.finding.specs.Begun.{IsBegun};
-ghost use Rattle.finding.specs.Group.{IsNextApart, IsNextCarriedOut, LendsNext, NamesOthersNext, PassesCpu};
+ghost use Rattle.std.specs.Prelude.{◌≡◌, IsTrue, Some};
+ghost use Rattle.verdict_laws.specs.Apart.{lent};
+ghost use Rattle.finding.specs.MayPass.{MayPass};
 
-use crate::apart::{is_apart_from, lent, names};
-use crate::begun::Begun;
+use crate::apart::{is_apart_from, lent, lets_lend, names};
+use crate::beside::are_beside;
+use crate::ending::ends_apart;
+use crate::next_call::NextCall;
 use crate::separate::are_separate;
-use history::History;
-use rmi_view::ReplyRef;
 
-/// Whether the next call of one CPU may as well come behind that of another: by the granule that it lends, or since they are separate.
-pub(crate) fn passes_next(history: &History, begun: &Begun, cpu: u8, other: u8) -> bool
-    requires begun { IsBegun history.now.recorded begun.now }
-    requires cpu { cpu < history.now.recorded.config.cpus }
-    requires other { other < history.now.recorded.config.cpus }
-    ensures { IsTrue result → PassesCpu history.now.recorded begun.now cpu other }
+/// Whether the one call may as well come behind the other.
+pub(crate) fn may_pass(one: &NextCall<'_>, two: &NextCall<'_>) -> bool
+    ensures { IsTrue result → MayPass one.now two.now }
 {
-    match lent_next(history, begun, cpu) {
-        Some(granule) if passes_lending(history, begun, cpu, other, granule) => true,
-        _ => are_next_separate(history, begun, cpu, other),
+    one_lends(one, two) || are_elsewhere(one, two)
+}
+
+/// Whether it may since one of them lends a granule.
+fn one_lends(one: &NextCall<'_>, two: &NextCall<'_>) -> bool
+    ensures { IsTrue result → MayPass one.now two.now }
+{
+    lends_apart(one, two) || lends_last(one, two)
+}
+
+/// Whether it may since they are separate, or one of them enters a REC, leaves one or ends something.
+fn are_elsewhere(one: &NextCall<'_>, two: &NextCall<'_>) -> bool
+    ensures { IsTrue result → MayPass one.now two.now }
+{
+    are_separate(one, two) || enters_or_ends(one, two)
+}
+
+/// Whether it may since one of them enters a REC, leaves one, or ends a REC or a realm.
+fn enters_or_ends(one: &NextCall<'_>, two: &NextCall<'_>) -> bool
+    ensures { IsTrue result → MayPass one.now two.now }
+{
+    enters_or_works(one, two) || ends_apart(one, two)
+}
+
+/// Whether the one lends a granule with which the other has nothing to do.
+fn lends_apart(one: &NextCall<'_>, two: &NextCall<'_>) -> bool
+    ensures { IsTrue result → MayPass one.now two.now }
+{
+    match lent(&one.call) {
+        Some(granule) => passes_by(one, two, granule),
+        None => false,
     }
 }
 
-/// Whether the next call of one CPU, which lends the granule or takes it back, may as well come behind that of another: where it is carried out, one
-/// that doesn't name the granule, and else one that gives back nothing unnamed either.
-fn passes_lending(history: &History, begun: &Begun, cpu: u8, other: u8, granule: u64) -> bool
-    requires begun { IsBegun history.now.recorded begun.now }
-    requires cpu { cpu < history.now.recorded.config.cpus }
-    requires other { other < history.now.recorded.config.cpus }
-    requires lends { LendsNext history.now.recorded begun.now cpu granule }
-    ensures { IsTrue result → PassesCpu history.now.recorded begun.now cpu other }
+/// Whether the one, which lends the granule or takes it back, may as well come behind the other: where it is carried out, behind one that doesn't
+/// name the granule, and else behind one that gives back nothing unnamed either.
+fn passes_by(one: &NextCall<'_>, two: &NextCall<'_>, granule: u64) -> bool
+    requires { lent one.now.call ≡ Some granule }
+    ensures { IsTrue result → MayPass one.now two.now }
 {
-    if is_next_carried_out(history, begun, cpu) {
-        names_others_next(history, begun, other, granule)
+    if one.is_carried_out() {
+        !names(&two.call, granule)
     } else {
-        is_next_apart(history, begun, other, granule)
+        is_apart_from(&two.call, granule)
     }
 }
 
-/// Whether the next call of a CPU has returned as one that was carried out.
-fn is_next_carried_out(history: &History, begun: &Begun, cpu: u8) -> bool
-    requires begun { IsBegun history.now.recorded begun.now }
-    requires cpu { cpu < history.now.recorded.config.cpus }
-    ensures { IsTrue result → IsNextCarriedOut history.now.recorded begun.now cpu }
+/// Whether the other lends a granule, is carried out, and may come before the one.
+fn lends_last(one: &NextCall<'_>, two: &NextCall<'_>) -> bool
+    ensures { IsTrue result → MayPass one.now two.now }
 {
-    let Some(choice) = begun.front.next(history, cpu) else {
+    let Some(granule) = lent(&two.call) else {
         return false;
     };
-    let Some(returned) = choice.places.returned else {
+    if !two.is_carried_out() {
         return false;
-    };
-    match history.reply_at(returned as usize) {
-        Some(ReplyRef::Ok(_)) => true,
-        _ => false,
     }
+    lets_lend(&one.call, &two.call, granule)
 }
 
-/// Whether the next call of a CPU, if there is one, doesn't name the granule.
-fn names_others_next(history: &History, begun: &Begun, cpu: u8, granule: u64) -> bool
-    requires begun { IsBegun history.now.recorded begun.now }
-    requires cpu { cpu < history.now.recorded.config.cpus }
-    ensures { IsTrue result → NamesOthersNext history.now.recorded begun.now cpu granule }
+/// Whether the one enters a REC or leaves one beside the other's work, or works beside the other's entry.
+fn enters_or_works(one: &NextCall<'_>, two: &NextCall<'_>) -> bool
+    ensures { IsTrue result → MayPass one.now two.now }
 {
-    let Some(choice) = begun.front.next(history, cpu) else {
+    if are_beside(one, two) {
         return true;
-    };
-    match history.command_at(choice.places.called as usize) {
-        Some(command) => !names(&command.call(), granule),
-        None => false,
     }
-}
-
-/// Whether the next calls of two CPUs are separate, or one of them has none.
-fn are_next_separate(history: &History, begun: &Begun, cpu: u8, other: u8) -> bool
-    requires begun { IsBegun history.now.recorded begun.now }
-    requires cpu { cpu < history.now.recorded.config.cpus }
-    requires other { other < history.now.recorded.config.cpus }
-    ensures { IsTrue result → PassesCpu history.now.recorded begun.now cpu other }
-{
-    let Some(one) = begun.front.next(history, cpu) else {
-        return true;
-    };
-    match begun.front.next(history, other) {
-        Some(two) => are_separate(history, one, two),
-        None => true,
-    }
-}
-
-/// The granule that the next call of a CPU lends or takes back, where it does.
-fn lent_next(history: &History, begun: &Begun, cpu: u8) -> Option<u64>
-    requires begun { IsBegun history.now.recorded begun.now }
-    requires cpu { cpu < history.now.recorded.config.cpus }
-    ensures { IfSome result (LendsNext history.now.recorded begun.now cpu) }
-{
-    let choice = begun.front.next(history, cpu)?;
-    let command = history.command_at(choice.places.called as usize)?;
-    lent(&command.call())
-}
-
-/// Whether the next call of a CPU, if there is one, has nothing to do with the granule.
-fn is_next_apart(history: &History, begun: &Begun, cpu: u8, granule: u64) -> bool
-    requires begun { IsBegun history.now.recorded begun.now }
-    requires cpu { cpu < history.now.recorded.config.cpus }
-    ensures { IsTrue result → IsNextApart history.now.recorded begun.now cpu granule }
-{
-    let Some(choice) = begun.front.next(history, cpu) else {
-        return true;
-    };
-    match history.command_at(choice.places.called as usize) {
-        Some(command) => is_apart_from(&command.call(), granule),
-        None => false,
-    }
+    are_beside(two, one)
 }

@@ -194,7 +194,7 @@ impl Round {
 }
 
 /// The orders that lack no call which returned up to the round's place: where they are all and lead nowhere, all of the round do. None where the
-/// watch stops it.
+/// watch stops it, or where one lacks such a call still after as many calls as there are CPUs.
 pub(crate) fn next_orders<W: Watch>(
     alloc: Global,
     offers: &mut Offers,

@@ -1,69 +1,66 @@
-//! Calls on the tables of different realms, or on different granules, which may as well come the other way round.
+//! Calls of different realms, or on different granules, which may as well come the other way round.
 
-ghost use Rattle.std.specs.Prelude.{◌≡◌, ◌==◌, ℕ, true, false, IsTrue, IfNone, IfSome, Some};
+ghost use Rattle.std.specs.Prelude.{◌≡◌, ◌==◌, ◌||◌, ℕ, true, false, IsTrue, IfNone, IfSome, Some};
 ghost use Rattle.std.specs.List.{list_any};
 ghost use Rattle.rmm_spec.specs.declared.reply.Reply.{Reply};
 ghost use Rattle.rmm_spec.specs.Rows.{Needed};
 ghost use Rattle.rmm_spec.specs.Step.Terms.{named};
-ghost use Rattle.history.specs.Calls.{ArePlacesOf};
 ghost use Rattle.rmi_view.specs.Seen.{reply_seen};
+ghost use Rattle.verdict_laws.specs.Making as making;
 ghost use Rattle.verdict_laws.specs.Separate as spec;
-ghost use Rattle.finding.specs.Group.{AreSeparateCalls, IsWorkOf};
+ghost use Rattle.finding.specs.MayPass.{MayPass};
+ghost use Rattle.finding.specs.Next.{IsWorkOf};
 
 use crate::apart::{lent, names};
-use crate::choice::Choice;
+use crate::next_call::NextCall;
 use command_words::named;
-use history::History;
 use rmi_view::ReplyRef;
 use rmm_spec::Call;
 
-/// Whether two calls only work on tables of different realms, if on any, and on no granule both.
-pub(crate) fn are_separate(history: &History, one: Choice, two: Choice) -> bool
-    requires one { ArePlacesOf history.now.recorded.events one.cpu one.number one.places }
-    requires two { ArePlacesOf history.now.recorded.events two.cpu two.number two.places }
-    ensures { IsTrue result → AreSeparateCalls history.now.recorded.events one two }
+/// Whether two calls make something, work on a realm's tables or lend a granule, of different realms if of any, and with no granule of both.
+pub(crate) fn are_separate(one: &NextCall<'_>, two: &NextCall<'_>) -> bool
+    ensures { IsTrue result → MayPass one.now two.now }
 {
-    let Some(first) = work_of(history, one) else {
+    if !is_of_kind(&one.call) {
+        return false;
+    }
+    if !is_of_kind(&two.call) {
+        return false;
+    }
+    if !differ(own_realm(&one.call), own_realm(&two.call)) {
+        return false;
+    }
+    if !differ(taken_vmid(&one.call), taken_vmid(&two.call)) {
+        return false;
+    }
+    let Some(first) = work_of(one) else {
         return false;
     };
-    let Some(second) = work_of(history, two) else {
+    let Some(second) = work_of(two) else {
         return false;
     };
-    if !is_local(&first.call) {
-        return false;
-    }
-    if !is_local(&second.call) {
-        return false;
-    }
-    if !are_of_two_realms(&first.call, &second.call) {
-        return false;
-    }
     are_of_other_granules(&first, &second)
 }
 
 /// A call with its reply, or with any where it doesn't return and gives nothing back.
 #[derive(Clone, Copy)]
-struct Work<'a> {
+pub(crate) struct Work<'a> {
     call: Call,
     reply: ReplyRef<'a>,
 }
 
-/// The call of a choice, where it is known what it gives back.
-fn work_of(history: &History, choice: Choice) -> Option<Work<'_>>
-    requires { ArePlacesOf history.now.recorded.events choice.cpu choice.number choice.places }
-    ensures { IfSome result (λ work. IsWorkOf history.now.recorded.events choice work) }
+/// A call where it is known what it gives back.
+pub(crate) fn work_of<'a>(next: &NextCall<'a>) -> Option<Work<'a>>
+    ensures { IfSome result (IsWorkOf next.now) }
 {
-    let _fact = history.well_formed();
-    let command = history.command_at(choice.places.called as usize)?;
-    let call = command.call();
-    match choice.places.returned {
-        Some(returned) => {
-            let reply = history.reply_at(returned as usize)?;
-            Some(Work { call, reply })
-        }
-        None if gives_back(&call) => None,
+    match next.reply {
+        Some(reply) => Some(Work {
+            call: next.call,
+            reply,
+        }),
+        None if gives_back(&next.call) => None,
         None => Some(Work {
-            call,
+            call: next.call,
             reply: ReplyRef::Misplaced,
         }),
     }
@@ -104,12 +101,58 @@ fn is_local(call: &Call) -> bool
     table_realm(call).is_some() || lent(call).is_some()
 }
 
-/// Whether two calls aren't both of one realm.
-fn are_of_two_realms(one: &Call, two: &Call) -> bool
-    ensures { IsTrue result → (rd other : ℕ) → spec.table_realm one.now ≡ Some rd → spec.table_realm two.now ≡ Some other → ¬ (rd ≡ other) }
+/// Whether a call makes a realm or a REC, works on a realm's tables, or lends a granule or takes it back.
+pub(crate) fn is_of_kind(call: &Call) -> bool
+    ensures { result ≡ (making.is_making call.now || spec.is_local call.now) }
 {
-    match (table_realm(one), table_realm(two)) {
-        (Some(rd), Some(other)) => rd != other,
+    is_making(call) || is_local(call)
+}
+
+#[tactic(auto, unfolding(verdict_laws::specs::Making::is_making))]
+fn is_making(call: &Call) -> bool
+    ensures { result ≡ making.is_making call.now }
+{
+    matches!(call, Call::RealmCreate { .. } | Call::RecCreate { .. })
+}
+
+/// The realm that a call makes, or for which it makes a REC.
+#[tactic(auto, unfolding(verdict_laws::specs::Making::made_realm))]
+fn made_realm(call: &Call) -> Option<u64>
+    ensures { result ≡ making.made_realm call.now }
+{
+    match call {
+        Call::RealmCreate { rd, .. } | Call::RecCreate { rd, .. } => Some(*rd),
+        _ => None,
+    }
+}
+
+/// That realm, or the realm on whose tables a call works.
+fn own_realm(call: &Call) -> Option<u64>
+    ensures { result ≡ making.own_realm call.now }
+{
+    match made_realm(call) {
+        Some(rd) => Some(rd),
+        None => table_realm(call),
+    }
+}
+
+/// The VMID that a call takes for a realm, where it does.
+#[tactic(auto, unfolding(verdict_laws::specs::Making::taken_vmid))]
+fn taken_vmid(call: &Call) -> Option<u64>
+    ensures { result ≡ making.taken_vmid call.now }
+{
+    match call {
+        Call::RealmCreate { vmid, .. } => Some(*vmid),
+        _ => None,
+    }
+}
+
+/// Whether two numbers differ, where there are two.
+fn differ(one: Option<u64>, two: Option<u64>) -> bool
+    ensures { IsTrue result → (number other : ℕ) → one ≡ Some number → two ≡ Some other → ¬ (number ≡ other) }
+{
+    match (one, two) {
+        (Some(number), Some(other)) => number != other,
         _ => true,
     }
 }
@@ -139,7 +182,7 @@ fn told_granule(reply: ReplyRef<'_>) -> Option<u64>
 }
 
 /// Whether a call names a granule or gives it back.
-fn works_on(work: &Work<'_>, granule: u64) -> bool
+pub(crate) fn works_on(work: &Work<'_>, granule: u64) -> bool
     ensures { result ≡ spec.works_on work.now.call (reply_seen work.now.reply) granule }
 {
     names(&work.call, granule) || freed(&work.call, work.reply) == Some(granule)

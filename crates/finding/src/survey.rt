@@ -6,7 +6,7 @@ ghost use Rattle.verdict_laws.specs.Order.{LeadsNowhere};
 ghost use Rattle.finding.specs.Survey.{IsAnswer};
 
 use crate::forward::{Bounds, Survey, forward};
-use crate::judging::linearization;
+use crate::judging::{Judged, judgement_of};
 use crate::lines::certificate_of;
 use crate::offers::Offers;
 use crate::shelved::{Orders, Shelved};
@@ -18,10 +18,6 @@ use guessing::arranged;
 use history::History;
 use registers::lost_register;
 use std::alloc::{AllocError, Global};
-use std::cmp::min;
-
-/// How many steps are tried for each event to find an earlier return than a reading that has no order.
-const STEPS_A_PLACE: u64 = 16;
 
 /// How many orders are judged.
 const JUDGED: usize = 4;
@@ -62,8 +58,7 @@ pub(crate) fn answer_of<W: Watch>(
     }
     let lost = lost_register(alloc, history)?;
     if let Some(place) = lost {
-        let first = first_lost(alloc, offers, history, bounds, place, watch)?;
-        return Ok(Answer::Lost(first));
+        return Ok(Answer::Lost(place));
     }
     let answer = answer_unread(alloc, offers, history, bounds, watch)?;
     match answer {
@@ -117,31 +112,6 @@ fn answer_unread<W: Watch>(
     }
 }
 
-/// The place, or an earlier one of a return that no order survives of the history without readings, where one is found soon: a call that was given
-/// another reply may show in a later reading alone.
-fn first_lost<W: Watch>(
-    alloc: Global,
-    offers: &mut Offers,
-    history: &History,
-    bounds: Bounds,
-    place: u32,
-    watch: &mut W,
-) -> Result<u32, AllocError> {
-    let Some(unread) = unread(alloc, history)? else {
-        return Ok(place);
-    };
-    let soon = u64::from(place).saturating_mul(STEPS_A_PLACE);
-    let near = Bounds {
-        until: place as usize,
-        limit: min(bounds.limit, offers.count().saturating_add(soon)),
-        ..bounds
-    };
-    match forward(alloc, offers, &unread, near, watch)? {
-        Survey::Lost(earlier) => Ok(min(earlier, place)),
-        _ => Ok(place),
-    }
-}
-
 /// One of the first orders that is a linearization, if one is.
 fn answer_among(
     alloc: Global,
@@ -154,7 +124,7 @@ fn answer_among(
 {
     for order in orders.begun.as_slice().iter().take(JUDGED) {
         let order = lines_of(alloc, history, &orders.trail, order, arranges)?;
-        if let Some(order) = linearization(alloc, offers, history, order)? {
+        if let Judged::Linearization(order) = judgement_of(alloc, offers, history, order)? {
             return Ok(Answer::Order(order));
         }
     }

@@ -1,6 +1,6 @@
 //! An order whose calls on measurements are put in anew.
 
-use crate::calls::{command_at, measured, reply_at};
+use crate::calls::{CPUS, command_at, measured, reply_at};
 use crate::order::{Placed, with_uses};
 use crate::registers::{Registers, Use};
 use history::{History, Places};
@@ -8,9 +8,6 @@ use rmi_view::{CommandRef, ReplyRef};
 use rmm_spec::{Call, FunctionId};
 use std::alloc::{AllocError, Global};
 use std::collections::HashMap;
-
-/// How many CPUs there are at most.
-const CPUS: usize = 8;
 
 /// A call on a measurement, by the measurement's number.
 #[derive(Clone, Copy)]

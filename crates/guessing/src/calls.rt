@@ -8,6 +8,9 @@ use history::History;
 use rmi_view::{CommandRef, ReplyRef};
 use rmm_spec::FunctionId;
 
+/// How many CPUs there are at most.
+pub(crate) const CPUS: usize = 8;
+
 /// A call that returns at a later event.
 #[derive(Clone, Copy)]
 pub(crate) struct OpenCall {
@@ -15,6 +18,8 @@ pub(crate) struct OpenCall {
     /// The places of its two events.
     pub(crate) called: u32,
     pub(crate) returned: u32,
+    /// Whether it changes nothing, by its reply.
+    pub(crate) is_look: bool,
     /// Whether it stands in the order already.
     pub(crate) is_placed: bool,
     /// The measurement that it reads or extends, where it stands in the order.

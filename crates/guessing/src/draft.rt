@@ -1,23 +1,21 @@
 //! An order that is put together event by event.
 
-use crate::calls::{OpenCall, command_at, is_look, measured, reply_at, shares_word};
+use crate::calls::{CPUS, OpenCall, command_at, is_look, measured, reply_at, shares_word};
+use crate::open_calls::OpenCalls;
 use crate::registers::{Registers, Use};
 use crate::steps::{Checkpoint, Step, gives, insert};
 use command_rows::Sight;
 use history::History;
 use rmi_view::{CommandRef, ReplyRef};
-use rmm_spec::FunctionId;
+use rmm_spec::{Event, FunctionId};
 use spec_machine::Machine;
 use std::alloc::{AllocError, Global};
-
-/// How many CPUs there are at most.
-const CPUS: usize = 8;
 
 /// The calls that were put in so far, with the machine after all of them, and one after some of them.
 #[derive(Drop)]
 pub(crate) struct Draft {
     pub(crate) machine: Machine,
-    pub(crate) open: [Option<OpenCall>; CPUS],
+    pub(crate) open: OpenCalls,
     // where a CPU's call was made that doesn't return
     unreturned: [Option<usize>; CPUS],
     pub(crate) steps: Vec<Step>,
@@ -26,13 +24,11 @@ pub(crate) struct Draft {
 }
 
 impl Draft {
-    ghost use Rattle.std.specs.Prelude.{◌<◌, ◌≤◌, length};
-
     /// No call yet.
     pub(crate) fn new(alloc: Global, history: &History) -> Result<Draft, AllocError> {
         Ok(Draft {
             machine: Machine::new(alloc, history.config())?,
-            open: [None; CPUS],
+            open: OpenCalls::none(),
             unreturned: [None; CPUS],
             steps: Vec::new(alloc),
             checkpoint: None,
@@ -46,40 +42,58 @@ impl Draft {
         alloc: Global,
         history: &History,
         place: usize,
-    ) -> Result<bool, AllocError>
-        requires { place < length history.now.recorded.events }
-    {
-        match history.called_at(place) {
-            Some((cpu, number)) => {
-                self.open_call(history, cpu, number);
-                self.place_looks(history, place)?;
+        event: &Event,
+    ) -> Result<bool, AllocError> {
+        match event {
+            Event::Called {
+                cpu,
+                number,
+                command,
+            } => {
+                self.take_call(history, place, *cpu, *number, CommandRef::of(command))?;
                 Ok(true)
             }
-            None => self.take_return(alloc, history, place),
+            Event::Returned { cpu, .. } => {
+                self.take_return(alloc, history, usize::from(*cpu), place)
+            }
         }
     }
 
-    // The call of that number of the CPU is open, where it returns ever.
-    fn open_call(&mut self, history: &History, cpu: u8, number: u32) {
+    // The CPU's call is open, where it returns ever. Where it changes nothing, it is put in now if it is given its reply.
+    fn take_call(
+        &mut self,
+        history: &History,
+        place: usize,
+        cpu: u8,
+        number: u32,
+        command: CommandRef<'_>,
+    ) -> Result<(), AllocError> {
         let Some(places) = history.places_of(cpu, number) else {
-            return;
+            return Ok(());
         };
         let Some(returned) = places.returned else {
             if let Some(unreturned) = self.unreturned.get_mut(usize::from(cpu)) {
-                *unreturned = Some(places.called as usize);
+                *unreturned = Some(place);
             }
-            return;
+            return Ok(());
         };
-        if let Some(open) = self.open.get_mut(usize::from(cpu)) {
-            *open = Some(OpenCall {
-                cpu,
-                called: places.called,
-                returned,
-                is_placed: false,
-                register: None,
-                extends: false,
-            });
+        let Some(reply) = reply_at(history, returned as usize) else {
+            return Ok(());
+        };
+        let is_look = is_look(command, reply);
+        self.open.put(OpenCall {
+            cpu,
+            called: places.called,
+            returned,
+            is_look,
+            is_placed: false,
+            register: None,
+            extends: false,
+        });
+        if is_look {
+            self.place_call(history, usize::from(cpu), place)?;
         }
+        Ok(())
     }
 
     /// Adds the calls that don't return to their measurements, once all that return were taken.
@@ -96,12 +110,10 @@ impl Draft {
         &mut self,
         alloc: Global,
         history: &History,
+        cpu: usize,
         place: usize,
     ) -> Result<bool, AllocError> {
-        let Some(cpu) = self.returning(place) else {
-            return Ok(true);
-        };
-        if !self.is_placed(cpu) && !self.place_with_others(history, cpu, place)? {
+        if self.open.waits(cpu) && !self.place_with_others(history, cpu, place)? {
             if !self.place_earlier(alloc, history, cpu)? {
                 return Ok(false);
             }
@@ -111,33 +123,12 @@ impl Draft {
         Ok(true)
     }
 
-    // The CPU whose call returns at the place.
-    fn returning(&self, place: usize) -> Option<usize> {
-        for cpu in 0..CPUS {
-            if let Some(call) = self.open[cpu] {
-                if call.returned as usize == place {
-                    return Some(cpu);
-                }
-            }
-        }
-        None
-    }
-
-    fn is_placed(&self, cpu: usize) -> bool {
-        match self.open.get(cpu) {
-            Some(Some(call)) => call.is_placed,
-            _ => true,
-        }
-    }
-
     // The CPU's call is open no longer.
     fn close(&mut self, cpu: usize) -> Result<(), AllocError> {
-        let Some(open) = self.open.get_mut(cpu) else {
+        let Some(call) = self.open.of(cpu) else {
             return Ok(());
         };
-        let Some(call) = open.take() else {
-            return Ok(());
-        };
+        self.open.close(cpu);
         let Some(register) = call.register else {
             return Ok(());
         };
@@ -179,7 +170,7 @@ impl Draft {
     ) -> Result<bool, AllocError> {
         let mut last = place;
         for _other in 0..CPUS {
-            let Some(call) = self.next_return(last) else {
+            let Some(call) = self.open.next_return(last) else {
                 return Ok(false);
             };
             last = call.returned as usize;
@@ -194,24 +185,6 @@ impl Draft {
         Ok(false)
     }
 
-    // The open call that returns first after the place.
-    fn next_return(&self, place: usize) -> Option<OpenCall> {
-        let mut next: Option<OpenCall> = None;
-        for open in &self.open {
-            let Some(call) = open else {
-                continue;
-            };
-            if call.returned as usize <= place {
-                continue;
-            }
-            match next {
-                Some(first) if first.returned < call.returned => {}
-                _ => next = Some(*call),
-            }
-        }
-        next
-    }
-
     // Puts in one CPU's call and then another's, where the machine gives them their replies.
     fn places_both(
         &mut self,
@@ -224,14 +197,14 @@ impl Draft {
             return Ok(false);
         }
         self.place_looks(history, place)?;
-        if !self.is_placed(cpu) && !self.place_call(history, cpu, place)? {
+        if self.open.waits(cpu) && !self.place_call(history, cpu, place)? {
             return Ok(false);
         }
         self.place_looks(history, place)?;
         Ok(true)
     }
 
-    // Whether the open calls of two CPUs share a word.
+    // Whether the CPUs' open calls share a word.
     fn are_related(&self, history: &History, one: usize, other: usize) -> bool {
         match (self.command(history, one), self.command(history, other)) {
             (Some(one), Some(other)) => shares_word(one, other),
@@ -241,33 +214,18 @@ impl Draft {
 
     // The command of the CPU's open call.
     fn command<'h>(&self, history: &'h History, cpu: usize) -> Option<CommandRef<'h>> {
-        match self.open.get(cpu) {
-            Some(Some(call)) => command_at(history, call.called as usize),
-            _ => None,
-        }
+        let call = self.open.of(cpu)?;
+        command_at(history, call.called as usize)
     }
 
     // Puts in each open call that changes nothing and is given its reply now.
     fn place_looks(&mut self, history: &History, place: usize) -> Result<(), AllocError> {
         for cpu in 0..CPUS {
-            if !self.is_placed(cpu) && self.is_look(history, cpu) {
+            if self.open.waits_for_a_look(cpu) {
                 self.place_call(history, cpu, place)?;
             }
         }
         Ok(())
-    }
-
-    fn is_look(&self, history: &History, cpu: usize) -> bool {
-        let Some(Some(call)) = self.open.get(cpu) else {
-            return false;
-        };
-        match (
-            command_at(history, call.called as usize),
-            reply_at(history, call.returned as usize),
-        ) {
-            (Some(command), Some(reply)) => is_look(command, reply),
-            _ => false,
-        }
     }
 
     // Puts in the CPU's call, where it is given its reply now.
@@ -277,7 +235,7 @@ impl Draft {
         cpu: usize,
         place: usize,
     ) -> Result<bool, AllocError> {
-        let Some(Some(call)) = self.open.get(cpu).copied() else {
+        let Some(call) = self.open.of(cpu) else {
             return Ok(false);
         };
         let Some(command) = command_at(history, call.called as usize) else {
@@ -310,14 +268,12 @@ impl Draft {
             return Ok(());
         };
         let register = self.register_of(call.cpu, command, reply);
-        if let Some(open) = self.open.get_mut(usize::from(call.cpu)) {
-            *open = Some(OpenCall {
-                is_placed: true,
-                register,
-                extends: matches!(command.function, FunctionId::MeasurementExtend),
-                ..call
-            });
-        }
+        self.open.put(OpenCall {
+            is_placed: true,
+            register,
+            extends: matches!(command.function, FunctionId::MeasurementExtend),
+            ..call
+        });
         insert(&mut self.steps, index, call.step(register.is_some(), place))?;
         let owner = self.owner(command);
         self.registers.note(call.cpu, command, reply, owner)

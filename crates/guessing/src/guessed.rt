@@ -6,15 +6,33 @@ use crate::steps::others;
 use history::History;
 use std::alloc::{AllocError, Global};
 
-/// The CPUs of an order's calls, one after another: of all calls that return, or of those up to a return that the guess doesn't explain.
-pub fn guess(alloc: Global, history: &History) -> Result<Vec<u8>, AllocError> {
+/// An order that is guessed.
+#[derive(Drop)]
+pub struct GuessedOrder {
+    /// The CPUs of its calls, one after another: of all calls that return, or of those up to the return that it doesn't explain.
+    pub cpus: Vec<u8>,
+    /// The place of that return.
+    pub unexplained: Option<u32>,
+}
+
+/// Guesses an order of the history's calls.
+pub fn guess(alloc: Global, history: &History) -> Result<GuessedOrder, AllocError> {
     let mut draft = Draft::new(alloc, history)?;
+    let mut unexplained = None;
+    let mut events = history.events();
     for place in 0..history.len() {
-        if !draft.take(alloc, history, place)? {
+        let Some(event) = events.next() else {
+            break;
+        };
+        if !draft.take(alloc, history, place, &event.to_event())? {
+            unexplained = u32::try_from(place).ok();
             break;
         }
     }
     draft.add_unreturned(history)?;
     let placed = others(alloc, draft.steps.as_slice())?;
-    with_uses(alloc, history, placed, &draft.registers)
+    Ok(GuessedOrder {
+        cpus: with_uses(alloc, history, placed, &draft.registers)?,
+        unexplained,
+    })
 }

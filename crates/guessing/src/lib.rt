@@ -10,11 +10,12 @@ mod calls;
 mod draft;
 mod guessed;
 mod looking_back;
+mod open_calls;
 mod order;
 mod registers;
 mod solving;
 mod steps;
 
 pub use arrangement::arranged;
-pub use guessed::guess;
+pub use guessed::{GuessedOrder, guess};
 pub use order::Placed;

@@ -20,7 +20,7 @@ impl Draft {
         history: &History,
         cpu: usize,
     ) -> Result<bool, AllocError> {
-        let Some(Some(call)) = self.open.get(cpu).copied() else {
+        let Some(call) = self.open.of(cpu) else {
             return Ok(false);
         };
         let start = match self.checkpoint.take() {

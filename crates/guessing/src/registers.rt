@@ -1,6 +1,6 @@
 //! Extensible measurements, and the calls that read and extend them.
 
-use crate::calls::{command_at, number_of};
+use crate::calls::{CPUS, command_at, number_of};
 use history::History;
 use measure::Rem;
 use rmi_view::{CommandRef, ReplyRef};
@@ -10,9 +10,6 @@ use std::collections::HashMap;
 
 /// How many extensible measurements a realm has.
 const REMS: usize = 4;
-
-/// How many CPUs there are at most.
-const CPUS: usize = 8;
 
 /// The place of the return of a call that doesn't return.
 pub(crate) const NEVER: usize = usize::MAX;

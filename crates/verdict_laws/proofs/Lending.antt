@@ -29,7 +29,7 @@ use Rattle.lemmas.proofs.Tests.{both_ways}
 use Rattle.spec_lemmas.proofs.TagLaws.{tag-has_tag}
 use Rattle.rmm_laws.proofs.RowLaws.{refusal-refuses}
 use Rattle.rmm_laws.proofs.Ties.{IsUnused}
-use Rattle.verdict_laws.specs.Apart.{frees_unnamed, is_apart_from, lent}
+use Rattle.verdict_laws.specs.Apart.{frees_unnamed, is_apart_from, is_delegation, lent}
 use Rattle.verdict_laws.proofs.SparedCalls.{FreesOthers, Leaves, step_leaves, step_swapped}
 
 -- what a lending leads to, by whether the CPU is inside of a REC, and whether the granule has the tag that is needed
@@ -39,31 +39,37 @@ lending_found inside has granule tag =
     else Err (Misplaced OwnOutside)
 
 -- A call that lends the granule: the tag that it needs, the tag that it puts, and what it leads to in each state.
-record IsLending (granule : ℕ) (c : Call) : Type 0 where
-  needed : Tag
-  unused : IsUnused needed
-  put : Tag
-  found : (s : State) (cpu : ℕ) → outcome s cpu c ≡ lending_found (is_inside s cpu) (has_tag s granule needed) granule put
+pub record IsLending (granule : ℕ) (c : Call) : Type 0 where
+  pub needed : Tag
+  pub needed_unused : IsUnused needed
+  pub delegates : is_delegation c ≡ true → needed ≡ Undelegated
+  pub put : Tag
+  pub put_unused : IsUnused put
+  pub found : (s : State) (cpu : ℕ) → outcome s cpu c ≡ lending_found (is_inside s cpu) (has_tag s granule needed) granule put
 
 -- each call that lends it is one
-IsLending-from_lent : (granule : ℕ) (c : Call) → lent c ≡ Some granule → IsLending granule c
-unfolding lent outcome answer_of commands class_of words_of named
+pub IsLending-from_lent : (granule : ℕ) (c : Call) → lent c ≡ Some granule → IsLending granule c
+unfolding lent is_delegation outcome answer_of commands class_of words_of named
 IsLending-from_lent granule (call.GranuleDelegate g) lends = record {
   needed = Undelegated;
-  unused = inl refl;
+  needed_unused = inl refl;
+  delegates = λ _. refl;
   put = Delegated;
+  put_unused = inr refl;
   found = λ s cpu. rw (← same_Some g granule lends) refl;
 }
 IsLending-from_lent granule (call.GranuleUndelegate g) lends = record {
   needed = Delegated;
-  unused = inr refl;
+  needed_unused = inr refl;
+  delegates = λ delegates. both_ways delegates refl;
   put = Undelegated;
+  put_unused = inl refl;
   found = λ s cpu. rw (← same_Some g granule lends) refl;
 }
 IsLending-from_lent granule _ lends = absurd (let bad : None ≡ Some granule = lends in cc)
 
 -- so the same where the granule's tag is, and the CPU is inside of a REC where it was
-lending_same : (granule cpu : ℕ) (c : Call) (s t : State) → IsLending granule c → Leaves s granule cpu t → outcome t cpu c ≡ outcome s cpu c
+pub lending_same : (granule cpu : ℕ) (c : Call) (s t : State) → IsLending granule c → Leaves s granule cpu t → outcome t cpu c ≡ outcome s cpu c
 unfolding has_tag
 lending_same granule cpu c s t lending leaves =
     lending.found t cpu
@@ -71,26 +77,25 @@ lending_same granule cpu c s t lending leaves =
     granule lending.put)
     ∙ sym (lending.found s cpu)
 
--- a lending that is refused isn't carried out
-refused_undone : {A : Type 0} (s new : State) (given : Reply) (refused : Refusal) → is_accepted given ≡ true
+-- what is refused isn't carried out
+pub refused_undone : {A : Type 0} (s new : State) (given : Reply) (refused : Refusal) → is_accepted given ≡ true
     → CarriesOut (Err refused) s given new → A
 refused_undone s new given refused accepted carried = both_ways (sym (ap is_accepted carried.0) ∙ accepted) (refusal-refuses refused)
 
--- where a lending is carried out, the granule was unused
-lent_unused : (s new : State) (cpu granule : ℕ) (c : Call) (given : Reply) → lent c ≡ Some granule → is_accepted given ≡ true
-    → CarriesOut (outcome s cpu c) s given new → IsUnused (s.tag granule)
-lent_unused s new cpu granule c given lends accepted carried =
-    by (is_inside s cpu) (has_tag s granule lending.needed) refl
-    (subst (λ (r : Result Accepted Refusal). CarriesOut r s given new) (lending.found s cpu) carried)
+-- where a lending is carried out, the granule had the tag that it needs, and what it leads to puts the other
+pub lent_done : (s new : State) (cpu granule : ℕ) (c : Call) (given : Reply) (lending : IsLending granule c) → is_accepted given ≡ true
+    → CarriesOut (outcome s cpu c) s given new
+    → (s.tag granule ≡ lending.needed) × (outcome s cpu c ≡ Ok (done [] (Retagged (record { granule = granule; tag = lending.put }))))
+lent_done s new cpu granule c given lending accepted carried = by (is_inside s cpu) (has_tag s granule lending.needed) refl (lending.found s cpu)
   where
-    lending : IsLending granule c
-    lending = IsLending-from_lent granule c lends
+    undone : {A : Type 0} (refused : Refusal) → outcome s cpu c ≡ Err refused → A
+    undone refused is = refused_undone s new given refused accepted (subst (λ (r : Result Accepted Refusal). CarriesOut r s given new) is carried)
 
-    by : (inside has : Bool) → has_tag s granule lending.needed ≡ has → CarriesOut (lending_found inside has granule lending.put) s given new
-        → IsUnused (s.tag granule)
-    by true has is carried = refused_undone s new given (Misplaced OwnOutside) accepted carried
-    by false true is carried = subst IsUnused (sym (tag-has_tag s granule lending.needed is)) lending.unused
-    by false false is carried = refused_undone s new given (Input GranState) accepted carried
+    by : (inside has : Bool) → has_tag s granule lending.needed ≡ has → outcome s cpu c ≡ lending_found inside has granule lending.put
+        → (s.tag granule ≡ lending.needed) × (outcome s cpu c ≡ Ok (done [] (Retagged (record { granule = granule; tag = lending.put }))))
+    by true has is found = undone (Misplaced OwnOutside) found
+    by false true is found = (tag-has_tag s granule lending.needed is, found)
+    by false false is found = undone (Input GranState) found
 
 module _ (old middle new : State) (cpu other : ℕ) (one two : Command) (given answered : Reply) (granule : ℕ)
     (sound : IsSound old) (differ : ¬ (cpu ≡ other)) (lends : lent (call_of one) ≡ Some granule)
@@ -160,5 +165,7 @@ pub done_lending_turned : (old middle new : State) (cpu other : ℕ) (one two : 
     → is_named (named (call_of two)) granule ≡ false → Step old cpu one given middle → Step middle other two answered new
     → (between : State) × Step old other two answered between × Step between cpu one given new
 done_lending_turned old middle new cpu other one two given answered granule sound differ lends accepted unnamed first second =
+    let lending = IsLending-from_lent granule (call_of one) lends in
+    let needed = (lent_done old middle cpu granule (call_of one) given lending accepted first).0 in
     turned old middle new cpu other one two given answered granule sound differ lends unnamed
-    (inr (lent_unused old middle cpu granule (call_of one) given lends accepted first)) first second
+    (inr (subst IsUnused (sym needed) lending.needed_unused)) first second

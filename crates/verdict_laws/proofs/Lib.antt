@@ -20,9 +20,15 @@ pub mod Spared
 pub mod GivenBack
 pub mod SparedCalls
 pub mod Lending
+pub mod LentBack
 pub mod Patches
 pub mod SeparateLooks
 pub mod SeparateCalls
+pub mod Entries
+pub mod MakingLooks
+pub mod MakingCalls
+pub mod Endings
+pub mod EndingCalls
 pub mod Passing
 pub mod CallOrder
 pub mod Counts

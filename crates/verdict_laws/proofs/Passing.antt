@@ -11,11 +11,18 @@ use Rattle.rmm_spec.specs.Run.{JournalEntry, IsRun}
 use Rattle.rmm_spec.specs.Linearization.{AreEntriesOf, IsEntryOf, cpu_named}
 use Rattle.rmm_laws.proofs.RunLaws.{run-append}
 use Rattle.rmm_laws.proofs.Runs.{opened_run_sound}
-use Rattle.verdict_laws.specs.Apart.{Lends, IsApart, IsCarriedOut, NamesOthers}
+use Rattle.verdict_laws.specs.Apart.{Lends, IsApart, IsCarriedOut, LetsLend, NamesOthers}
+use Rattle.verdict_laws.specs.Beside.{AreBesideLines}
+use Rattle.verdict_laws.specs.Ending.{EndsApartLines}
 use Rattle.verdict_laws.specs.Forward.{AreOpen, Gives, IsKept, Passes}
+use Rattle.verdict_laws.specs.Making.{AreMadeApartLines}
 use Rattle.verdict_laws.specs.Separate.{AreSeparateLines}
 use Rattle.verdict_laws.proofs.Counted.{count_of-none}
+use Rattle.verdict_laws.proofs.EndingCalls.{ending_turned}
+use Rattle.verdict_laws.proofs.Entries.{entry_turned, work_turned}
 use Rattle.verdict_laws.proofs.Lending.{done_lending_turned, lending_turned}
+use Rattle.verdict_laws.proofs.LentBack.{lent_turned}
+use Rattle.verdict_laws.proofs.MakingCalls.{made_turned}
 use Rattle.verdict_laws.proofs.SeparateCalls.{separate_turned}
 
 -- open calls are of CPUs of their own
@@ -87,6 +94,16 @@ Passes-from_done_lending history place lines state line other granule kept lends
     (λ e f old middle new one two sound differ. done_lending_turned old middle new e.cpu f.cpu e.command f.command e.given f.given granule
     sound differ (lends one.called e.command one.is_called) (done e.given one.given) (others two.called f.command two.is_called))
 
+-- a line whose call may as well come behind a lending passes the line of that lending, where it is carried out
+pub Passes-from_lent : (history : History) (place : ℕ) (lines : List Line) (state : State) (line other : Line) (granule : ℕ)
+    → IsKept history place lines state → Lends history.events other granule → IsCarriedOut history.events other
+    → LetsLend history.events line other granule → Passes history place lines state line other
+Passes-from_lent history place lines state line other granule kept lends done lets =
+    Passes-from_exchange history place lines state line other kept
+    (λ e f old middle new one two sound differ. lent_turned old middle new e.cpu f.cpu e.command f.command e.given f.given granule
+    sound differ (lends two.called f.command two.is_called) (done f.given two.given)
+    (lets one.called two.called e.command f.command one.is_called two.is_called))
+
 -- so does one whose call is separate from the other's
 pub Passes-from_separate : (history : History) (place : ℕ) (lines : List Line) (state : State) (line other : Line)
     → AreSeparateLines history.events line other → Passes history place lines state line other
@@ -95,3 +112,36 @@ Passes-from_separate history place lines state line other separate before old ne
     (λ e f middle one two first second. separate_turned old middle new e.cpu f.cpu e.command f.command e.given f.given
     (separate one.called two.called e.command f.command e.given f.given one.is_called one.given two.is_called two.given) first second)
     given
+
+-- a line whose call enters a REC or leaves one passes one whose call works beside it
+pub Passes-from_entry : (history : History) (place : ℕ) (lines : List Line) (state : State) (line other : Line)
+    → IsKept history place lines state → AreBesideLines history.events line other → Passes history place lines state line other
+Passes-from_entry history place lines state line other kept beside =
+    Passes-from_exchange history place lines state line other kept
+    (λ e f old middle new one two sound differ. entry_turned old middle new e.cpu f.cpu e.command f.command e.given f.given
+    sound differ (beside one.called two.called e.command f.command f.given one.is_called two.is_called two.given))
+
+-- and is passed by it
+pub Passes-from_work : (history : History) (place : ℕ) (lines : List Line) (state : State) (line other : Line)
+    → IsKept history place lines state → AreBesideLines history.events other line → Passes history place lines state line other
+Passes-from_work history place lines state line other kept beside =
+    Passes-from_exchange history place lines state line other kept
+    (λ e f old middle new one two sound differ. work_turned old middle new e.cpu f.cpu e.command f.command e.given f.given
+    sound differ (beside two.called one.called f.command e.command e.given two.is_called one.is_called one.given))
+
+-- where both are carried out, a line whose call makes something or is local passes one whose call ends what the first doesn't name
+pub Passes-from_ending : (history : History) (place : ℕ) (lines : List Line) (state : State) (line other : Line)
+    → IsKept history place lines state → EndsApartLines history.events line other → IsCarriedOut history.events line
+    → IsCarriedOut history.events other → Passes history place lines state line other
+Passes-from_ending history place lines state line other kept apart done done_too =
+    Passes-from_exchange history place lines state line other kept
+    (λ e f old middle new one two sound differ. ending_turned old middle new e.cpu f.cpu e.command f.command e.given f.given
+    sound (apart one.called two.called e.command f.command one.is_called two.is_called) (done e.given one.given) (done_too f.given two.given))
+
+-- so does one whose call makes a realm or a REC, or is local, apart from the other's
+pub Passes-from_made_apart : (history : History) (place : ℕ) (lines : List Line) (state : State) (line other : Line)
+    → IsKept history place lines state → AreMadeApartLines history.events line other → Passes history place lines state line other
+Passes-from_made_apart history place lines state line other kept apart =
+    Passes-from_exchange history place lines state line other kept
+    (λ e f old middle new one two sound differ. made_turned old middle new e.cpu f.cpu e.command f.command e.given f.given sound
+    (apart one.called two.called e.command f.command e.given f.given one.is_called one.given two.is_called two.given))

@@ -35,7 +35,7 @@ patched s p = record s {
 }
 
 -- each value stays where a test doesn't pass
-abbrev Keeps : {A : Type 0} → (ℕ → Bool) → (ℕ → A → A) → Type 0
+abbrev pub Keeps : {A : Type 0} → (ℕ → Bool) → (ℕ → A → A) → Type 0
 Keeps {A} test put = (n : ℕ) → test n ≡ false → (old : A) → put n old ≡ old
 
 -- The patch puts tags of some granules, and what is of some realms.
@@ -50,7 +50,7 @@ abbrev pub AreDisjoint : (ℕ → Bool) → (ℕ → Bool) → Type 0
 AreDisjoint mine yours = (n : ℕ) → mine n ≡ true → yours n ≡ false
 
 -- what is put by the one and by the other may be put either way round
-put-swapped : {A : Type 0} (mine yours : ℕ → Bool) (first second : ℕ → A → A) → Keeps mine first → Keeps yours second → AreDisjoint mine yours
+pub put-swapped : {A : Type 0} (mine yours : ℕ → Bool) (first second : ℕ → A → A) → Keeps mine first → Keeps yours second → AreDisjoint mine yours
     → (n : ℕ) (old : A) → second n (first n old) ≡ first n (second n old)
 put-swapped {A} mine yours first second keeps keeps_too apart n old = by (mine n) refl
   where
@@ -80,23 +80,23 @@ tag_of_change (EntriesChanged rd level entries page realm rec) = page
 tag_of_change _ = None
 
 -- the realm's record that is replaced, if one is
-abbrev realm_of_change : Change → Option RealmChange
+abbrev pub realm_of_change : Change → Option RealmChange
 realm_of_change (RecordsChanged realm rec) = realm
 realm_of_change (EntriesChanged rd level entries page realm rec) = realm
 realm_of_change _ = None
 
 -- a tag is put
-abbrev put_tag : Option TagChange → ℕ → Tag → Tag
+abbrev pub put_tag : Option TagChange → ℕ → Tag → Tag
 put_tag None g old = old
 put_tag (Some change) g old = if g == change.granule then change.tag else old
 
 -- a realm's record is replaced
-abbrev put_realm : Option RealmChange → ℕ → Option RealmRecord → Option RealmRecord
+abbrev pub put_realm : Option RealmChange → ℕ → Option RealmRecord → Option RealmRecord
 put_realm None rd old = old
 put_realm (Some change) rd old = if rd == change.rd then Some (realm_updated change.update (unwrap_or old no_realm)) else old
 
 -- a table is put in or taken out
-abbrev put_table : Change → ℕ → (ℕ → ℕ → Option ℕ) → ℕ → ℕ → Option ℕ
+abbrev pub put_table : Change → ℕ → (ℕ → ℕ → Option ℕ) → ℕ → ℕ → Option ℕ
 put_table (TableMade rd level number rtt entry) other old l n = if is_same_table rd level number other l n then Some rtt else old l n
 put_table (TableDestroyed rd level number rtt entry) other old l n = if is_same_table rd level number other l n then None else old l n
 put_table _ other old l n = old l n
@@ -143,7 +143,7 @@ IsChangeOf own (EntriesChanged rd level entries page realm None) = (own ≡ Some
 IsChangeOf own _ = ⊥
 
 -- a record is replaced by what the realm's own record becomes
-realm_change-patched : (s : State) (change : Option RealmChange)
+pub realm_change-patched : (s : State) (change : Option RealmChange)
     → with_realm_change s change ≡ record s { realm = λ rd. put_realm change rd (s.realm rd) }
 unfolding realm_at
 realm_change-patched s None = refl
@@ -198,7 +198,7 @@ IsTagOf granules None = Unit {0}
 IsTagOf granules (Some change) = granules change.granule ≡ true
 
 -- other tags stay
-put_tag-keeps : (granules : ℕ → Bool) (change : Option TagChange) → IsTagOf granules change → Keeps granules (put_tag change)
+pub put_tag-keeps : (granules : ℕ → Bool) (change : Option TagChange) → IsTagOf granules change → Keeps granules (put_tag change)
 put_tag-keeps granules None is g other old = refl
 put_tag-keeps granules (Some change) is g other old = by (g == change.granule) refl
   where
@@ -207,11 +207,11 @@ put_tag-keeps granules (Some change) is g other old = by (g == change.granule) r
     by false same = rw same refl
 
 -- another realm's address
-other_realm : (own : Option ℕ) (rd other : ℕ) → own ≡ Some rd → is_own own other ≡ false → (other == rd) ≡ false
+pub other_realm : (own : Option ℕ) (rd other : ℕ) → own ≡ Some rd → is_own own other ≡ false → (other == rd) ≡ false
 other_realm own rd other is apart = (λ i. is_own (sym is i) other) ∙ apart
 
 -- other records stay
-put_realm-keeps : (own : Option ℕ) (change : Option RealmChange) → IsRecordOf own change → Keeps (is_own own) (put_realm change)
+pub put_realm-keeps : (own : Option ℕ) (change : Option RealmChange) → IsRecordOf own change → Keeps (is_own own) (put_realm change)
 put_realm-keeps own None is rd apart old = refl
 put_realm-keeps own (Some change) is rd apart old = rw (other_realm own change.rd rd is apart) refl
 
@@ -228,7 +228,7 @@ record_of_change own (EntriesChanged rd level entries page realm (Some rec)) is 
 record_of_change own _ is = absurd is
 
 -- the tables of other realms stay
-put_table-keeps : (own : Option ℕ) (change : Change) → IsChangeOf own change → Keeps (is_own own) (put_table change)
+pub put_table-keeps : (own : Option ℕ) (change : Change) → IsChangeOf own change → Keeps (is_own own) (put_table change)
 put_table-keeps own (TableMade rd level number rtt entry) is other apart old =
     ap (λ (b : Bool). λ l n. if b && l == level && n == number then Some rtt else old l n) (other_realm own rd other is apart)
 put_table-keeps own (TableDestroyed rd level number rtt entry) is other apart old =

@@ -14,15 +14,20 @@ use Rattle.rmm_spec.specs.declared.reply.Reply.{Reply}
 use Rattle.rmm_spec.specs.declared.reply.Reply.TheVariants as reply
 use Rattle.rmm_spec.specs.Call.{call_of}
 use Rattle.rmm_spec.specs.State.{State}
+use Rattle.rmm_spec.specs.Applicable.{CanApply}
+use Rattle.rmm_spec.specs.Change.{changed}
 use Rattle.rmm_spec.specs.Locks.{is_named}
+use Rattle.rmm_spec.specs.Lookup.{is_inside}
 use Rattle.rmm_spec.specs.Rows.{ok}
 use Rattle.rmm_spec.specs.Walk.{entry_address, walk}
+use Rattle.rmm_spec.specs.Sound.{IsSound}
 use Rattle.rmm_spec.specs.Step.Ripas.{reached_change}
 use Rattle.rmm_spec.specs.Step.Terms.{named}
 use Rattle.rmm_spec.specs.Step.{CarriesOut, Step, outcome}
 use Rattle.lemmas.proofs.Tests.{both_ways}
 use Rattle.spec_lemmas.proofs.Behind.{behind}
 use Rattle.rmm_laws.proofs.RowLaws.{outcome-leads}
+use Rattle.rmm_laws.proofs.Runs.{done_applies, reached_applies}
 use Rattle.verdict_laws.specs.Apart.{lent}
 use Rattle.verdict_laws.specs.Separate.{AreSeparate, is_freed, is_local, table_realm, works_on}
 use Rattle.verdict_laws.proofs.Patches.{AreDisjoint, IsChangeOf, IsTagOf, IsWithin, Patch, changed-patched, is_own, patch_of, patch_of-within, patched, patched-swapped, tag_of_change}
@@ -31,13 +36,13 @@ use Rattle.verdict_laws.proofs.SeparateLooks.{AgreeOn, AgreeOn-sym, IsReached-ag
 -- ---- what a call changes
 
 -- the change is of the call's realm, and puts a tag only where the call works
-abbrev IsWorkOf : Call → Reply → Change → Type 0
+abbrev pub IsWorkOf : Call → Reply → Change → Type 0
 IsWorkOf c given change = IsChangeOf (table_realm c) change × IsTagOf (works_on c given) (tag_of_change change)
 
--- so is what is accepted, whatever end a reply gives
-abbrev IsAcceptedOf : Call → Accepted → Type 0
-IsAcceptedOf c (Done words change) = IsWorkOf c (reply.Ok words) change
-IsAcceptedOf c (Reaches stretch) = (table_realm c ≡ Some stretch.rd) × ((top : ℕ) → IsWorkOf c (ok (top ∷ [])) (reached_change stretch top))
+-- so is what is accepted, whatever end a reply gives, and a stretch is of the realm
+abbrev pub IsAcceptedOf : (Reply → Change → Type 0) → Option ℕ → Accepted → Type 0
+IsAcceptedOf Work own (Done words change) = Work (reply.Ok words) change
+IsAcceptedOf Work own (Reaches stretch) = (own ≡ Some stretch.rd) × ((top : ℕ) → Work (ok (top ∷ [])) (reached_change stretch top))
 
 -- a granule that is named behind the realm
 named_second : (rd granule : ℕ) (others freed : Bool) → (rd == granule || (granule == granule || others) || freed) ≡ true
@@ -50,7 +55,7 @@ told_freed : (names : Bool) (granule : ℕ) → (names || granule == granule) �
 told_freed names granule = or_right names (granule == granule) (eq-eqb granule granule refl)
 
 -- each such call accepts what is of its realm
-behind_work : (s : State) (cpu : ℕ) (c : Call) → is_local c ≡ true → IsAcceptedOf c (behind s cpu c).1
+pub behind_work : (s : State) (cpu : ℕ) (c : Call) → is_local c ≡ true → IsAcceptedOf (IsWorkOf c) (table_realm c) (behind s cpu c).1
 unfolding table_realm lent is_freed behind named reached_change
 behind_work s cpu (call.GranuleDelegate granule) local = (tt, rw (eq-eqb granule granule refl) refl)
 behind_work s cpu (call.GranuleUndelegate granule) local = (tt, rw (eq-eqb granule granule refl) refl)
@@ -70,75 +75,98 @@ behind_work s cpu _ local = both_ways local refl
 
 -- ---- steps
 
--- A step puts a patch that is within the call's realm and the granules that it works on, in each state that agrees on what it reads.
-record IsPatching (s : State) (cpu : ℕ) (command : Command) (given : Reply) (new : State) : Type 0 where
-  patch : Patch
-  within : IsWithin (works_on (call_of command) given) (is_own (table_realm (call_of command))) patch
-  is_new : new ≡ patched s patch
-  again : (t : State) → AgreeOn (call_of command) s t → Step t cpu command given (patched t patch)
+-- A step makes a change that is such work and that a sound state can take, and makes it in each state that agrees.
+pub record IsChanging (Work : Reply → Change → Type 0) (Agrees : State → Type 0)
+    (s : State) (cpu : ℕ) (command : Command) (given : Reply) (new : State) : Type 0 where
+  pub change : Change
+  pub work : Work given change
+  pub applies : IsSound s → CanApply s change
+  pub is_new : new ≡ changed s change
+  pub again : (t : State) → Agrees t → Step t cpu command given (changed t change)
 
-module _ (s : State) (cpu : ℕ) (command : Command) (given : Reply) (new : State) (local : is_local (call_of command) ≡ true) where
+module _ (Work : Reply → Change → Type 0) (Agrees : State → Type 0) (s : State) (cpu : ℕ) (command : Command) (given : Reply) (new : State)
+    (on : (t : State) → Agrees t → AgreeOn cpu (call_of command) s t)
+    (same : (t : State) → Agrees t → outcome t cpu (call_of command) ≡ outcome s cpu (call_of command))
+    (idle : Work given Unchanged) (accepts : IsAcceptedOf Work (table_realm (call_of command)) (behind s cpu (call_of command)).1) where
   -- what the same outcome makes of a state that agrees is a step there
-  step_again : (found : Result Accepted Refusal) → outcome s cpu (call_of command) ≡ found → (t last : State) → AgreeOn (call_of command) s t
+  step_again : (found : Result Accepted Refusal) → outcome s cpu (call_of command) ≡ found → (t last : State) → Agrees t
       → CarriesOut found t given last → Step t cpu command given last
   step_again found is t last agree carried =
-      subst (λ (r : Result Accepted Refusal). CarriesOut r t given last)
-      (sym (outcome-agree s t cpu (call_of command) local agree ∙ is)) carried
+      subst (λ (r : Result Accepted Refusal). CarriesOut r t given last) (sym (same t agree ∙ is)) carried
+
+  -- what is accepted is such work
+  accepted_work : (accepted : Accepted) → outcome s cpu (call_of command) ≡ Ok accepted → IsAcceptedOf Work (table_realm (call_of command)) accepted
+  accepted_work accepted is =
+      subst (λ (a : Accepted). IsAcceptedOf Work (table_realm (call_of command)) a) (outcome-leads s cpu (call_of command) (Ok accepted) is).1 accepts
 
   -- by what the call leads to
-  patching_by : (found : Result Accepted Refusal) → outcome s cpu (call_of command) ≡ found → CarriesOut found s given new
-      → IsPatching s cpu command given new
-  patching_by (Err refused) is carried = record {
-    patch = patch_of Unchanged;
-    within = patch_of-within (works_on (call_of command) given) (table_realm (call_of command)) Unchanged tt tt;
+  changing_by : (found : Result Accepted Refusal) → outcome s cpu (call_of command) ≡ found → CarriesOut found s given new
+      → IsChanging Work Agrees s cpu command given new
+  unfolding changed
+  changing_by (Err refused) is carried = record {
+    change = Unchanged;
+    work = idle;
+    applies = λ sound. tt;
     is_new = carried.1;
     again = λ t agree. step_again (Err refused) is t t agree (carried.0, refl);
   }
-  patching_by (Ok (Done words change)) is carried =
-      let c = call_of command in
-      let work : IsWorkOf c (reply.Ok words) change =
-      subst (λ (a : Accepted). IsAcceptedOf c a) (outcome-leads s cpu c (Ok (Done words change)) is).1 (behind_work s cpu c local) in
-      record {
-        patch = patch_of change;
-        within = subst (λ (r : Reply). IsWithin (works_on c r) (is_own (table_realm c)) (patch_of change)) (sym carried.0)
-            (patch_of-within (works_on c (reply.Ok words)) (table_realm c) change work.1 work.0);
-        is_new = carried.1 ∙ changed-patched s (table_realm c) change work.0;
-        again = λ t agree. step_again (Ok (Done words change)) is t (patched t (patch_of change)) agree
-            (carried.0, sym (changed-patched t (table_realm c) change work.0));
-      }
-  patching_by (Ok (Reaches stretch)) is carried =
-      let c = call_of command in
+  changing_by (Ok (Done words change)) is carried = record {
+    change = change;
+    work = subst (λ (r : Reply). Work r change) (sym carried.0) (accepted_work (Done words change) is);
+    applies = λ sound. done_applies s cpu command words.items change sound is;
+    is_new = carried.1;
+    again = λ t agree. step_again (Ok (Done words change)) is t (changed t change) agree (carried.0, refl);
+  }
+  changing_by (Ok (Reaches stretch)) is carried =
       let top = carried.0 in
       let change = reached_change stretch top in
-      let work : IsAcceptedOf c (Reaches stretch) =
-      subst (λ (a : Accepted). IsAcceptedOf c a) (outcome-leads s cpu c (Ok (Reaches stretch)) is).1 (behind_work s cpu c local) in
+      let work = accepted_work (Reaches stretch) is in
       record {
-        patch = patch_of change;
-        within = subst (λ (r : Reply). IsWithin (works_on c r) (is_own (table_realm c)) (patch_of change)) (sym carried.1.1)
-            (patch_of-within (works_on c (ok (top ∷ []))) (table_realm c) change (work.1 top).1 (work.1 top).0);
-        is_new = carried.1.2 ∙ changed-patched s (table_realm c) change (work.1 top).0;
-        again = λ t agree. step_again (Ok (Reaches stretch)) is t (patched t (patch_of change)) agree (
+        change = change;
+        work = subst (λ (r : Reply). Work r change) (sym carried.1.1) (work.1 top);
+        applies = λ sound. reached_applies s cpu command stretch top sound is carried.1.0;
+        is_new = carried.1.2;
+        again = λ t agree. step_again (Ok (Reaches stretch)) is t (changed t change) agree (
           top,
-          (
-            IsReached-agree s t c stretch top agree work.0 carried.1.0,
-            carried.1.1,
-            sym (changed-patched t (table_realm c) change (work.1 top).0),
-          ),
+          (IsReached-agree s t cpu (call_of command) stretch top (on t agree) work.0 carried.1.0, carried.1.1, refl),
         );
       }
 
-  -- so each step is one
-  step_patching : Step s cpu command given new → IsPatching s cpu command given new
-  step_patching step = patching_by (outcome s cpu (call_of command)) refl step
+  -- so each step does
+  pub step_changing : Step s cpu command given new → IsChanging Work Agrees s cpu command given new
+  step_changing step = changing_by (outcome s cpu (call_of command)) refl step
+
+-- A step puts a patch that is within the call's realm and the granules that it works on, in each state that agrees on what it reads.
+pub record IsPatching (s : State) (cpu : ℕ) (command : Command) (given : Reply) (new : State) : Type 0 where
+  pub patch : Patch
+  pub within : IsWithin (works_on (call_of command) given) (is_own (table_realm (call_of command))) patch
+  pub is_new : new ≡ patched s patch
+  pub again : (t : State) → AgreeOn cpu (call_of command) s t → Step t cpu command given (patched t patch)
+
+-- so does each step of a local call
+pub step_patching : (s : State) (cpu : ℕ) (command : Command) (given : Reply) (new : State) → is_local (call_of command) ≡ true
+    → Step s cpu command given new → IsPatching s cpu command given new
+step_patching s cpu command given new local step =
+    let c = call_of command in
+    let made = step_changing (IsWorkOf c) (AgreeOn cpu c s) s cpu command given new (λ t agree. agree)
+    (λ t agree. outcome-agree s t cpu c local agree) (tt, tt) (behind_work s cpu c local) step in
+    record {
+      patch = patch_of made.change;
+      within = patch_of-within (works_on c given) (table_realm c) made.change made.work.1 made.work.0;
+      is_new = made.is_new ∙ changed-patched s (table_realm c) made.change made.work.0;
+      again = λ t agree. subst (λ (u : State). Step t cpu command given u) (changed-patched t (table_realm c) made.change made.work.0)
+          (made.again t agree);
+    }
 
 -- ---- what another call leaves
 
 -- a patch of other granules and realms leaves what the call reads
-AgreeOn-patched : (s : State) (c : Call) (granules realms : ℕ → Bool) (p : Patch) → IsWithin granules realms p
-    → AreDisjoint (is_named (named c)) granules → AreDisjoint (is_own (table_realm c)) realms → AgreeOn c s (patched s p)
-AgreeOn-patched s c granules realms p within apart others = record {
+pub AgreeOn-patched : (s : State) (cpu : ℕ) (c : Call) (granules realms : ℕ → Bool) (p : Patch) → IsWithin granules realms p
+    → AreDisjoint (is_named (named c)) granules → AreDisjoint (is_own (table_realm c)) realms → AgreeOn cpu c s (patched s p)
+unfolding is_inside
+AgreeOn-patched s cpu c granules realms p within apart others = record {
   config = refl;
-  rec = refl;
+  inside = refl;
   tag = λ granule is. within.tag granule (apart granule is) (s.tag granule);
   realm = λ rd is. within.realm rd (elsewhere rd is) (s.realm rd);
   table = λ rd is. within.table rd (elsewhere rd is) (s.table rd);
@@ -151,14 +179,14 @@ AgreeOn-patched s c granules realms p within apart others = record {
 -- ---- two calls
 
 -- the realms of separate calls are apart
-realms_apart : (mine yours : Option ℕ) → ((rd other : ℕ) → mine ≡ Some rd → yours ≡ Some other → ¬ (rd ≡ other))
+pub realms_apart : (mine yours : Option ℕ) → ((rd other : ℕ) → mine ≡ Some rd → yours ≡ Some other → ¬ (rd ≡ other))
     → AreDisjoint (is_own mine) (is_own yours)
 realms_apart None yours differ n is = both_ways is refl
 realms_apart (Some rd) None differ n is = refl
 realms_apart (Some rd) (Some other) differ n is = ne_eqb n other (λ same. differ rd other refl refl (sym (eqb-true n rd is) ∙ same))
 
 -- nothing passes the two tests either way round
-disjoint-sym : (mine yours : ℕ → Bool) → AreDisjoint mine yours → AreDisjoint yours mine
+pub disjoint-sym : (mine yours : ℕ → Bool) → AreDisjoint mine yours → AreDisjoint yours mine
 disjoint-sym mine yours apart n is = false_from_ne_true (mine n) (λ hit. both_ways is (apart n hit))
 
 module _ (old middle new : State) (cpu other : ℕ) (one two : Command) (given answered : Reply)
@@ -181,12 +209,12 @@ module _ (old middle new : State) (cpu other : ℕ) (one two : Command) (given a
       after.is_new
       ∙ patched-swapped old (works_on c given) (works_on d answered) (is_own (table_realm c)) (is_own (table_realm d)) p q
       before.within after.within granules realms in
-      let early = AgreeOn-patched old d (works_on c given) (is_own (table_realm c)) p before.within
+      let early = AgreeOn-patched old other d (works_on c given) (is_own (table_realm c)) p before.within
       (λ g is. granules_too g (or_left (is_named (named d) g) (is_freed d answered g) is))
       (disjoint-sym (is_own (table_realm c)) (is_own (table_realm d)) realms) in
-      let late = AgreeOn-patched old c (works_on d answered) (is_own (table_realm d)) q after.within
+      let late = AgreeOn-patched old cpu c (works_on d answered) (is_own (table_realm d)) q after.within
       (λ g is. granules g (or_left (is_named (named c) g) (is_freed c given g) is)) realms in (
         patched old q,
-        after.again old (AgreeOn-sym d old (patched old p) early),
+        after.again old (AgreeOn-sym other d old (patched old p) early),
         subst (λ (s : State). Step (patched old q) cpu one given s) (sym same) (before.again (patched old q) late),
       )

@@ -164,7 +164,7 @@ abbrev pub RunAlike : ℕ → State → State → Type 0
 RunAlike cpu s t = (g : ℕ) → runs_on cpu (t.rec g) ≡ runs_on cpu (s.rec g)
 
 -- where a record is put that runs there as the one before, or none
-put_rec-runs : (s : State) (cpu rec : ℕ) (new : Option RecRecord) → runs_on cpu new ≡ runs_on cpu (s.rec rec)
+pub put_rec-runs : (s : State) (cpu rec : ℕ) (new : Option RecRecord) → runs_on cpu new ≡ runs_on cpu (s.rec rec)
     → (g : ℕ) → runs_on cpu (if g == rec then new else s.rec g) ≡ runs_on cpu (s.rec g)
 put_rec-runs s cpu rec new same g = by_address (λ found. runs_on cpu found ≡ runs_on cpu (s.rec g)) g rec new (s.rec g)
     (λ here. same ∙ ap (λ a. runs_on cpu (s.rec a)) (sym here)) (λ _. refl)

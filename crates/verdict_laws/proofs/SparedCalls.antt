@@ -77,7 +77,7 @@ pub record Leaves (old : State) (granule cpu : ℕ) (new : State) : Type 0 where
 -- ---- RECs
 
 -- a REC that runs on no CPU doesn't run on this one
-idle_elsewhere : (cpu : ℕ) (found : Option ℕ) → IsTrue (is_none found) → is_cpu cpu found ≡ false
+pub idle_elsewhere : (cpu : ℕ) (found : Option ℕ) → IsTrue (is_none found) → is_cpu cpu found ≡ false
 idle_elsewhere cpu None idle = refl
 idle_elsewhere cpu (Some at) idle = both_ways idle refl
 
@@ -87,7 +87,7 @@ runs_elsewhere cpu other None differ runs = refl
 runs_elsewhere cpu other (Some at) differ runs = ne_eqb at cpu (λ same. differ (sym same ∙ eqb-true at other runs))
 
 -- no REC stands at a granule that waits for use
-none_waiting : (s : State) (cpu rec : ℕ) → IsSound s → IsTrue (has_tag s rec Delegated) → runs_on cpu (s.rec rec) ≡ false
+pub none_waiting : (s : State) (cpu rec : ℕ) → IsSound s → IsTrue (has_tag s rec Delegated) → runs_on cpu (s.rec rec) ≡ false
 none_waiting s cpu rec sound waits =
     ap (runs_on cpu) (none_of (s.rec rec) (sound.recs.tagged rec ∙ has_tag-other s rec Delegated Rec waits refl))
 

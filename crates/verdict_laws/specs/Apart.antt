@@ -1,5 +1,5 @@
 -- Calls that lend a granule to the realm world or take it back, and calls that have nothing to do with the granule.
-use Rattle.std.specs.Prelude.{◌≡◌, ℕ, Bool, true, false, not, ◌&&◌, List, Option, Some, None}
+use Rattle.std.specs.Prelude.{◌≡◌, ℕ, Bool, true, false, not, ◌&&◌, ◌||◌, List, Option, Some, None}
 use Rattle.rmm_spec.specs.declared.call.Call.{Call}
 use Rattle.rmm_spec.specs.declared.call.Call.TheVariants.{GranuleDelegate, GranuleUndelegate, DataDestroy, RealmDestroy, RecDestroy, RttRemove}
 use Rattle.rmm_spec.specs.declared.command.Command.{Command}
@@ -50,3 +50,20 @@ NamesOthers events line granule =
 -- the line's call is carried out
 abbrev pub IsCarriedOut : List Event → Line → Type 0
 IsCarriedOut events line = (given : Reply) → IsReplyOf events line given → is_accepted given ≡ true
+
+-- whether a call lends a granule to the realm world
+unfoldable pub is_delegation : Call → Bool
+is_delegation (GranuleDelegate granule) = true
+is_delegation _ = false
+
+-- whether a lending of the granule that is carried out behind a call may come before it: the call doesn't name the granule, and gives back
+-- none that it doesn't name, or none that was the host's
+abbrev pub lets_lend : Call → Call → ℕ → Bool
+lets_lend call lending granule = not (is_named (named call) granule) && (is_delegation lending || not (frees_unnamed call))
+
+-- the same of the calls of two lines
+abbrev pub LetsLend : List Event → Line → Line → ℕ → Type 0
+LetsLend events line lending granule = (called called_too : ℕ) (command also : Command)
+    → IsCalled events called (cpu_named line) (number_named line) command
+    → IsCalled events called_too (cpu_named lending) (number_named lending) also
+    → lets_lend (call_of command) (call_of also) granule ≡ true

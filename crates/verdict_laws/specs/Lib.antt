@@ -6,3 +6,6 @@ pub mod Looking
 pub mod Unread
 pub mod Registers
 pub mod Separate
+pub mod Beside
+pub mod Making
+pub mod Ending

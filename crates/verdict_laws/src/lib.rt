@@ -1,25 +1,33 @@
 //! What follows from the definitions of verdicts and orders: each law is the contract of a function that does nothing.
 //! It promises that some verdict is right of any two texts and no two are, so `Judges` leaves a checker nothing to choose; of an order that is
 //! begun, where it leads nowhere and where it is a linearization (`begun`, line by line); for a search through a history's events, where a
-//! kept order leads nowhere, and which calls pass others: those of other granules, and those on the tables of other realms; that no order is lost
-//! where each reading of a measurement extends one, and that a register's own calls are a run of it. The search for an order stands on these.
+//! kept order leads nowhere, and which calls pass others (`apart`, `beside`, `ending`, `making`, `separate`); that no order is lost where each
+//! reading of a measurement extends one, and that a register's own calls are a run of it. The search for an order stands on these.
 #![tactic(auto)]
 
 mod apart;
 mod begun;
+mod beside;
+mod ending;
 mod exchanges;
+mod making;
 mod registers;
 mod separate;
 mod unread;
 mod verdicts;
 
-pub use apart::{done_lending_exchanges, done_lending_passes, lending_exchanges, lending_passes};
+pub use apart::{
+    done_lending_exchanges, done_lending_passes, lending_comes_first, lending_exchanges,
+    lending_is_passed, lending_passes,
+};
 pub use begun::{
     grown_order_is_linearization, no_line_reaches_opening, nowhere_after_a_look,
     nowhere_after_a_refusal, nowhere_after_each_next, nowhere_by_configuration, nowhere_by_replies,
     nowhere_past_a_return, nowhere_unless_next, one_line_more, open_beginning_is_no_order,
     orders_are_short,
 };
+pub use beside::{entries_exchange, entries_pass};
+pub use ending::{ending_comes_first, ending_is_passed};
 pub use exchanges::{
     a_returning_call_is_open, all_kept_behind_a_call, all_kept_behind_a_return,
     all_kept_where_covered, first_parts_have_orders, kept_at_first, kept_at_last_is_linearization,
@@ -28,6 +36,7 @@ pub use exchanges::{
     nowhere_after_each_open_call, nowhere_after_looks, nowhere_at_a_return, nowhere_in_a_group,
     nowhere_in_either_order, nowhere_with_a_movable_call,
 };
+pub use making::{made_apart_exchange, made_apart_pass};
 pub use registers::{
     nowhere_without_possibilities, register_after_a_return, register_after_another_event,
     register_at_first, register_runs,

@@ -3,4 +3,4 @@ use Rattle.finding.specs.Group.{PassInside, is_inside}
 use Rattle.finding.proofs.group.drawn_in.Given as goal
 
 abbrev pub invariant-loop-cpu : goal.invariant-loop-cpu
-invariant-loop-cpu l = record { passes : PassInside l.history.recorded l.begun (is_inside l.group) l.cpu }
+invariant-loop-cpu l = PassInside l.calls (is_inside l.group) l.cpu

@@ -1,0 +1,12 @@
+-- What is found of a history's first events.
+use Rattle.std.specs.Prelude.{⊤, ℕ}
+use Rattle.rmm_spec.specs.HistoryText.{History}
+use Rattle.finding.specs.Found.{HasNoneUpTo}
+use Rattle.finding.specs.declared.naming.Beginning.{Beginning}
+use Rattle.finding.specs.declared.naming.Beginning.TheVariants as beginning
+
+-- of those that are said to have no order none is a linearization
+abbrev pub IsBeginning : History → ℕ → Beginning → Type 0
+IsBeginning history place (beginning.Lost lost) = HasNoneUpTo history place
+IsBeginning history place beginning.Ordered = ⊤
+IsBeginning history place beginning.Open = ⊤

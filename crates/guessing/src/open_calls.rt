@@ -1,0 +1,74 @@
+//! The calls that are open at an event, by their CPUs.
+
+use crate::calls::{CPUS, OpenCall};
+
+/// The open call of each CPU, where it has one that returns later.
+#[derive(Drop)]
+pub(crate) struct OpenCalls {
+    calls: [Option<OpenCall>; CPUS],
+}
+
+impl OpenCalls {
+    /// No call is open.
+    pub(crate) fn none() -> OpenCalls {
+        OpenCalls {
+            calls: [None; CPUS],
+        }
+    }
+
+    /// The CPU's open call.
+    pub(crate) fn of(&self, cpu: usize) -> Option<OpenCall> {
+        match self.calls.get(cpu) {
+            Some(call) => *call,
+            None => None,
+        }
+    }
+
+    /// The call is its CPU's open one.
+    pub(crate) fn put(&mut self, call: OpenCall) {
+        if let Some(open) = self.calls.get_mut(usize::from(call.cpu)) {
+            *open = Some(call);
+        }
+    }
+
+    /// The CPU has no open call any longer.
+    pub(crate) fn close(&mut self, cpu: usize) {
+        if let Some(open) = self.calls.get_mut(cpu) {
+            *open = None;
+        }
+    }
+
+    /// Whether the CPU has an open call that doesn't stand in the order.
+    pub(crate) fn waits(&self, cpu: usize) -> bool {
+        match self.calls.get(cpu) {
+            Some(Some(call)) => !call.is_placed,
+            _ => false,
+        }
+    }
+
+    /// Whether the CPU's open call changes nothing, and doesn't stand in the order.
+    pub(crate) fn waits_for_a_look(&self, cpu: usize) -> bool {
+        match self.calls.get(cpu) {
+            Some(Some(call)) => call.is_look && !call.is_placed,
+            _ => false,
+        }
+    }
+
+    /// The open call that returns first after the place.
+    pub(crate) fn next_return(&self, place: usize) -> Option<OpenCall> {
+        let mut next: Option<OpenCall> = None;
+        for open in &self.calls {
+            let Some(call) = open else {
+                continue;
+            };
+            if call.returned as usize <= place {
+                continue;
+            }
+            match next {
+                Some(first) if first.returned < call.returned => {}
+                _ => next = Some(*call),
+            }
+        }
+        next
+    }
+}

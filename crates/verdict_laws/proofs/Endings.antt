@@ -1,0 +1,231 @@
+-- What a call reads and changes that ends a REC or a realm.
+use Rattle.std.proofs.Common.{◌≡◌, ℕ, ◌==◌, Bool, false, ◌||◌, not, if◌then◌else◌, IsTrue, List, [], ◌∷◌, Option, None, refl, sym, ◌∙◌, ap}
+use Rattle.std.specs.Prelude.{Ok, Err, is_none, unwrap_or}
+use Rattle.std.specs.List.{AllByRecursion}
+use Rattle.std.proofs.lemmas.Bool.{ne_eqb, or_parts}
+use Rattle.rmm_spec.specs.declared.accepted.Accepted.{Accepted}
+use Rattle.rmm_spec.specs.declared.call.Call.TheVariants as call
+use Rattle.rmm_spec.specs.declared.change.Change.{Change}
+use Rattle.rmm_spec.specs.declared.change.Change.TheVariants.{RealmDestroyed, RecDestroyed}
+use Rattle.rmm_spec.specs.declared.condition.Condition.TheVariants.{OwnOutside}
+use Rattle.rmm_spec.specs.declared.refusal.Refusal.TheVariants.{Misplaced}
+use Rattle.rmm_spec.specs.declared.tag.Tag.{Tag}
+use Rattle.rmm_spec.specs.declared.tag.Tag.TheVariants.{Delegated, Rd, Rec, RecAux, Rtt}
+use Rattle.rmm_spec.specs.Change.{changed}
+use Rattle.rmm_spec.specs.State.{State, RealmRecord, RecRecord}
+use Rattle.rmm_spec.specs.Sound.{IsSound}
+use Rattle.rmm_spec.specs.Lookup.{has_rec, has_tag, has_vmid, is_inside, no_rec, realm_at, rec_at}
+use Rattle.rmm_spec.specs.Walk.{entry_at, has_entry}
+use Rattle.rmm_spec.specs.Rows.{done}
+use Rattle.rmm_spec.specs.Step.Realm.{realm_destroy_told}
+use Rattle.rmm_spec.specs.Step.Rec.{rec_destroy}
+use Rattle.rmm_spec.specs.Step.Terms.{class_of, named, words_of}
+use Rattle.rmm_spec.specs.Step.{answer_of, commands, outcome}
+use Rattle.lemmas.proofs.Tests.{both_ways}
+use Rattle.spec_lemmas.proofs.Behind.{behind}
+use Rattle.spec_lemmas.proofs.TagLaws.{tag-has_tag}
+use Rattle.rmm_laws.proofs.Cases.{by_address}
+use Rattle.rmm_laws.proofs.RowLaws.{front-rest, outcome-leads}
+use Rattle.rmm_laws.proofs.Searches.{realm_there, rec_there}
+use Rattle.verdict_laws.proofs.Patches.{AreDisjoint, IsWithin, Keeps, Patch, patched}
+use Rattle.verdict_laws.proofs.SeparateLooks.{with_recs}
+use Rattle.verdict_laws.proofs.Spared.{is_inside-alike, put_rec-runs, runs_on-read}
+use Rattle.verdict_laws.proofs.SparedCalls.{idle_elsewhere}
+
+-- ---- what an ending puts
+
+-- granules that are given back wait for use
+abbrev put_back : List ℕ → ℕ → Tag → Tag
+put_back [] g old = old
+put_back (x ∷ more) g old = if g == x then Delegated else put_back more g old
+
+-- whether it is one of them
+abbrev is_among : List ℕ → ℕ → Bool
+is_among [] g = false
+is_among (x ∷ more) g = g == x || is_among more g
+
+-- other granules keep their tags
+put_back-keeps : (back : List ℕ) → Keeps (is_among back) (put_back back)
+put_back-keeps [] g other old = refl
+put_back-keeps (x ∷ more) g other old =
+    let parts = or_parts (g == x) (is_among more g) other in rw parts.0 (put_back-keeps more g parts.1 old)
+
+-- where a test passes none of them, it passes others alone
+among_apart : (test : ℕ → Bool) (back : List ℕ) → AllByRecursion (λ (x : ℕ). test x ≡ false) back → AreDisjoint test (is_among back)
+among_apart test [] none g is = refl
+among_apart test (x ∷ more) none g is =
+    rw (ne_eqb g x (λ same. both_ways is (ap test same ∙ none.0)), among_apart test more none.1 g is) refl
+
+-- the state with a patch and RECs put
+abbrev pub ended : State → Patch → (ℕ → Option RecRecord → Option RecRecord) → State
+ended s patch rec = with_recs (patched s patch) (λ g. rec g (s.rec g))
+
+-- What an ending puts, in each state: a patch and RECs of other granules and realms than those tests pass, so that the CPU is still inside of
+-- a REC in the old state, or of none, and no realm has a VMID that none had.
+pub record IsEnding (mine own : ℕ → Bool) (old : State) (cpu : ℕ) (change : Change) : Type 0 where
+  pub patch : Patch
+  pub rec : ℕ → Option RecRecord → Option RecRecord
+  pub is_put : (s : State) → changed s change ≡ ended s patch rec
+  pub granules : ℕ → Bool
+  pub realms : ℕ → Bool
+  pub within : IsWithin granules realms patch
+  pub keeps : Keeps granules rec
+  pub apart : AreDisjoint mine granules
+  pub others : AreDisjoint own realms
+  pub inside : is_inside (ended old patch rec) cpu ≡ is_inside old cpu
+  pub vmid : (vmid g : ℕ) (realm : Option RealmRecord) → has_vmid vmid realm ≡ false → has_vmid vmid (patch.realm g realm) ≡ false
+
+-- a REC is destroyed
+pub rec_ending : (mine own : ℕ → Bool) (old : State) (cpu rec aux0 aux1 : ℕ) → mine rec ≡ false → mine aux0 ≡ false → mine aux1 ≡ false
+    → IsTrue (is_none (rec_at old rec).cpu) → IsEnding mine own old cpu (RecDestroyed rec aux0 aux1)
+unfolding changed rec_at
+rec_ending mine own old cpu rec aux0 aux1 free free0 free1 idle =
+    let patch : Patch = record {
+      tag = put_back (aux1 ∷ aux0 ∷ rec ∷ []);
+      realm = λ rd old. old;
+      table = λ rd old. old;
+      leaf = λ rd old. old;
+    } in
+    let gone : ℕ → Option RecRecord → Option RecRecord = λ g old. if g == rec then None else old in
+    record {
+      patch = patch;
+      rec = gone;
+      is_put = λ s. refl;
+      granules = is_among (aux1 ∷ aux0 ∷ rec ∷ []);
+      realms = λ rd. false;
+      within = record {
+        tag = put_back-keeps (aux1 ∷ aux0 ∷ rec ∷ []);
+        realm = λ rd apart old. refl;
+        table = λ rd apart old. refl;
+        leaf = λ rd apart old. refl;
+      };
+      keeps = λ g elsewhere old.
+          let unlike = or_parts (g == aux1) (is_among (aux0 ∷ rec ∷ []) g) elsewhere in
+          let still = or_parts (g == aux0) (is_among (rec ∷ []) g) unlike.1 in rw (or_parts (g == rec) false still.1).0 refl;
+      apart = among_apart mine (aux1 ∷ aux0 ∷ rec ∷ []) (free1, (free0, (free, tt)));
+      others = λ rd is. refl;
+      inside = is_inside-alike old (ended old patch gone) cpu refl
+          (put_rec-runs old cpu rec None
+          (sym (runs_on-read old.rec cpu rec ∙ idle_elsewhere cpu (unwrap_or (old.rec rec) no_rec).cpu idle)));
+      vmid = λ vmid g realm none. none;
+    }
+
+-- elsewhere tables and leaves stay
+places_stay : {A : Type 0} (old : ℕ → ℕ → Option A) (here : Bool) → here ≡ false → (λ level number. if here then None else old level number) ≡ old
+places_stay {A} old here elsewhere = ap (λ (b : Bool). λ level number. if b then None else old level number) elsewhere
+
+-- a realm is destroyed
+pub realm_ending : (mine own : ℕ → Bool) (old : State) (cpu rd root : ℕ) → mine rd ≡ false → mine root ≡ false → own rd ≡ false
+    → IsEnding mine own old cpu (RealmDestroyed rd root)
+unfolding changed is_inside
+realm_ending mine own old cpu rd root free free_root other = record {
+  patch = record {
+    tag = put_back (root ∷ rd ∷ []);
+    realm = λ n old. if n == rd then None else old;
+    table = λ n old level number. if n == rd then None else old level number;
+    leaf = λ n old level number. if n == rd then None else old level number;
+  };
+  rec = λ g old. old;
+  is_put = λ s. refl;
+  granules = is_among (root ∷ rd ∷ []);
+  realms = is_among (rd ∷ []);
+  within = record {
+    tag = put_back-keeps (root ∷ rd ∷ []);
+    realm = λ n elsewhere old. ap (λ (here : Bool). if here then None else old) (or_parts (n == rd) false elsewhere).0;
+    table = λ n elsewhere old. places_stay old (n == rd) (or_parts (n == rd) false elsewhere).0;
+    leaf = λ n elsewhere old. places_stay old (n == rd) (or_parts (n == rd) false elsewhere).0;
+  };
+  keeps = λ g elsewhere old. refl;
+  apart = among_apart mine (root ∷ rd ∷ []) (free_root, (free, tt));
+  others = among_apart own (rd ∷ []) (other, tt);
+  inside = refl;
+  vmid = λ vmid g realm none. by_address (λ found. has_vmid vmid found ≡ false) g rd None realm (λ _. refl) (λ _. none);
+}
+
+-- ---- what an ending reads
+
+-- The states agree on the granule's tag, on the realm or the REC there, on whether a REC belongs to the realm, and on whether the CPU is inside
+-- of one.
+pub record AgreeAt (cpu granule : ℕ) (s t : State) : Type 0 where
+  pub config : t.config ≡ s.config
+  pub inside : is_inside t cpu ≡ is_inside s cpu
+  pub tag : t.tag granule ≡ s.tag granule
+  pub realm : t.realm granule ≡ s.realm granule
+  pub rec : t.rec granule ≡ s.rec granule
+  pub table : t.table granule ≡ s.table granule
+  pub leaf : t.leaf granule ≡ s.leaf granule
+  pub owns : has_rec t granule ≡ has_rec s granule
+
+-- the end of a REC leads to the same in both
+pub outcome-agree_rec : (s t : State) (cpu rec : ℕ) → AgreeAt cpu rec s t
+    → outcome t cpu (call.RecDestroy rec) ≡ outcome s cpu (call.RecDestroy rec)
+unfolding outcome answer_of commands class_of words_of named has_tag is_inside rec_at
+outcome-agree_rec s t cpu rec agree = λ i.
+    if not (agree.inside i)
+    then rec_destroy (record s { config = agree.config i; tag = λ _. agree.tag i; rec = λ _. agree.rec i }) rec
+    else Err (Misplaced OwnOutside)
+
+-- and that of a realm
+pub outcome-agree_realm : (s t : State) (cpu rd : ℕ) → AgreeAt cpu rd s t
+    → outcome t cpu (call.RealmDestroy rd) ≡ outcome s cpu (call.RealmDestroy rd)
+unfolding outcome answer_of commands class_of words_of named has_tag is_inside realm_at has_rec has_entry entry_at
+outcome-agree_realm s t cpu rd agree = λ i.
+    if not (agree.inside i)
+    then realm_destroy_told (agree.owns i) (record s {
+      config = agree.config i;
+      tag = λ _. agree.tag i;
+      realm = λ _. agree.realm i;
+      table = λ _. agree.table i;
+      leaf = λ _. agree.leaf i;
+    }) rd
+    else Err (Misplaced OwnOutside)
+
+-- What is known of a REC whose end is accepted.
+pub record RecEnds (s : State) (rec : ℕ) (accepted : Accepted) : Type 0 where
+  pub tag : s.tag rec ≡ Rec
+  pub aux0 : s.tag (rec_at s rec).aux0 ≡ RecAux
+  pub aux1 : s.tag (rec_at s rec).aux1 ≡ RecAux
+  pub idle : IsTrue (is_none (rec_at s rec).cpu)
+  pub does : accepted ≡ done [] (RecDestroyed rec (rec_at s rec).aux0 (rec_at s rec).aux1)
+
+-- so it is by the rows of its end
+pub rec_ends : (s : State) (cpu rec : ℕ) (accepted : Accepted) → IsSound s → outcome s cpu (call.RecDestroy rec) ≡ Ok accepted
+    → RecEnds s rec accepted
+unfolding behind named
+rec_ends s cpu rec accepted sound is =
+    let c = call.RecDestroy rec in
+    let leads = outcome-leads s cpu c (Ok accepted) is in
+    let hold = front-rest s c (behind s cpu c).0 leads.0 in
+    let has : IsTrue (has_tag s rec Rec) = hold.1.0 in
+    let found = rec_at s rec in
+    let there = rec_there s rec sound has in
+    record {
+      tag = tag-has_tag s rec Rec has;
+      aux0 = tag-has_tag s found.aux0 RecAux (sound.recs.aux0 rec found there);
+      aux1 = tag-has_tag s found.aux1 RecAux (sound.recs.aux1 rec found there);
+      idle = hold.2.0;
+      does = sym leads.1;
+    }
+
+-- What is known of a realm whose end is accepted.
+pub record RealmEnds (s : State) (rd : ℕ) (accepted : Accepted) : Type 0 where
+  pub tag : s.tag rd ≡ Rd
+  pub root : s.tag (realm_at s rd).root ≡ Rtt
+  pub does : accepted ≡ done [] (RealmDestroyed rd (realm_at s rd).root)
+
+-- so it is by the rows of its end
+pub realm_ends : (s : State) (cpu rd : ℕ) (accepted : Accepted) → IsSound s → outcome s cpu (call.RealmDestroy rd) ≡ Ok accepted
+    → RealmEnds s rd accepted
+unfolding behind named
+realm_ends s cpu rd accepted sound is =
+    let c = call.RealmDestroy rd in
+    let leads = outcome-leads s cpu c (Ok accepted) is in
+    let hold = front-rest s c (behind s cpu c).0 leads.0 in
+    let has : IsTrue (has_tag s rd Rd) = hold.1.0 in
+    let found = realm_at s rd in
+    let there = realm_there s rd sound has in
+    record {
+      tag = tag-has_tag s rd Rd has;
+      root = tag-has_tag s found.root Rtt (sound.tables.tagged rd found.start_level 0 found.root (sound.tables.roots rd found there));
+      does = sym leads.1;
+    }
