@@ -68,7 +68,8 @@ impl Side {
         u64::from(self.counted(rd))
     }
 
-    fn counted(&self, rd: Pa) -> u32
+    /// The same, in as many bits as it is kept.
+    pub fn counted(&self, rd: Pa) -> u32
         ensures { result ≡ (side_of self.now).rec_counts rd }
     {
         let address = rd.address();
@@ -108,7 +109,8 @@ impl Side {
         }
     }
 
-    fn set_count(&mut self, rd: Pa, count: u32)
+    /// So many RECs belong to the realm.
+    pub fn set_count(&mut self, rd: Pa, count: u32)
         requires { IsTrue (is_granule GRANULES rd) }
         ensures { side_of self.new ≡ with_count (side_of self.old) rd count }
     {

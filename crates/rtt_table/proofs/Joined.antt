@@ -64,14 +64,6 @@ columns-written lower upper kl ku al au kinds addresses of_kl of_ku of_al of_au 
       of_addresses = (of_addresses ∙ (λ i. replicate 256 (of_al i) ++ replicate 256 (of_au i))) ∙ halves.of_addresses;
     }
 
--- each column is as long as the entries
-pub columns-size : (entries : List Entry) (kinds : List Kind) (addresses : List ℕ) → AreColumns entries kinds addresses
-    → (length kinds ≡ length entries) × (length addresses ≡ length entries)
-columns-size entries kinds addresses columns = (
-  ap length columns.of_kinds ∙ length-map entries kind_of,
-  ap length columns.of_addresses ∙ length-map entries entry_address,
-)
-
 -- the entry at a place is that of the kind and the address there
 pub columns-at : (entries : List Entry) (kinds : List Kind) (addresses : List ℕ) (i : ℕ) (kind : Kind) (address : ℕ)
     → AreColumns entries kinds addresses

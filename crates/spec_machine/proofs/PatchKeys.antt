@@ -8,7 +8,7 @@ use Rattle.granule_cells.specs.declared.cell.Cell as own
 use Rattle.spec_machine.specs.Patches.{Standing, put_all, put_in}
 use Rattle.spec_machine.proofs.Patched.{put_all-last}
 use Rattle.spec_machine.specs.declared.patch.Replaced.{Replaced}
-use Rattle.spec_machine.specs.declared.patch.Replaced.TheVariants.{Cell, Places, Side}
+use Rattle.spec_machine.specs.declared.patch.Replaced.TheVariants.{Cell, Places, RecCount, Vmid}
 
 -- a cell that may be put in a granule
 abbrev pub with_cell : Standing → Bool → ℕ → spec.Cell → Standing
@@ -30,7 +30,8 @@ put-cell granule cell s = by (is_granule s.config.granules granule)
 -- the size stays
 config-put : (item : Replaced) (s : Standing) → (put_in item s).config ≡ s.config
 config-put (Cell granule cell) s = ap (λ (t : Standing). t.config) (put-cell granule cell s)
-config-put (Side side) s = refl
+config-put (Vmid vmid realm) s = refl
+config-put (RecCount rd count) s = refl
 config-put (Places places) s = refl
 
 -- so it does after all

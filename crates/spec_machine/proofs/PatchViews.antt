@@ -8,7 +8,7 @@ use Rattle.spec_machine.specs.Patches.{Standing, put_all, put_in, state_at}
 use Rattle.spec_machine.specs.PatchKeys.{AreAlikeAt, AreAlikeIn, cell_after, compared}
 use Rattle.spec_machine.specs.Unmeasured.{unmeasured}
 use Rattle.spec_machine.specs.declared.patch.Replaced.{Replaced}
-use Rattle.spec_machine.specs.declared.patch.Replaced.TheVariants.{Cell, Places, Side}
+use Rattle.spec_machine.specs.declared.patch.Replaced.TheVariants.{Cell, Places, RecCount, Vmid}
 use Rattle.spec_machine.proofs.LikeStates.{flat_state-unmeasured}
 use Rattle.spec_machine.proofs.PatchKeys.{config-put_all, put-cell}
 
@@ -49,7 +49,8 @@ cell-nowhere (Cell place cell ∷ items) s granule none =
         let one : place ≡ granule = sym (eqb-true granule place at) in
         ap (λ b. b && true) ((λ i. is_granule (config-put_all items s i).granules (one i)) ∙ none)
     by false at = never (is_granule (put_all items s).config.granules place) false refl
-cell-nowhere (Side side ∷ items) s granule none = cell-nowhere items s granule none
+cell-nowhere (Vmid vmid realm ∷ items) s granule none = cell-nowhere items s granule none
+cell-nowhere (RecCount rd count ∷ items) s granule none = cell-nowhere items s granule none
 cell-nowhere (Places places ∷ items) s granule none = cell-nowhere items s granule none
 
 -- what lies in a granule is what the whole had there, or an item names the granule
@@ -68,7 +69,10 @@ named-or-own P Q names (Cell place cell ∷ items) all s granule =
         let b = is_granule rest.config.granules place in
         inr (ap (λ (t : Standing). t.whole.cells granule) (put-cell place cell rest)
         ∙ (off b (granule == place) (cell_of cell) (rest.whole.cells granule) (never b (granule == place) at) ∙ own))
-named-or-own P Q names (Side side ∷ items) all s granule = named-or-own P Q names items (All-tail Q (Side side) items all) s granule
+named-or-own P Q names (Vmid vmid realm ∷ items) all s granule =
+    named-or-own P Q names items (All-tail Q (Vmid vmid realm) items all) s granule
+named-or-own P Q names (RecCount rd count ∷ items) all s granule =
+    named-or-own P Q names items (All-tail Q (RecCount rd count) items all) s granule
 named-or-own P Q names (Places places ∷ items) all s granule = named-or-own P Q names items (All-tail Q (Places places) items all) s granule
 
 -- so two patches that are alike where one of them names a granule are alike in each

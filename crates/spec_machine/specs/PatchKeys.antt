@@ -4,7 +4,7 @@ use Rattle.rmm_spec.specs.Cell as spec
 use Rattle.spec_machine.specs.Patches.{Standing, put_all}
 use Rattle.spec_machine.specs.Unmeasured.{unmeasured_cell}
 use Rattle.spec_machine.specs.declared.patch.Replaced.{Replaced}
-use Rattle.spec_machine.specs.declared.patch.Replaced.TheVariants.{Cell, Places, Side}
+use Rattle.spec_machine.specs.declared.patch.Replaced.TheVariants.{Cell, Places, RecCount, Vmid}
 
 -- what lies in a granule after all are put in
 abbrev pub cell_after : List Replaced → Standing → ℕ → spec.Cell
@@ -22,5 +22,6 @@ AreAlikeAt measured one other s granule = compared measured (cell_after one s gr
 -- and so in the granule of an item, where it puts a cell in
 abbrev pub AreAlikeIn : Bool → List Replaced → List Replaced → Standing → Replaced → Type 0
 AreAlikeIn measured one other s (Cell granule cell) = AreAlikeAt measured one other s granule
-AreAlikeIn measured one other s (Side side) = Unit {0}
+AreAlikeIn measured one other s (Vmid vmid realm) = Unit {0}
+AreAlikeIn measured one other s (RecCount rd count) = Unit {0}
 AreAlikeIn measured one other s (Places places) = Unit {0}

@@ -9,14 +9,17 @@ use crate::copies::copied_view;
 use crate::machine::Machine;
 use crate::patch::{Patch, Replaced};
 use cell_changes::CellStore;
+use memory_map::Pa;
 use rmm_spec::Change;
 use std::alloc::AllocError;
 
 impl Machine {
     ghost use Rattle.std.specs.Prelude.{◌≡◌, flat_map, IfSome, IsTrue, OnOk};
+    ghost use Rattle.rmm_spec.specs.Cell.{realms_of, recs_of};
     ghost use Rattle.cell_changes.specs.Changes.{table_at};
-    ghost use Rattle.spec_machine.specs.Noted.{has_cell, has_places, has_side, HasBeside, HasCells, IsNoted, LeadsAsBefore};
+    ghost use Rattle.spec_machine.specs.Noted.{has_cell, has_count, has_places, has_vmid, HasBeside, HasCells, IsNoted, LeadsAsBefore};
     ghost use Rattle.spec_machine.specs.Patches.{standing_of};
+    ghost use Rattle.spec_machine.specs.Whole.{cells_of};
 
     /// Notes what the change is about to replace, where the table whose entries it changes lies at an address.
     pub(crate) fn note(
@@ -62,30 +65,69 @@ impl Machine {
     // Notes what the change replaces beside the cells.
     fn note_beside(&self, change: &Change, log: &mut Patch) -> Result<(), AllocError>
         ensures kept { OnOk result (LeadsAsBefore (standing_of self.now) log.old log.new) }
-        ensures beside { OnOk result (HasBeside change.now log.new.items.items) }
+        ensures beside { OnOk result (HasBeside (standing_of self.now) change.now log.new.items.items) }
     {
         match change {
-            Change::RealmMade { .. }
-            | Change::RealmDestroyed { .. }
-            | Change::RecMade { .. }
-            | Change::RecDestroyed { .. } => self.note_side(log),
+            Change::RealmMade { vmid, .. } => self.note_vmid(*vmid, log),
+            Change::RealmDestroyed { rd, .. } => self.note_vmid_of(*rd, log),
+            Change::RecMade { rd, .. } => self.note_count(Pa::new(*rd), log),
+            Change::RecDestroyed { rec, .. } => self.note_count_of(*rec, log),
             Change::RecordsChanged { rec: Some(_), .. }
             | Change::EntriesChanged { rec: Some(_), .. } => self.note_places(log),
             _ => Ok(()),
         }
     }
 
-    // Notes the side table, unless it is noted already.
-    fn note_side(&self, log: &mut Patch) -> Result<(), AllocError>
+    // Notes the realm that has a VMID, unless that is noted already.
+    fn note_vmid(&self, vmid: u8, log: &mut Patch) -> Result<(), AllocError>
         ensures kept { OnOk result (LeadsAsBefore (standing_of self.now) log.old log.new) }
-        ensures side { OnOk result (IsTrue (has_side log.new.items.items)) }
+        ensures vmid { OnOk result (IsTrue (has_vmid vmid log.new.items.items)) }
     {
-        if log.has_side() {
+        if log.has_vmid(vmid) {
             return Ok(());
         }
-        let side = self.granules.side.copy(self.granules.alloc)?;
-        log.items.push(Replaced::Side(side))?;
+        let realm = self.granules.side.realm_with(vmid);
+        log.items.push(Replaced::Vmid { vmid, realm })?;
         Ok(())
+    }
+
+    // The same of the VMID of the realm that is there.
+    #[tactic(auto, unfolding(realm_desc::specs::View::realm_record))]
+    fn note_vmid_of(&self, rd: u64, log: &mut Patch) -> Result<(), AllocError>
+        ensures kept { OnOk result (LeadsAsBefore (standing_of self.now) log.old log.new) }
+        ensures vmid { OnOk result (IfSome (realms_of (cells_of self.now.granules.list) rd)
+            (λ realm. IsTrue (has_vmid realm.vmid log.new.items.items))) }
+    {
+        match self.granules.list.realm_in(rd) {
+            Some(realm) => self.note_vmid(realm.vmid, log),
+            None => Ok(()),
+        }
+    }
+
+    // Notes how many RECs belong to a realm, unless that is noted already.
+    fn note_count(&self, rd: Pa, log: &mut Patch) -> Result<(), AllocError>
+        ensures kept { OnOk result (LeadsAsBefore (standing_of self.now) log.old log.new) }
+        ensures count { OnOk result (IsTrue (has_count rd log.new.items.items)) }
+    {
+        if log.has_count(rd) {
+            return Ok(());
+        }
+        let count = self.granules.side.counted(rd);
+        log.items.push(Replaced::RecCount { rd, count })?;
+        Ok(())
+    }
+
+    // The same of the realm of the REC that is there.
+    #[tactic(auto, unfolding(realm_desc::specs::View::rec_record))]
+    fn note_count_of(&self, rec: u64, log: &mut Patch) -> Result<(), AllocError>
+        ensures kept { OnOk result (LeadsAsBefore (standing_of self.now) log.old log.new) }
+        ensures count { OnOk result (IfSome (recs_of (cells_of self.now.granules.list) rec)
+            (λ it. IsTrue (has_count it.owner log.new.items.items))) }
+    {
+        match self.granules.list.rec_in(rec) {
+            Some(it) => self.note_count(it.owner, log),
+            None => Ok(()),
+        }
     }
 
     // Notes the CPUs' places, unless they are noted already.
@@ -104,7 +146,7 @@ impl Machine {
 
 impl Patch {
     ghost use Rattle.std.specs.Prelude.{◌≡◌};
-    ghost use Rattle.spec_machine.specs.Noted.{has_cell, has_places, has_side};
+    ghost use Rattle.spec_machine.specs.Noted.{has_cell, has_count, has_places, has_vmid};
 
     // Whether it has a cell of the granule.
     fn has_cell(&self, granule: u64) -> bool
@@ -113,13 +155,18 @@ impl Patch {
         self.items.iter().any(|item| is_cell_of(item, granule))
     }
 
-    // Whether it has a side table.
-    fn has_side(&self) -> bool
-        ensures { result ≡ has_side self.now.items.items }
+    // Whether it has the realm of the VMID.
+    fn has_vmid(&self, vmid: u8) -> bool
+        ensures { result ≡ has_vmid vmid self.now.items.items }
     {
-        self.items
-            .iter()
-            .any(|item| matches!(item, Replaced::Side(_)))
+        self.items.iter().any(|item| is_vmid(item, vmid))
+    }
+
+    // Whether it has the count of the realm's RECs.
+    fn has_count(&self, rd: Pa) -> bool
+        ensures { result ≡ has_count rd self.now.items.items }
+    {
+        self.items.iter().any(|item| is_count_of(item, rd))
     }
 
     // Whether it has the CPUs' places.
@@ -137,6 +184,20 @@ fn is_cell_of(item: &Replaced, granule: u64) -> bool
     ensures { result ≡ noted.is_cell_of granule item.now }
 {
     matches!(item, Replaced::Cell { granule: other, .. } if granule == *other)
+}
+
+// Whether it is the realm of the VMID.
+fn is_vmid(item: &Replaced, vmid: u8) -> bool
+    ensures { result ≡ noted.is_vmid vmid item.now }
+{
+    matches!(item, Replaced::Vmid { vmid: other, .. } if vmid == *other)
+}
+
+// Whether it is the count of the realm's RECs.
+fn is_count_of(item: &Replaced, rd: Pa) -> bool
+    ensures { result ≡ noted.is_count_of rd item.now }
+{
+    matches!(item, Replaced::RecCount { rd: other, .. } if rd == *other)
 }
 
 // The granules whose cells the change changes, where the table whose entries it changes lies at an address.

@@ -1,13 +1,17 @@
 //! Changes of a machine that can be taken back.
 
 use crate::places::Places;
-use granule_cells::{Cell, Side};
+use granule_cells::Cell;
+use memory_map::Pa;
 
 /// What is put in a place of a machine.
 #[derive(Drop)]
 pub(crate) enum Replaced {
     Cell { granule: u64, cell: Cell },
-    Side(Side),
+    // the realm that has the VMID
+    Vmid { vmid: u8, realm: Option<Pa> },
+    // how many RECs belong to the realm
+    RecCount { rd: Pa, count: u32 },
     Places(Places),
 }
 

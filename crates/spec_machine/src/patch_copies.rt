@@ -45,7 +45,14 @@ impl Replaced {
                 granule: *granule,
                 cell: copied_view(alloc, CellView::of(cell))?,
             }),
-            Replaced::Side(side) => Ok(Replaced::Side(side.copy(alloc)?)),
+            Replaced::Vmid { vmid, realm } => Ok(Replaced::Vmid {
+                vmid: *vmid,
+                realm: *realm,
+            }),
+            Replaced::RecCount { rd, count } => Ok(Replaced::RecCount {
+                rd: *rd,
+                count: *count,
+            }),
             Replaced::Places(places) => Ok(Replaced::Places(places.copy(alloc)?)),
         }
     }

@@ -64,7 +64,7 @@ impl Machine {
                 self.cell_after(other, *granule),
                 measured,
             ),
-            Replaced::Side(_) | Replaced::Places(_) => true,
+            Replaced::Vmid { .. } | Replaced::RecCount { .. } | Replaced::Places(_) => true,
         }
     }
 

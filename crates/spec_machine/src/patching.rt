@@ -1,13 +1,16 @@
 //! A patch that is put in, and taken back.
 
 ghost use Rattle.std.specs.Prelude.{◌≡◌, reverse};
+ghost use Rattle.granule_cells.specs.Sides.{side_of, with_vmid};
 ghost use Rattle.spec_machine.specs.Patches.{put_all, put_in, standing_in};
+ghost use Rattle.spec_machine.specs.declared.patch.Replaced.TheVariants.{RecCount};
 
 use crate::granules::Granules;
 use crate::machine::Machine;
 use crate::patch::{Patch, Replaced};
 use cell_changes::CellStore;
-use memory_map::granule_at;
+use granule_cells::Side;
+use memory_map::{Pa, granule_at};
 use std::mem::{swap, take};
 
 impl Machine {
@@ -47,7 +50,31 @@ fn exchange_one(granules: &mut Granules, item: &mut Replaced)
                 *cell = granules.list.put(*granule, given);
             }
         }
-        Replaced::Side(side) => swap(&mut granules.side, side),
+        Replaced::Vmid { vmid, realm } => exchange_vmid(&mut granules.side, *vmid, realm),
+        Replaced::RecCount { rd, count } => exchange_count(granules, *rd, count),
         Replaced::Places(places) => swap(&mut granules.places, places),
+    }
+}
+
+// Gives the VMID to the realm, or frees it, and leaves the realm that had it.
+fn exchange_vmid(side: &mut Side, vmid: u8, realm: &mut Option<Pa>)
+    ensures there { side_of side.new ≡ with_vmid (side_of side.old) vmid realm.old }
+    ensures back { with_vmid (side_of side.new) vmid realm.new ≡ side_of side.old }
+{
+    let given = *realm;
+    *realm = side.realm_with(vmid);
+    side.set_vmid(vmid, given);
+}
+
+// Counts so many RECs of the realm, where a granule lies at its address, and leaves how many there were.
+fn exchange_count(granules: &mut Granules, rd: Pa, count: &mut u32)
+    ensures there { standing_in granules.new ≡ put_in (RecCount rd count.old) (standing_in granules.old) }
+    ensures back { put_in (RecCount rd count.new) (standing_in granules.new) ≡ standing_in granules.old }
+{
+    let _fact = granules.list.config.granules();
+    if granule_at(&granules.list.config, rd.address()).is_some() {
+        let given = *count;
+        *count = granules.side.counted(rd);
+        granules.side.set_count(rd, given);
     }
 }
