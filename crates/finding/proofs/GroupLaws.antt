@@ -1,5 +1,5 @@
 -- What the next calls of CPUs tell of the order in which they may come.
-use Rattle.finding.proofs.Common.{◌++◌, ◌+◌, ◌<◌, ◌∙◌, ◌∷◌, ◌≡◌, ◌≤◌, Choice, HasOnePlaces-from_history, History, IsBegun, Line, List, None, Option, Some, [], ap, arith, cpu_named, number_named, rank_of, refl, slice_get, state_of, subst, sym, ℕ}
+use Rattle.finding.proofs.Common.{◌++◌, ◌<◌, ◌∙◌, ◌∷◌, ◌≡◌, ◌≤◌, Choice, HasOnePlaces-from_history, History, IsBegun, Line, List, None, Option, Some, [], ap, arith, cpu_named, number_named, rank_of, refl, state_of, subst, sym, ℕ}
 use Rattle.std.proofs.Common.{Bool, true, false, get_or, zero, suc}
 use Rattle.std.specs.Prelude.{IfSome, slice_set}
 use Rattle.std.proofs.lemmas.Option.{slice_get-get_or}
@@ -14,7 +14,7 @@ use Rattle.rmm_spec.specs.Ownership.{is_accepted}
 use Rattle.rmm_spec.specs.Step.Terms.{named}
 use Rattle.rmi_view.specs.Seen.{reply_seen}
 use Rattle.rmi_view.specs.declared.reply.ReplyRef.{ReplyRef}
-use Rattle.spec_lemmas.proofs.Calls.{same_command, same_reply, told_at_call}
+use Rattle.spec_lemmas.proofs.Calls.{same_command, same_reply}
 use Rattle.verdict_laws.specs.Order.{IsNext}
 use Rattle.verdict_laws.specs.Apart.{IsCarriedOut, is_apart_from, lent, lets_lend}
 use Rattle.verdict_laws.specs.Beside.{AreBeside}

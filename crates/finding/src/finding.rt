@@ -10,6 +10,7 @@ use crate::lines::certificate_of;
 use crate::naming::{Beginning, beginning_up_to, named_before, named_place};
 use crate::offers::Offers;
 use crate::survey::{Answer, FIRST, answer_of};
+use crate::unread::reads_nothing;
 use crate::watch::{Unwatched, Watch};
 use certificate::Certificate;
 use guessing::{GuessedOrder, guess};
@@ -129,15 +130,16 @@ fn look<W: Watch>(
     ensures { IfOk result (λ found. IfSome found (IsDecided history.now.recorded)) }
 {
     if let Some(last) = *suspected {
-        match beginning_up_to(alloc, offers, history, bounds, last, watch)? {
+        match beginning_up_to(alloc, offers, history, bounds, last, false, watch)? {
             Beginning::Lost(place) => {
                 return found_none_up_to(alloc, offers, history, bounds, place, last, watch);
             }
             Beginning::Ordered => *suspected = None,
-            Beginning::Open => return Ok(None),
+            Beginning::Open if reads_nothing(history) => return Ok(None),
+            Beginning::Open => {}
         }
     }
-    match answer_of(alloc, offers, history, bounds, watch)? {
+    match answer_of(alloc, offers, history, bounds, true, watch)? {
         Answer::Order(order) => Ok(Some(Found::Order(order))),
         Answer::Lost(place) => {
             let named = named_place(alloc, offers, history, bounds, place, watch)?;

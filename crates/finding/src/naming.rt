@@ -180,19 +180,20 @@ fn is_lost_up_to<W: Watch>(
 ) -> Result<bool, AllocError>
     ensures { IfOk result (λ lost. IsTrue lost → HasNoneUpTo history.now.recorded place) }
 {
-    match beginning_up_to(alloc, offers, history, bounds, place, watch)? {
+    match beginning_up_to(alloc, offers, history, bounds, place, true, watch)? {
         Beginning::Lost(_) => Ok(true),
         Beginning::Ordered | Beginning::Open => Ok(false),
     }
 }
 
-/// Looks at the events up to the place.
+/// Looks at the events up to the place; where measurements are read, as they are only if that is asked.
 pub(crate) fn beginning_up_to<W: Watch>(
     alloc: Global,
     offers: &mut Offers,
     history: &History,
     bounds: Bounds,
     place: u32,
+    as_they_are: bool,
     watch: &mut W,
 ) -> Result<Beginning, AllocError>
     ensures { IfOk result (IsBeginning history.now.recorded place) }
@@ -204,7 +205,7 @@ pub(crate) fn beginning_up_to<W: Watch>(
     let Some(part) = first_part(alloc, history, count)? else {
         return Ok(Beginning::Open);
     };
-    let answer = answer_of(alloc, offers, &part, bounds, watch)?;
+    let answer = answer_of(alloc, offers, &part, bounds, as_they_are, watch)?;
     match answer {
         Answer::Lost(lost) => Ok(Beginning::Lost(lost)),
         Answer::Order(_) => Ok(Beginning::Ordered),

@@ -39,9 +39,32 @@ pub(crate) enum Answer {
     Open,
 }
 
+/// Looks for orders return by return, last, if that is asked, of the history as it is where measurements are read.
+pub(crate) fn answer_of<W: Watch>(
+    alloc: Global,
+    offers: &mut Offers,
+    history: &History,
+    bounds: Bounds,
+    as_it_is: bool,
+    watch: &mut W,
+) -> Result<Answer, AllocError>
+    ensures { IfOk result (IsAnswer history.now.recorded) }
+{
+    let answer = answer_soon(alloc, offers, history, bounds, watch)?;
+    match answer {
+        Answer::Open => {
+            if !as_it_is || reads_nothing(history) {
+                return Ok(Answer::Open);
+            }
+            answer_forward(alloc, offers, history, bounds, watch)
+        }
+        answer => Ok(answer),
+    }
+}
+
 /// Looks for orders return by return. Where measurements are read, it asks first of each register whether its own calls have an order, and then
 /// of the history without readings whether it has one: where either has none, this has none.
-pub(crate) fn answer_of<W: Watch>(
+fn answer_soon<W: Watch>(
     alloc: Global,
     offers: &mut Offers,
     history: &History,
@@ -60,11 +83,7 @@ pub(crate) fn answer_of<W: Watch>(
     if let Some(place) = lost {
         return Ok(Answer::Lost(place));
     }
-    let answer = answer_unread(alloc, offers, history, bounds, watch)?;
-    match answer {
-        Answer::Open => answer_forward(alloc, offers, history, bounds, watch),
-        answer => Ok(answer),
-    }
+    answer_unread(alloc, offers, history, bounds, watch)
 }
 
 /// Looks for orders of the history as it is.

@@ -1,5 +1,5 @@
 -- By what both work on.
-use Rattle.std.proofs.Common.{sym, ◌∙◌, ◌≡◌, ℕ, Some}
+use Rattle.std.proofs.Common.{sym, ◌∙◌}
 use Rattle.finding.specs.MayPass.{Apart}
 use Rattle.finding.proofs.SeparateLaws.{AreRelated-made_apart}
 use Rattle.finding.proofs.separate.are_separate.Goals as goal
