@@ -2,21 +2,20 @@
 
 ghost use Rattle.std.specs.Prelude.{IfOk, IfSome};
 ghost use Rattle.finding.specs.Found.{HasNoneUpTo, IsDecided, IsFound, IsFoundWatched};
-ghost use Rattle.finding.specs.Judged.{IsJudged};
 
 use crate::forward::Bounds;
-use crate::judging::{Judged, judgement_of};
-use crate::lines::certificate_of;
+use crate::guessed::guessed;
+use crate::judging::Judged;
 use crate::naming::{Beginning, beginning_up_to, named_before, named_place};
 use crate::offers::Offers;
 use crate::survey::{Answer, FIRST, answer_of};
+use crate::suspecting::first_unguessed;
 use crate::unread::reads_nothing;
 use crate::watch::{Unwatched, Watch};
 use certificate::Certificate;
-use guessing::{GuessedOrder, guess};
 use history::History;
 use std::alloc::{AllocError, Global};
-use std::cmp::{max, min};
+use std::cmp::max;
 use verdict_laws::first_parts_have_orders;
 
 /// How many orders that lack no call are kept at first.
@@ -57,31 +56,13 @@ pub fn find_watched<W: Watch>(
     if limit > 0 && watch.goes_on(FIRST) {
         match guessed(alloc, &mut offers, history)? {
             Judged::Linearization(order) => return Ok(Found::Order(order)),
-            Judged::Fails(place) => suspected = place,
+            Judged::Fails(Some(place)) => {
+                suspected = first_unguessed(alloc, &mut offers, history, place)?;
+            }
+            Judged::Fails(None) => {}
         }
     }
     find_wider(alloc, offers, history, limit, suspected, watch)
-}
-
-/// The guess, judged. Where it is no linearization, the place of the first return that it doesn't explain.
-fn guessed(alloc: Global, offers: &mut Offers, history: &History) -> Result<Judged, AllocError>
-    ensures { IfOk result (IsJudged history.now.recorded) }
-{
-    let GuessedOrder { cpus, unexplained } = guess(alloc, history)?;
-    let order = certificate_of(alloc, history, cpus.as_slice(), &[])?;
-    match judgement_of(alloc, offers, history, order)? {
-        Judged::Fails(place) => Ok(Judged::Fails(earlier(place, unexplained))),
-        order => Ok(order),
-    }
-}
-
-/// The earlier of two places, where there are two.
-fn earlier(one: Option<u32>, other: Option<u32>) -> Option<u32> {
-    match (one, other) {
-        (Some(one), Some(other)) => Some(min(one, other)),
-        (Some(place), None) | (None, Some(place)) => Some(place),
-        (None, None) => None,
-    }
 }
 
 /// Looks for orders return by return, and keeps more of them each time that some were left out.

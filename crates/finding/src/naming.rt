@@ -6,12 +6,13 @@ ghost use Rattle.finding.specs.Naming.{IsBeginning};
 
 use crate::first_part::first_part;
 use crate::forward::{Bounds, Survey, forward};
+use crate::guessed::is_guessed_soon;
 use crate::offers::Offers;
 use crate::survey::{Answer, answer_of};
+use crate::suspecting::{first_unguessed, last_return};
 use crate::unread::{reads_nothing, unread};
 use crate::watch::Watch;
 use history::History;
-use rmm_spec::Event;
 use std::alloc::{AllocError, Global};
 use std::cmp::{max, min};
 
@@ -49,6 +50,11 @@ pub(crate) fn named_place<W: Watch>(
 {
     let bounds = bounds_for(offers, bounds);
     let place = unread_place(alloc, offers, history, bounds, place, watch)?;
+    if let Some(first) = first_unguessed(alloc, offers, history, place)? {
+        if is_lost_up_to(alloc, offers, history, bounds, first, watch)? {
+            return Ok(Some(first));
+        }
+    }
     if is_lost_up_to(alloc, offers, history, bounds, place, watch)? {
         return Ok(Some(place));
     }
@@ -77,6 +83,9 @@ pub(crate) fn named_before<W: Watch>(
         return Ok(last);
     }
     let bounds = bounds_for(offers, bounds);
+    if !is_lost_up_to(alloc, offers, history, bounds, last - 1, watch)? {
+        return Ok(last);
+    }
     if is_lost_up_to(alloc, offers, history, bounds, place, watch)? {
         return Ok(place);
     }
@@ -147,28 +156,6 @@ fn first_lost<W: Watch>(
     Ok(lost)
 }
 
-/// The last place at which a call returns that is open at the place.
-fn last_return(history: &History, place: u32) -> u32
-    ensures { place ≤ result }
-{
-    let _fact = history.well_formed();
-    let mut has_event = [false; 8];
-    let mut last = place;
-    for at in place.saturating_add(1)..history.len() as u32 {
-        let (cpu, returns) = match history.event(at as usize) {
-            Event::Called { cpu, .. } => (cpu, false),
-            Event::Returned { cpu, .. } => (cpu, true),
-        };
-        if let Some(has_event) = has_event.get_mut(usize::from(cpu)) {
-            if returns && !*has_event {
-                last = at;
-            }
-            *has_event = true;
-        }
-    }
-    last
-}
-
 /// Whether it is found that the events up to the place have no order.
 fn is_lost_up_to<W: Watch>(
     alloc: Global,
@@ -186,7 +173,8 @@ fn is_lost_up_to<W: Watch>(
     }
 }
 
-/// Looks at the events up to the place; where measurements are read, as they are only if that is asked.
+/// Looks at the events up to the place. Where measurements are read, it looks at them as they are only if that is asked; then a guess may show
+/// sooner that they have an order.
 pub(crate) fn beginning_up_to<W: Watch>(
     alloc: Global,
     offers: &mut Offers,
@@ -205,6 +193,9 @@ pub(crate) fn beginning_up_to<W: Watch>(
     let Some(part) = first_part(alloc, history, count)? else {
         return Ok(Beginning::Open);
     };
+    if as_they_are && is_guessed_soon(alloc, offers, &part)? {
+        return Ok(Beginning::Ordered);
+    }
     let answer = answer_of(alloc, offers, &part, bounds, as_they_are, watch)?;
     match answer {
         Answer::Lost(lost) => Ok(Beginning::Lost(lost)),

@@ -14,13 +14,17 @@ use crate::trail::Trail;
 use crate::unread::{reads_nothing, unread};
 use crate::watch::{Advance, Watch};
 use certificate::Certificate;
-use guessing::arranged;
+use guessing::{Arranged, arranged};
 use history::History;
 use registers::lost_register;
 use std::alloc::{AllocError, Global};
+use std::cmp::min;
 
 /// How many orders are judged.
 const JUDGED: usize = 4;
+
+/// How many possibilities of all registers are kept beside a few of each, once orders without readings are known.
+const SPARE: usize = 1 << 21;
 
 /// How far it is before the first event.
 pub(crate) const FIRST: Advance = Advance {
@@ -79,11 +83,31 @@ fn answer_soon<W: Watch>(
     if offers.count() >= bounds.limit || !watch.goes_on(FIRST) {
         return Ok(Answer::Open);
     }
-    let lost = lost_register(alloc, history)?;
+    let lost = lost_register(alloc, history, &mut 0)?;
     if let Some(place) = lost {
         return Ok(Answer::Lost(place));
     }
     answer_unread(alloc, offers, history, bounds, watch)
+}
+
+/// Asks of each register once more, with many possibilities of its calls.
+fn answer_of_registers(
+    alloc: Global,
+    offers: &mut Offers,
+    history: &History,
+    limit: u64,
+) -> Result<Answer, AllocError>
+    ensures { IfOk result (IsAnswer history.now.recorded) }
+{
+    let _fact = history.well_formed();
+    let first = min(SPARE, limit.saturating_sub(offers.count()) as usize);
+    let mut spare = first;
+    let lost = lost_register(alloc, history, &mut spare)?;
+    offers.add(first.saturating_sub(spare) as u64);
+    match lost {
+        Some(place) => Ok(Answer::Lost(place)),
+        None => Ok(Answer::Open),
+    }
 }
 
 /// Looks for orders of the history as it is.
@@ -126,8 +150,25 @@ fn answer_unread<W: Watch>(
     let found = forward(alloc, offers, &unread, half, watch)?;
     match found {
         Survey::Lost(place) => Ok(Answer::Lost(place)),
-        Survey::Kept(orders) => answer_among(alloc, offers, history, &orders, true),
+        Survey::Kept(orders) => answer_of_kept(alloc, offers, history, &orders, bounds.limit),
         Survey::Undecided(_) => Ok(Answer::Open),
+    }
+}
+
+/// One of the orders that are kept of the history without readings, with its calls on measurements arranged; or else what many possibilities of
+/// each register's calls show.
+fn answer_of_kept(
+    alloc: Global,
+    offers: &mut Offers,
+    history: &History,
+    orders: &Orders,
+    limit: u64,
+) -> Result<Answer, AllocError>
+    ensures { IfOk result (IsAnswer history.now.recorded) }
+{
+    match answer_among(alloc, offers, history, orders, true)? {
+        Answer::Open => answer_of_registers(alloc, offers, history, limit),
+        answer => Ok(answer),
     }
 }
 
@@ -142,12 +183,26 @@ fn answer_among(
     ensures { IfOk result (IsAnswer history.now.recorded) }
 {
     for order in orders.begun.as_slice().iter().take(JUDGED) {
-        let order = lines_of(alloc, history, &orders.trail, order, arranges)?;
-        if let Judged::Linearization(order) = judgement_of(alloc, offers, history, order)? {
+        let Lines {
+            certificate,
+            reads_all,
+        } = lines_of(alloc, history, &orders.trail, order, arranges)?;
+        if let Judged::Linearization(order) = judgement_of(alloc, offers, history, certificate)? {
             return Ok(Answer::Order(order));
+        }
+        if !reads_all {
+            return Ok(Answer::Open);
         }
     }
     Ok(Answer::Open)
+}
+
+/// The lines of an order.
+#[derive(Drop)]
+pub(crate) struct Lines {
+    pub(crate) certificate: Certificate,
+    /// Whether each call on a measurement reads what it read, where these were arranged anew.
+    pub(crate) reads_all: bool,
 }
 
 /// The lines of an order that is kept, where the calls on measurements may be arranged anew.
@@ -157,12 +212,19 @@ pub(crate) fn lines_of(
     trail: &Trail,
     order: &Shelved,
     arranges: bool,
-) -> Result<Certificate, AllocError> {
+) -> Result<Lines, AllocError> {
     let steps = trail.up_to(alloc, order.last)?;
-    let cpus = if arranges {
+    let Arranged { cpus, reads_all } = if arranges {
         arranged(alloc, history, steps.placed.as_slice())?
     } else {
-        steps.cpus(alloc)?
+        Arranged {
+            cpus: steps.cpus(alloc)?,
+            reads_all: true,
+        }
     };
-    certificate_of(alloc, history, cpus.as_slice(), steps.claims.as_slice())
+    let certificate = certificate_of(alloc, history, cpus.as_slice(), steps.claims.as_slice())?;
+    Ok(Lines {
+        certificate,
+        reads_all,
+    })
 }

@@ -99,7 +99,7 @@ fn first_orders(
         if told.len() >= TOLD {
             return Ok(told);
         }
-        let lines = lines_of(alloc, history, &orders.trail, order, true)?;
+        let lines = lines_of(alloc, history, &orders.trail, order, true)?.certificate;
         let count = lines.len();
         let passing = passing(alloc, history, lines)?;
         if passing.len() < count {
@@ -116,7 +116,7 @@ fn longest(alloc: Global, history: &History, orders: &Orders) -> Result<Certific
 {
     let mut longest = passing(alloc, history, Certificate::new(alloc))?;
     'orders: for order in orders.begun.as_slice().iter().take(TOLD) {
-        let lines = lines_of(alloc, history, &orders.trail, order, true)?;
+        let lines = lines_of(alloc, history, &orders.trail, order, true)?.certificate;
         let passing = passing(alloc, history, lines)?;
         if longest.len() < passing.len() {
             longest = passing;

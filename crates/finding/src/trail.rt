@@ -74,7 +74,10 @@ impl Trail {
             }
         };
         self.steps.push(Step {
-            placed: Placed { cpu, at },
+            placed: Placed {
+                cpu,
+                at: u32::try_from(at).unwrap_or(u32::MAX),
+            },
             claim,
             before,
         })?;

@@ -1,13 +1,16 @@
 //! An order whose calls on measurements are put in anew.
 
 use crate::calls::{CPUS, command_at, measured, reply_at};
-use crate::order::{Placed, with_uses};
+use crate::order::{Arranged, Placed, with_uses};
 use crate::registers::{Registers, Use};
 use history::{History, Places};
 use rmi_view::{CommandRef, ReplyRef};
 use rmm_spec::{Call, FunctionId};
 use std::alloc::{AllocError, Global};
 use std::collections::HashMap;
+
+/// How many calls are tried for all measurements, beside those for each call.
+const TRIED: usize = 1 << 19;
 
 /// A call on a measurement, by the measurement's number.
 #[derive(Clone, Copy)]
@@ -32,9 +35,13 @@ struct Arrangement {
     by_return: Vec<usize>,
 }
 
-/// The CPUs of the order's calls, one after another, where the calls on each extensible measurement stand as they return, or in an order in which
-/// each reads what it read, if one is found. One that doesn't return stands there only where a reading needs it.
-pub fn arranged(alloc: Global, history: &History, order: &[Placed]) -> Result<Vec<u8>, AllocError> {
+/// The order, where the calls on each extensible measurement stand as they return, or in an order in which each reads what it read, if one is
+/// found. One that doesn't return stands there only where a reading needs it.
+pub fn arranged(
+    alloc: Global,
+    history: &History,
+    order: &[Placed],
+) -> Result<Arranged, AllocError> {
     let mut arrangement = Arrangement {
         alloc,
         registers: Registers::new(alloc),
@@ -47,7 +54,7 @@ pub fn arranged(alloc: Global, history: &History, order: &[Placed]) -> Result<Ve
     for placed in order {
         arrangement.pass(history, *placed)?;
     }
-    arrangement.cpus(history)
+    arrangement.with_measured(history)
 }
 
 impl Arrangement {
@@ -168,8 +175,8 @@ impl Arrangement {
         }
     }
 
-    // The CPUs of all calls, those on measurements among them.
-    fn cpus(self, history: &History) -> Result<Vec<u8>, AllocError> {
+    // The order of all calls, those on measurements among them.
+    fn with_measured(self, history: &History) -> Result<Arranged, AllocError> {
         let mut registers = self.registers;
         for at in &self.by_return {
             let Some(index) = at.checked_sub(1) else {
@@ -180,7 +187,7 @@ impl Arrangement {
             }
         }
         add_open_calls(history, &self.counts, &mut registers)?;
-        with_uses(self.alloc, history, self.others, &registers)
+        with_uses(self.alloc, history, self.others, &registers, TRIED)
     }
 }
 

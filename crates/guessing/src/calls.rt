@@ -11,7 +11,7 @@ use rmm_spec::FunctionId;
 /// How many CPUs there are at most.
 pub(crate) const CPUS: usize = 8;
 
-/// A call that returns at a later event.
+/// A call that returns at a later event, or doesn't return.
 #[derive(Clone, Copy)]
 pub(crate) struct OpenCall {
     pub(crate) cpu: u8,
@@ -58,6 +58,26 @@ pub(crate) fn reply_at(history: &History, place: usize) -> Option<ReplyRef<'_>>
         return None;
     }
     history.reply_at(place)
+}
+
+/// The place of the return of a CPU's call that doesn't return: after all events.
+pub(crate) fn never(cpu: u8) -> u32 {
+    u32::MAX - u32::from(cpu)
+}
+
+/// Whether it is the place of no return.
+pub(crate) fn is_never(returned: u32) -> bool {
+    returned >= never(u8::MAX)
+}
+
+/// The reply of a call that returns at the place. One that doesn't return is carried out, without words.
+pub(crate) fn reply_of(history: &History, returned: u32) -> Option<ReplyRef<'_>>
+    ensures few { IfSome result (λ reply. HasFewWords (reply_seen reply)) }
+{
+    if is_never(returned) {
+        return Some(ReplyRef::Ok(&[]));
+    }
+    reply_at(history, returned as usize)
 }
 
 /// Whether a call with that reply changes nothing.

@@ -1,13 +1,12 @@
 //! An order that is put together event by event.
 
-use crate::calls::{CPUS, OpenCall, command_at, is_look, measured, reply_at, shares_word};
+use crate::calls::{CPUS, OpenCall, command_at, is_look, is_never, never, reply_of, shares_word};
 use crate::open_calls::OpenCalls;
 use crate::registers::{Registers, Use};
-use crate::steps::{Checkpoint, Step, gives, insert};
-use command_rows::Sight;
+use crate::steps::{Checkpoint, Step};
 use history::History;
-use rmi_view::{CommandRef, ReplyRef};
-use rmm_spec::{Event, FunctionId};
+use rmi_view::CommandRef;
+use rmm_spec::Event;
 use spec_machine::Machine;
 use std::alloc::{AllocError, Global};
 
@@ -59,7 +58,7 @@ impl Draft {
         }
     }
 
-    // The CPU's call is open, where it returns ever. Where it changes nothing, it is put in now if it is given its reply.
+    // The CPU's call is open. Where it changes nothing, by its later reply, it is put in now if it is given that.
     fn take_call(
         &mut self,
         history: &History,
@@ -71,16 +70,17 @@ impl Draft {
         let Some(places) = history.places_of(cpu, number) else {
             return Ok(());
         };
-        let Some(returned) = places.returned else {
-            if let Some(unreturned) = self.unreturned.get_mut(usize::from(cpu)) {
-                *unreturned = Some(place);
+        let returned = match places.returned {
+            Some(returned) => returned,
+            None => {
+                self.note_unreturned(cpu, place);
+                never(cpu)
             }
+        };
+        let Some(reply) = reply_of(history, returned) else {
             return Ok(());
         };
-        let Some(reply) = reply_at(history, returned as usize) else {
-            return Ok(());
-        };
-        let is_look = is_look(command, reply);
+        let is_look = !is_never(returned) && is_look(command, reply);
         self.open.put(OpenCall {
             cpu,
             called: places.called,
@@ -94,6 +94,13 @@ impl Draft {
             self.place_call(history, usize::from(cpu), place)?;
         }
         Ok(())
+    }
+
+    // The CPU's call that was made at the place doesn't return.
+    fn note_unreturned(&mut self, cpu: u8, place: usize) {
+        if let Some(unreturned) = self.unreturned.get_mut(usize::from(cpu)) {
+            *unreturned = Some(place);
+        }
     }
 
     /// Adds the calls that don't return to their measurements, once all that return were taken.
@@ -160,7 +167,7 @@ impl Draft {
         Ok(false)
     }
 
-    // The same, after those that share a word with it, or that share none, the one that returns next first.
+    // The same, after those that share a word with it, or that share none and return, the one that returns next first.
     fn place_after(
         &mut self,
         history: &History,
@@ -177,6 +184,9 @@ impl Draft {
             let other = usize::from(call.cpu);
             if call.is_placed || self.are_related(history, cpu, other) != related {
                 continue;
+            }
+            if is_never(call.returned) && !related {
+                return Ok(false);
             }
             if self.places_both(history, other, cpu, place)? {
                 return Ok(true);
@@ -220,82 +230,14 @@ impl Draft {
 
     // Puts in each open call that changes nothing and is given its reply now.
     fn place_looks(&mut self, history: &History, place: usize) -> Result<(), AllocError> {
+        if !self.open.has_looks() {
+            return Ok(());
+        }
         for cpu in 0..CPUS {
             if self.open.waits_for_a_look(cpu) {
                 self.place_call(history, cpu, place)?;
             }
         }
         Ok(())
-    }
-
-    // Puts in the CPU's call, where it is given its reply now.
-    fn place_call(
-        &mut self,
-        history: &History,
-        cpu: usize,
-        place: usize,
-    ) -> Result<bool, AllocError> {
-        let Some(call) = self.open.of(cpu) else {
-            return Ok(false);
-        };
-        let Some(command) = command_at(history, call.called as usize) else {
-            return Ok(false);
-        };
-        let Some(reply) = reply_at(history, call.returned as usize) else {
-            return Ok(false);
-        };
-        let is_measured = self.register_of(call.cpu, command, reply).is_some();
-        if !gives(&mut self.machine, call.cpu, command, reply, is_measured)? {
-            return Ok(false);
-        }
-        let index = self.steps.len();
-        self.note(history, call, index, place)?;
-        Ok(true)
-    }
-
-    // Notes that the call stands in the order, where it was put in at the place and comes before the step of that index.
-    pub(crate) fn note(
-        &mut self,
-        history: &History,
-        call: OpenCall,
-        index: usize,
-        place: usize,
-    ) -> Result<(), AllocError> {
-        let Some(command) = command_at(history, call.called as usize) else {
-            return Ok(());
-        };
-        let Some(reply) = reply_at(history, call.returned as usize) else {
-            return Ok(());
-        };
-        let register = self.register_of(call.cpu, command, reply);
-        self.open.put(OpenCall {
-            is_placed: true,
-            register,
-            extends: matches!(command.function, FunctionId::MeasurementExtend),
-            ..call
-        });
-        insert(&mut self.steps, index, call.step(register.is_some(), place))?;
-        let owner = self.owner(command);
-        self.registers.note(call.cpu, command, reply, owner)
-    }
-
-    // The measurement that a call reads or extends.
-    pub(crate) fn register_of(
-        &self,
-        cpu: u8,
-        command: CommandRef<'_>,
-        reply: ReplyRef<'_>,
-    ) -> Option<usize> {
-        let number = measured(command, reply)?;
-        self.registers.register(cpu, number)
-    }
-
-    // The realm of the REC that a command enters.
-    fn owner(&self, command: CommandRef<'_>) -> Option<u64> {
-        if !matches!(command.function, FunctionId::RecEnter) {
-            return None;
-        }
-        let rec = self.machine.rec(*command.words.first()?)?;
-        Some(rec.owner.address())
     }
 }

@@ -1,7 +1,7 @@
 //! The guess.
 
 use crate::draft::Draft;
-use crate::order::with_uses;
+use crate::order::{Arranged, with_uses};
 use crate::steps::others;
 use history::History;
 use std::alloc::{AllocError, Global};
@@ -13,10 +13,12 @@ pub struct GuessedOrder {
     pub cpus: Vec<u8>,
     /// The place of that return.
     pub unexplained: Option<u32>,
+    /// Whether each of its calls on measurements reads what it read.
+    pub reads_all: bool,
 }
 
-/// Guesses an order of the history's calls.
-pub fn guess(alloc: Global, history: &History) -> Result<GuessedOrder, AllocError> {
+/// Guesses an order of the history's calls. Some calls are tried for each that reads or extends a measurement, and so many more for all of them.
+pub fn guess(alloc: Global, history: &History, tried: usize) -> Result<GuessedOrder, AllocError> {
     let mut draft = Draft::new(alloc, history)?;
     let mut unexplained = None;
     let mut events = history.events();
@@ -31,8 +33,10 @@ pub fn guess(alloc: Global, history: &History) -> Result<GuessedOrder, AllocErro
     }
     draft.add_unreturned(history)?;
     let placed = others(alloc, draft.steps.as_slice())?;
+    let Arranged { cpus, reads_all } = with_uses(alloc, history, placed, &draft.registers, tried)?;
     Ok(GuessedOrder {
-        cpus: with_uses(alloc, history, placed, &draft.registers)?,
+        cpus,
         unexplained,
+        reads_all,
     })
 }

@@ -9,13 +9,15 @@ mod arrangement;
 mod calls;
 mod draft;
 mod guessed;
+mod lanes;
 mod looking_back;
 mod open_calls;
 mod order;
+mod placing;
 mod registers;
 mod solving;
 mod steps;
 
 pub use arrangement::arranged;
 pub use guessed::{GuessedOrder, guess};
-pub use order::Placed;
+pub use order::{Arranged, Placed};

@@ -1,7 +1,7 @@
 //! A call that has to stand before calls that returned earlier.
 
-use crate::calls::OpenCall;
 use crate::draft::Draft;
+use crate::placing::Placing;
 use crate::steps::{Checkpoint, last_taken, takes, takes_all};
 use history::History;
 use spec_machine::Machine;
@@ -20,7 +20,7 @@ impl Draft {
         history: &History,
         cpu: usize,
     ) -> Result<bool, AllocError> {
-        let Some(call) = self.open.of(cpu) else {
+        let Some(placing) = self.placing(history, cpu) else {
             return Ok(false);
         };
         let start = match self.checkpoint.take() {
@@ -30,7 +30,7 @@ impl Draft {
                 machine: Machine::new(alloc, history.config())?,
             },
         };
-        let first = max(start.steps, self.first_since(call.called));
+        let first = max(start.steps, self.first_since(placing.call.called));
         let mut machine = start.machine;
         let Some(before) = self.steps.as_slice().get(start.steps..first) else {
             return Ok(false);
@@ -43,7 +43,7 @@ impl Draft {
             steps: first,
             machine: machine.copy()?,
         });
-        self.place_since(history, machine, copy, first, call)
+        self.place_since(history, machine, copy, first, placing)
     }
 
     // The same, where both machines are after so many steps.
@@ -51,14 +51,14 @@ impl Draft {
         &mut self,
         history: &History,
         looking: Machine,
-        placing: Machine,
+        again: Machine,
         first: usize,
-        call: OpenCall,
+        placing: Placing<'_>,
     ) -> Result<bool, AllocError> {
         let Some(since) = self.steps.as_slice().get(first..) else {
             return Ok(false);
         };
-        let step = call.step(false, 0);
+        let step = placing.call.step(placing.is_measured(), 0);
         let Some(index) = last_taken(history, looking, since, step)? else {
             return Ok(false);
         };
@@ -66,7 +66,7 @@ impl Draft {
             return Ok(false);
         };
         let (before, after) = since.split_at(index);
-        let mut machine = placing;
+        let mut machine = again;
         if !takes_all(history, &mut machine, before)? || !takes(history, &mut machine, step)? {
             return Ok(false);
         }
@@ -74,7 +74,7 @@ impl Draft {
             return Ok(false);
         }
         self.machine = machine;
-        self.note(history, call, first.saturating_add(index), next.at as usize)?;
+        self.note(placing, first.saturating_add(index), next.at as usize)?;
         Ok(true)
     }
 

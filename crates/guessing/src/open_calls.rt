@@ -6,6 +6,8 @@ use crate::calls::{CPUS, OpenCall};
 #[derive(Drop)]
 pub(crate) struct OpenCalls {
     calls: [Option<OpenCall>; CPUS],
+    // how many of them change nothing and don't stand in the order
+    looks: usize,
 }
 
 impl OpenCalls {
@@ -13,6 +15,7 @@ impl OpenCalls {
     pub(crate) fn none() -> OpenCalls {
         OpenCalls {
             calls: [None; CPUS],
+            looks: 0,
         }
     }
 
@@ -26,16 +29,28 @@ impl OpenCalls {
 
     /// The call is its CPU's open one.
     pub(crate) fn put(&mut self, call: OpenCall) {
-        if let Some(open) = self.calls.get_mut(usize::from(call.cpu)) {
-            *open = Some(call);
-        }
+        self.replace(usize::from(call.cpu), Some(call));
     }
 
     /// The CPU has no open call any longer.
     pub(crate) fn close(&mut self, cpu: usize) {
+        self.replace(cpu, None);
+    }
+
+    // The CPU's open call is this one now.
+    fn replace(&mut self, cpu: usize, call: Option<OpenCall>) {
         if let Some(open) = self.calls.get_mut(cpu) {
-            *open = None;
+            self.looks = self
+                .looks
+                .saturating_sub(looks_in(open))
+                .saturating_add(looks_in(&call));
+            *open = call;
         }
+    }
+
+    /// Whether an open call changes nothing, and doesn't stand in the order.
+    pub(crate) fn has_looks(&self) -> bool {
+        self.looks > 0
     }
 
     /// Whether the CPU has an open call that doesn't stand in the order.
@@ -49,8 +64,8 @@ impl OpenCalls {
     /// Whether the CPU's open call changes nothing, and doesn't stand in the order.
     pub(crate) fn waits_for_a_look(&self, cpu: usize) -> bool {
         match self.calls.get(cpu) {
-            Some(Some(call)) => call.is_look && !call.is_placed,
-            _ => false,
+            Some(open) => looks_in(open) > 0,
+            None => false,
         }
     }
 
@@ -70,5 +85,13 @@ impl OpenCalls {
             }
         }
         next
+    }
+}
+
+// How many of the calls, one or none, change nothing and don't stand in the order.
+fn looks_in(open: &Option<OpenCall>) -> usize {
+    match open {
+        Some(call) if call.is_look && !call.is_placed => 1,
+        _ => 0,
     }
 }

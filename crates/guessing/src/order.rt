@@ -1,7 +1,7 @@
 //! One order of all calls that were put in.
 
-use crate::registers::{Registers, Use};
-use crate::solving::solved;
+use crate::registers::{NEVER, Registers, Use};
+use crate::solving::order_found;
 use history::History;
 use std::alloc::{AllocError, Global};
 use std::cmp::min;
@@ -10,27 +10,58 @@ use std::cmp::min;
 #[derive(Clone, Copy)]
 pub struct Placed {
     pub cpu: u8,
-    pub at: usize,
+    pub at: u32,
 }
 
-/// The CPUs of an order's calls, one after another, with the calls on measurements put in.
+/// An order with its calls on measurements.
+#[derive(Drop)]
+pub struct Arranged {
+    /// The CPUs of its calls, one after another.
+    pub cpus: Vec<u8>,
+    /// Whether each of the calls on measurements reads what it read.
+    pub reads_all: bool,
+}
+
+/// The order of the other calls, in which the calls on measurements are put in. So many of those are tried for all measurements.
 pub(crate) fn with_uses(
     alloc: Global,
     history: &History,
     others: Vec<Placed>,
     registers: &Registers,
-) -> Result<Vec<u8>, AllocError> {
+    tried: usize,
+) -> Result<Arranged, AllocError> {
     let mut placed = others;
+    let count = placed.len();
+    let mut left = tried;
+    let mut reads_all = true;
     for register in &registers.all {
-        let order = solved(alloc, history, register)?;
+        if register.uses.is_empty() {
+            continue;
+        }
+        let found = order_found(alloc, history, register, &mut left)?;
+        reads_all = reads_all && found.reads_all;
         place_uses(
             alloc,
             &mut placed,
             register.uses.as_slice(),
-            order.as_slice(),
+            found.order.as_slice(),
         )?;
     }
-    cpus_in_order(alloc, placed.as_slice(), history.len())
+    let cpus = if placed.len() > count {
+        cpus_in_order(alloc, placed.as_slice(), history.len())?
+    } else {
+        cpus_of(alloc, placed.as_slice())?
+    };
+    Ok(Arranged { cpus, reads_all })
+}
+
+// The CPUs of the calls as they stand.
+fn cpus_of(alloc: Global, placed: &[Placed]) -> Result<Vec<u8>, AllocError> {
+    let mut cpus = Vec::with_capacity(alloc, placed.len())?;
+    for call in placed {
+        cpus.push(call.cpu)?;
+    }
+    Ok(cpus)
 }
 
 // Puts a measurement's calls in, in the order found: each at the first return of a call that doesn't come before it.
@@ -53,14 +84,14 @@ fn place_uses(
 }
 
 // Of each call in the order, the first return of it and of those after it.
-fn first_returns(alloc: Global, uses: &[Use], order: &[usize]) -> Result<Vec<usize>, AllocError> {
-    let mut returns = vec![in alloc; usize::MAX; order.len()]?;
-    let mut first = usize::MAX;
+fn first_returns(alloc: Global, uses: &[Use], order: &[usize]) -> Result<Vec<u32>, AllocError> {
+    let mut returns = vec![in alloc; u32::MAX; order.len()]?;
+    let mut first = NEVER;
     for at in (0..order.len()).rev() {
         if let Some(used) = uses.get(order[at]) {
             first = min(first, used.returned);
         }
-        returns[at] = first;
+        returns[at] = u32::try_from(first).unwrap_or(u32::MAX);
     }
     Ok(returns)
 }
@@ -70,11 +101,11 @@ fn cpus_in_order(alloc: Global, placed: &[Placed], places: usize) -> Result<Vec<
     let mut ends = counted(alloc, placed, places)?;
     let mut cpus = vec![in alloc; 0; placed.len()]?;
     for call in placed.iter().rev() {
-        let Some(end) = ends.get_mut(call.at) else {
+        let Some(end) = ends.get_mut(call.at as usize) else {
             continue;
         };
         *end = end.saturating_sub(1);
-        if let Some(cpu) = cpus.get_mut(*end) {
+        if let Some(cpu) = cpus.get_mut(*end as usize) {
             *cpu = call.cpu;
         }
     }
@@ -82,14 +113,14 @@ fn cpus_in_order(alloc: Global, placed: &[Placed], places: usize) -> Result<Vec<
 }
 
 // How many calls were put in at each place or before it.
-fn counted(alloc: Global, placed: &[Placed], places: usize) -> Result<Vec<usize>, AllocError> {
-    let mut counts = vec![in alloc; 0usize; places]?;
+fn counted(alloc: Global, placed: &[Placed], places: usize) -> Result<Vec<u32>, AllocError> {
+    let mut counts = vec![in alloc; 0u32; places]?;
     for call in placed {
-        if let Some(count) = counts.get_mut(call.at) {
+        if let Some(count) = counts.get_mut(call.at as usize) {
             *count = count.saturating_add(1);
         }
     }
-    let mut sum = 0usize;
+    let mut sum = 0u32;
     for count in counts.iter_mut() {
         sum = sum.saturating_add(*count);
         *count = sum;

@@ -1,6 +1,7 @@
 //! The order of the calls that read and extend one measurement.
 
-use crate::calls::{command_at, reply_at};
+use crate::calls::{CPUS, command_at, reply_at};
+use crate::lanes::Lanes;
 use crate::registers::{NEVER, Register, Use};
 use byteorder::{ByteOrder, LittleEndian};
 use history::History;
@@ -8,27 +9,29 @@ use measure::{Rem, extend_bytes, words, words8};
 use rmi_view::ReplyRef;
 use rmm_spec::Measurement;
 use std::alloc::{AllocError, Global};
-use std::cmp::min;
 
-/// How many calls after the first that is left are looked at.
-const WINDOW: usize = 64;
+/// How many calls are put in at most for each call, beside those that are for all.
+const TRIED_A_CALL: usize = 16;
 
-/// How many calls are put in at most, for each call and for all.
-const TRIED_A_CALL: usize = 64;
+/// How far extensions are moved at most between two readings, each before others that were open earlier.
+const MOST_MOVES: usize = 64;
 
-const TRIED: usize = 1 << 18;
-
-/// How far extensions are moved at most between two readings, each before one that returned earlier.
-const MOST_MOVES: usize = 16;
+/// An order of a measurement's calls, by their places among these.
+#[derive(Drop)]
+pub(crate) struct Solved {
+    pub(crate) order: Vec<usize>,
+    /// Whether each reads what it read.
+    pub(crate) reads_all: bool,
+}
 
 /// An extension that was put in since the last reading, with what is left to try in its place.
 #[derive(Clone, Copy)]
 struct Step {
+    cpu: usize,
     place: usize,
-    // which of the extensions that could come next it is
+    // how many of the extensions that could come next were open before it
     choice: usize,
     before: Rem,
-    first: usize,
     moves: usize,
 }
 
@@ -36,12 +39,10 @@ struct Step {
 /// those before a reading is taken out.
 #[derive(Drop)]
 struct Solver {
+    lanes: Lanes,
     settled: Vec<usize>,
     steps: Vec<Step>,
-    done: Vec<bool>,
     value: Rem,
-    // the first call that is left, in the order of returns
-    first: usize,
     // which extension is tried next
     choice: usize,
     // how far extensions were moved since the last reading, and may be
@@ -49,85 +50,71 @@ struct Solver {
     limit: usize,
 }
 
-/// How an order goes on.
-#[derive(Clone, Copy)]
-enum Next {
-    Reading(usize),
-    Extension(usize),
-    /// No call that is left can come next.
-    Nothing,
-}
-
-/// An order of the measurement's calls, by their places in the order of returns: one in which each reads what it read, where that is
-/// found soon. Else the last calls stand as they return. A call that doesn't return stands there where a reading needs it.
-pub(crate) fn solved(
+/// An order of the measurement's calls: one in which each reads what it read, where that is found before too many calls were put in, of which
+/// so many are left for all measurements. Else the last calls stand as they return. A call that doesn't return stands there where a reading
+/// needs it.
+pub(crate) fn order_found(
     alloc: Global,
     history: &History,
     register: &Register,
-) -> Result<Vec<usize>, AllocError> {
+    left: &mut usize,
+) -> Result<Solved, AllocError> {
     let uses = register.uses.as_slice();
     let mut solver = Solver {
+        lanes: Lanes::of(alloc, uses)?,
         settled: Vec::with_capacity(alloc, uses.len())?,
         steps: Vec::new(alloc),
-        done: vec![in alloc; false; uses.len()]?,
         value: register.start,
-        first: 0,
         choice: 0,
         moves: 0,
         limit: 0,
     };
-    for _ in 0..uses
-        .len()
-        .saturating_mul(TRIED_A_CALL)
-        .saturating_add(TRIED)
-    {
-        solver.pass_done();
-        if !has_return(uses, solver.first) || !solver.step(history, uses)? {
+    let own = uses.len().saturating_mul(TRIED_A_CALL);
+    for tried in 0..own.saturating_add(*left) {
+        let bound = solver.lanes.first_return(uses);
+        if bound == NEVER || !solver.step(history, uses, bound)? {
             break;
+        }
+        if tried >= own {
+            *left = left.saturating_sub(1);
         }
     }
     solver.order(uses)
 }
 
 impl Solver {
-    // Goes to the first call that is left.
-    fn pass_done(&mut self) {
-        for place in self.first..self.done.len() {
-            if !self.done[place] {
-                self.first = place;
-                return;
-            }
-        }
-        self.first = self.done.len();
-    }
-
     // The calls that were put in, in their order, and then those that are left and return.
-    fn order(mut self, uses: &[Use]) -> Result<Vec<usize>, AllocError> {
+    fn order(mut self, uses: &[Use]) -> Result<Solved, AllocError> {
         self.settle()?;
-        self.pass_done();
-        for place in self.first..self.done.len() {
-            if !self.is_done(place) && has_return(uses, place) {
-                self.settled.push(place)?;
+        let reads_all = self.lanes.first_return(uses) == NEVER;
+        let mut passed = self.lanes.counts;
+        for (place, used) in uses.iter().enumerate() {
+            if takes_one(&mut passed, usize::from(used.cpu)) || used.returned == NEVER {
+                continue;
             }
+            self.settled.push(place)?;
         }
-        Ok(self.settled)
+        Ok(Solved {
+            order: self.settled,
+            reads_all,
+        })
     }
 
-    // Puts in one call, or takes one out. Whether there is more to try.
-    fn step(&mut self, history: &History, uses: &[Use]) -> Result<bool, AllocError> {
-        match self.next(history, uses) {
-            Next::Reading(place) => {
-                self.settle()?;
+    // Puts in one call that was made by the bound, or takes one out. Whether there is more to try.
+    fn step(&mut self, history: &History, uses: &[Use], bound: usize) -> Result<bool, AllocError> {
+        if let Some(cpu) = self.reading(history, uses, bound) {
+            self.settle()?;
+            if let Some(place) = self.lanes.take(cpu) {
                 self.settled.push(place)?;
-                self.mark(place, true);
+            }
+            return Ok(true);
+        }
+        match self.extension(uses, bound) {
+            Some(cpu) => {
+                self.extend(history, uses, cpu)?;
                 Ok(true)
             }
-            Next::Extension(place) => {
-                let value = extended(&self.value, history, uses.get(place));
-                self.extend(place, value)?;
-                Ok(true)
-            }
-            Next::Nothing => Ok(self.take_back()),
+            None => Ok(self.take_back()),
         }
     }
 
@@ -143,18 +130,41 @@ impl Solver {
         Ok(())
     }
 
-    fn extend(&mut self, place: usize, value: Rem) -> Result<(), AllocError> {
+    // The CPU of a reading that fits.
+    fn reading(&self, history: &History, uses: &[Use], bound: usize) -> Option<usize> {
+        for cpu in 0..CPUS {
+            let Some(used) = self.lanes.next_by(uses, cpu, bound) else {
+                continue;
+            };
+            if !used.extends && is_read(&self.value, history, used) {
+                return Some(cpu);
+            }
+        }
+        None
+    }
+
+    // The CPU of the extension that is tried.
+    fn extension(&self, uses: &[Use], bound: usize) -> Option<usize> {
+        if self.moves.saturating_add(self.choice) > self.limit {
+            return None;
+        }
+        self.lanes.extension(uses, bound, self.choice)
+    }
+
+    fn extend(&mut self, history: &History, uses: &[Use], cpu: usize) -> Result<(), AllocError> {
+        let Some(place) = self.lanes.take(cpu) else {
+            return Ok(());
+        };
         self.steps.push(Step {
+            cpu,
             place,
             choice: self.choice,
             before: self.value,
-            first: self.first,
             moves: self.moves,
         })?;
-        self.value = value;
+        self.value = extended(&self.value, history, uses.get(place));
         self.moves = self.moves.saturating_add(self.choice);
         self.choice = 0;
-        self.mark(place, true);
         Ok(())
     }
 
@@ -165,59 +175,24 @@ impl Solver {
             self.choice = 0;
             return self.limit <= MOST_MOVES;
         };
+        self.lanes.put_back(step.cpu);
         self.value = step.before;
-        self.first = step.first;
         self.moves = step.moves;
         self.choice = step.choice.saturating_add(1);
-        self.mark(step.place, false);
         true
-    }
-
-    fn mark(&mut self, place: usize, is_done: bool) {
-        if let Some(done) = self.done.get_mut(place) {
-            *done = is_done;
-        }
-    }
-
-    // A call that can come next: a reading that fits, or else the extension that is tried.
-    fn next(&self, history: &History, uses: &[Use]) -> Next {
-        let Some(bound) = uses.get(self.first) else {
-            return Next::Nothing;
-        };
-        let may_move = self.moves.saturating_add(self.choice) <= self.limit;
-        let mut extensions = 0usize;
-        let mut next = Next::Nothing;
-        for place in self.first..min(uses.len(), self.first.saturating_add(WINDOW)) {
-            let used = &uses[place];
-            if self.is_done(place) || used.called > bound.returned {
-                continue;
-            }
-            if used.extends {
-                if extensions == self.choice && may_move {
-                    next = Next::Extension(place);
-                }
-                extensions = extensions.saturating_add(1);
-            } else if is_read(&self.value, history, used) {
-                return Next::Reading(place);
-            }
-        }
-        next
-    }
-
-    fn is_done(&self, place: usize) -> bool {
-        match self.done.get(place) {
-            Some(done) => *done,
-            None => true,
-        }
     }
 }
 
-// Whether there is a call of that place, which returns.
-fn has_return(uses: &[Use], place: usize) -> bool {
-    match uses.get(place) {
-        Some(used) => used.returned != NEVER,
-        None => false,
+// Takes one of the CPU's, where any is left.
+fn takes_one(counts: &mut [usize; CPUS], cpu: usize) -> bool {
+    let Some(count) = counts.get_mut(cpu) else {
+        return false;
+    };
+    if *count == 0 {
+        return false;
     }
+    *count = count.saturating_sub(1);
+    true
 }
 
 // Whether the call read that value.

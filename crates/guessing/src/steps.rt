@@ -2,11 +2,11 @@
 
 ghost use Rattle.std.specs.Prelude.{◌≤◌, length};
 
-use crate::calls::{command_at, reply_at};
+use crate::calls::{command_at, reply_of};
 use crate::order::Placed;
 use history::History;
 use rmi_view::{CommandRef, ReplyRef};
-use rmm_spec::{Accepted, FunctionId, Reply};
+use rmm_spec::{Accepted, Reply};
 use spec_machine::Machine;
 use std::alloc::{AllocError, Global};
 
@@ -28,7 +28,8 @@ pub(crate) struct Checkpoint {
     pub(crate) machine: Machine,
 }
 
-/// Whether the machine gives a call its reply, and carries it out. What is read of a measurement is looked at later.
+/// Whether the machine gives a call its reply, and carries it out. Extensible measurements are looked at later: what is read of them may be
+/// anything, and extensions change nothing.
 pub(crate) fn gives(
     machine: &mut Machine,
     cpu: u8,
@@ -38,7 +39,7 @@ pub(crate) fn gives(
 ) -> Result<bool, AllocError>
     requires { length command.words.now ≤ 10 }
 {
-    if is_measured && matches!(command.function, FunctionId::MeasurementRead) {
+    if is_measured {
         return Ok(machine.outcome(cpu, &command.to_command()).is_ok());
     }
     machine.offer_seen(cpu, command, reply)
@@ -67,7 +68,7 @@ pub(crate) fn takes(
     let Some(command) = command_at(history, step.called as usize) else {
         return Ok(false);
     };
-    let Some(reply) = reply_at(history, step.returned as usize) else {
+    let Some(reply) = reply_of(history, step.returned) else {
         return Ok(false);
     };
     gives(machine, step.cpu, command, reply, step.is_measured)
@@ -98,7 +99,7 @@ fn would_take(history: &History, machine: &Machine, step: Step) -> bool {
     let Some(command) = command_at(history, step.called as usize) else {
         return false;
     };
-    let Some(reply) = reply_at(history, step.returned as usize) else {
+    let Some(reply) = reply_of(history, step.returned) else {
         return false;
     };
     match machine.outcome(step.cpu, &command.to_command()) {
@@ -127,7 +128,7 @@ pub(crate) fn others(alloc: Global, steps: &[Step]) -> Result<Vec<Placed>, Alloc
         if !step.is_measured {
             placed.push(Placed {
                 cpu: step.cpu,
-                at: step.at as usize,
+                at: step.at,
             })?;
         }
     }

@@ -7,7 +7,13 @@ ghost use Rattle.registers.specs.Growing.{Keeps};
 use crate::possible::Possible;
 use std::alloc::{AllocError, Global};
 
-/// Takes one more, unless it is there.
+/// So many are few: one that is there already isn't taken again, where of more it may be, unless it is among the last.
+pub(crate) const FEW: usize = 512;
+
+/// How many of more are the last.
+const LAST: usize = 64;
+
+/// Takes one more, unless it is found.
 pub(crate) fn take(possible: &mut Vec<Possible>, one: Possible) -> Result<(), AllocError>
     ensures kept { OnOk result (Keeps possible.old.items possible.new.items) }
     ensures taken { OnOk result (IsAmong one possible.new.items) }
@@ -27,16 +33,21 @@ fn put(possible: &mut Vec<Possible>, one: Possible) -> Result<(), AllocError>
     Ok(())
 }
 
-/// Whether it is one of them.
+/// Whether it is found among them.
 fn is_among(one: &Possible, possible: &[Possible]) -> bool
     ensures { IsTrue result → IsAmong one.now possible.now }
 {
-    for other in possible {
-        if one.is_same(other) {
+    for index in first_looked_at(possible.len())..possible.len() {
+        if one.is_same(&possible[index]) {
             return true;
         }
     }
     false
+}
+
+/// From where on so many are looked at.
+fn first_looked_at(count: usize) -> usize {
+    if count <= FEW { 0 } else { count - LAST }
 }
 
 /// Those in which the call of the CPU doesn't stand, each once where they are.

@@ -6,23 +6,21 @@ ghost use Rattle.registers.specs.declared.open_call.OpenCall.{OpenCall};
 ghost use Rattle.registers.specs.Growing.{AllGrow, GrowsBy, GrowsByEach, Keeps};
 ghost use Rattle.registers.specs.Leads.{Leads, call_done};
 
-use crate::collecting::{take, with_call, without_call};
+use crate::collecting::{FEW, take, with_call, without_call};
 use crate::done::Done;
 use crate::ending::end_each;
 use crate::fitting::fits;
 use crate::open_call::OpenCall;
 use crate::possible::Possible;
+use crate::setting::Setting;
 use history::History;
-use std::alloc::{AllocError, Global};
-
-/// How many possibilities are kept at most.
-const MOST: usize = 512;
+use std::alloc::AllocError;
 
 /// The possibilities after a call of the CPU that returns at the place, from those before, with the open calls of the other CPUs. None where
-/// there are too many.
+/// there are too many. What there is more of than few is taken from what is to spare for all registers.
 pub(crate) fn next_possible(
-    alloc: Global,
-    history: &History,
+    setting: &Setting<'_>,
+    spare: &mut usize,
     opens: &[OpenCall],
     place: u32,
     cpu: u8,
@@ -32,41 +30,52 @@ pub(crate) fn next_possible(
     requires cpu { cpu < 8 }
     requires opens { (i : ℕ) (one : OpenCall) → slice_get opens.now i ≡ Some one → one.cpu < 8 }
     ensures { IfOk result (λ next. IfSome next (λ n. (begun : List Possibility)
-        × Leads history.now.recorded.events opens.now place cpu (call_done call.now) possible.now begun n.items)) }
+        × Leads setting.now.history.now.recorded.events opens.now place cpu (call_done call.now) possible.now begun n.items)) }
 {
-    let mut begun = without_call(alloc, cpu, possible)?;
-    if !grow(history, opens, &mut begun)? {
+    let most = FEW.saturating_add(*spare);
+    let mut begun = without_call(setting.alloc, cpu, possible)?;
+    let all = grow(setting.history, opens, most, &mut begun)?;
+    *spare = spare.saturating_sub(begun.len().saturating_sub(FEW));
+    if !all {
         return Ok(None);
     }
-    let mut next = with_call(alloc, cpu, possible)?;
-    end_each(history, place, cpu, call, begun.as_slice(), &mut next)?;
-    if next.len() > MOST {
+    let mut next = with_call(setting.alloc, cpu, possible)?;
+    end_each(
+        setting.history,
+        place,
+        cpu,
+        call,
+        begun.as_slice(),
+        &mut next,
+    )?;
+    if next.len() > most {
         return Ok(None);
     }
     Ok(Some(next))
 }
 
-/// Adds what the possibilities come to by open calls, one after another. Whether these are all, since there aren't too many.
+/// Adds what the possibilities come to by open calls, one after another. Whether these are all, since there aren't more than that.
 fn grow(
     history: &History,
     opens: &[OpenCall],
+    most: usize,
     begun: &mut Vec<Possible>,
 ) -> Result<bool, AllocError>
     requires { (i : ℕ) (one : OpenCall) → slice_get opens.now i ≡ Some one → one.cpu < 8 }
     ensures kept { OnOk result (Keeps begun.old.items begun.new.items) }
     ensures all { IfOk result (λ all. IsTrue all → AllGrow history.now.recorded.events opens.now begun.new.items) }
 {
-    for index in 0..MOST {
+    for index in 0..most {
         if index >= begun.len() {
             return Ok(true);
         }
         let one = begun[index];
         grow_by_each(history, opens, &one, begun)?;
-        if begun.len() > MOST {
+        if begun.len() > most {
             return Ok(false);
         }
     }
-    Ok(begun.len() <= MOST)
+    Ok(begun.len() <= most)
 }
 
 /// Adds what one of the possibilities comes to by each open call.

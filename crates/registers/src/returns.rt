@@ -26,6 +26,7 @@ pub(crate) fn return_to(
     setting: &Setting<'_>,
     cpus: &[Cpu; 8],
     slots: &mut Vec<Slot>,
+    spare: &mut usize,
     at: &Return,
     call: &Call,
 ) -> Result<bool, AllocError>
@@ -41,7 +42,7 @@ pub(crate) fn return_to(
     };
     let first = first_of(rd);
     'slots: for slot in first..first + REGISTERS {
-        if !return_to_slot(setting, cpus, slots, at, call, slot)? {
+        if !return_to_slot(setting, cpus, slots, spare, at, call, slot)? {
             return Ok(false);
         }
     }
@@ -53,6 +54,7 @@ fn return_to_slot(
     setting: &Setting<'_>,
     cpus: &[Cpu; 8],
     slots: &mut Vec<Slot>,
+    spare: &mut usize,
     at: &Return,
     call: &Call,
     slot: usize,
@@ -74,7 +76,7 @@ fn return_to_slot(
     if slot >= slots.len() {
         return Ok(true);
     }
-    let next = next_slot(setting, cpus, &slots[slot], at, &done, slot)?;
+    let next = next_slot(setting, cpus, spare, &slots[slot], at, &done, slot)?;
     match next {
         Some(next) => {
             slots[slot] = next;
@@ -88,6 +90,7 @@ fn return_to_slot(
 fn next_slot(
     setting: &Setting<'_>,
     cpus: &[Cpu; 8],
+    spare: &mut usize,
     old: &Slot,
     at: &Return,
     done: &Done,
@@ -102,8 +105,18 @@ fn next_slot(
         (IsSlot setting.now.history.now.recorded setting.now.owners.now (at.now.place + 1) slot)) }
 {
     match old {
-        Slot::AtFirst => next_from(setting, cpus, &[Possible::at_first()], at, done, slot),
-        Slot::Kept(possible) => next_from(setting, cpus, possible.as_slice(), at, done, slot),
+        Slot::AtFirst => next_from(
+            setting,
+            cpus,
+            spare,
+            &[Possible::at_first()],
+            at,
+            done,
+            slot,
+        ),
+        Slot::Kept(possible) => {
+            next_from(setting, cpus, spare, possible.as_slice(), at, done, slot)
+        }
         Slot::Dropped => Ok(Some(Slot::Dropped)),
     }
 }
@@ -112,6 +125,7 @@ fn next_slot(
 fn next_from(
     setting: &Setting<'_>,
     cpus: &[Cpu; 8],
+    spare: &mut usize,
     possible: &[Possible],
     at: &Return,
     done: &Done,
@@ -128,8 +142,8 @@ fn next_from(
     let _fact = setting.history.well_formed();
     let opens = open_calls(setting, cpus, at.place, at.cpu, slot)?;
     let next = next_possible(
-        setting.alloc,
-        setting.history,
+        setting,
+        spare,
         opens.as_slice(),
         at.place,
         at.cpu,

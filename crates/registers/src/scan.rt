@@ -38,8 +38,13 @@ pub(crate) enum Step {
     Unknown,
 }
 
-/// The place of a return that no order of the calls of some register survives, where one is found.
-pub fn lost_register(alloc: Global, history: &History) -> Result<Option<u32>, AllocError>
+/// The place of a return that no order of the calls of some register survives, where one is found. At a return 512 possibilities of a register
+/// are kept, and as many more as are to spare for all registers, of which those that were needed are taken.
+pub fn lost_register(
+    alloc: Global,
+    history: &History,
+    spare: &mut usize,
+) -> Result<Option<u32>, AllocError>
     ensures { IfOk result (λ lost. IfSome lost (λ _. LeadsNowhere history.now.recorded [])) }
 {
     let _fact = history.well_formed();
@@ -55,7 +60,7 @@ pub fn lost_register(alloc: Global, history: &History) -> Result<Option<u32>, Al
     };
     let mut scan = first_scan(&setting, granules as usize * REGISTERS)?;
     'places: for place in 0..history.len() as u32 {
-        match read_event(&setting, &mut scan, place)? {
+        match read_event(&setting, &mut scan, spare, place)? {
             Step::On => {}
             Step::Lost => return Ok(Some(place)),
             Step::Unknown => return Ok(None),
@@ -74,13 +79,18 @@ fn first_scan(setting: &Setting<'_>, count: usize) -> Result<Scan, AllocError>
 }
 
 /// Reads the event at the place.
-fn read_event(setting: &Setting<'_>, scan: &mut Scan, place: u32) -> Result<Step, AllocError>
+fn read_event(
+    setting: &Setting<'_>,
+    scan: &mut Scan,
+    spare: &mut usize,
+    place: u32,
+) -> Result<Step, AllocError>
     requires place { place < length setting.now.history.now.recorded.events }
     requires scan { IsScan setting.now.history.now.recorded setting.now.owners.now place scan.old }
     ensures { IfOk result (IsAfter setting.now.history.now.recorded setting.now.owners.now place scan.new) }
 {
     match setting.history.reply_at(place as usize) {
-        Some(reply) => read_return(setting, scan, place, reply),
+        Some(reply) => read_return(setting, scan, spare, place, reply),
         None => {
             pass_call(setting, &mut scan.slots, place);
             Ok(Step::On)
@@ -126,6 +136,7 @@ fn drop_asked(owners: &[Option<u64>], slots: &mut Vec<Slot>, call: &Call)
 fn read_return(
     setting: &Setting<'_>,
     scan: &mut Scan,
+    spare: &mut usize,
     place: u32,
     reply: ReplyRef<'_>,
 ) -> Result<Step, AllocError>
@@ -146,7 +157,7 @@ fn read_return(
             Ok(Step::On)
         }
         Some(call) => {
-            if !return_to(setting, &scan.cpus, &mut scan.slots, &at, &call)? {
+            if !return_to(setting, &scan.cpus, &mut scan.slots, spare, &at, &call)? {
                 return Ok(Step::Lost);
             }
             let entered = entered_by(at.entered, &call);

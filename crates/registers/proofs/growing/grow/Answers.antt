@@ -28,4 +28,4 @@ loop-index-preserved c =
 pub returns-clause-all : goal.returns-clause-all
 returns-clause-all c = λ few.
     AllGrow-first c.args.history.now.recorded.events c.args.opens.now c.loop-index.begun.items c.loop-index.index
-    (omega (arith, leb-true c.len-2.result 512 few, c.len-2.ensures, c.loop-index-test.false)) c.loop-index.invariant.grown
+    (omega (arith, leb-true c.len-2.result c.args.most few, c.len-2.ensures, c.loop-index-test.false)) c.loop-index.invariant.grown
