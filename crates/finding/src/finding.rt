@@ -21,8 +21,11 @@ use verdict_laws::first_parts_have_orders;
 /// How many orders that lack no call are kept at first.
 const FIRST_MOST: usize = 64;
 
-/// How many times as many are kept where orders were left out.
+/// How many times as many are kept where orders were left out, and calls on measurements tried.
 const WIDER: usize = 8;
+
+/// How many calls on measurements are tried at first.
+const FIRST_READINGS: u64 = 1 << 19;
 
 /// What was found of a history.
 #[derive(Drop)]
@@ -54,7 +57,7 @@ pub fn find_watched<W: Watch>(
     let mut offers = Offers::none();
     let mut suspected = None;
     if limit > 0 && watch.goes_on(FIRST) {
-        match guessed(alloc, &mut offers, history)? {
+        match guessed(alloc, &mut offers, history, limit, watch)? {
             Judged::Linearization(order) => return Ok(Found::Order(order)),
             Judged::Fails(Some(place)) => {
                 suspected = first_unguessed(alloc, &mut offers, history, place)?;
@@ -79,6 +82,7 @@ fn find_wider<W: Watch>(
     let mut offers = offers;
     let mut suspected = suspected;
     let mut most = FIRST_MOST;
+    let mut readings = FIRST_READINGS;
     'wider: while offers.count() < limit {
         if !watch.goes_on(FIRST) {
             return Ok(Found::GaveUp(offers));
@@ -87,6 +91,7 @@ fn find_wider<W: Watch>(
             until: history.len(),
             most,
             limit: limit - offers.count(),
+            readings,
         };
         let mut made = Offers::none();
         let found = look(alloc, &mut made, history, bounds, &mut suspected, watch)?;
@@ -95,6 +100,7 @@ fn find_wider<W: Watch>(
         }
         offers.add(max(made.count(), 1));
         most = most.saturating_mul(WIDER);
+        readings = readings.saturating_mul(WIDER as u64);
     }
     Ok(Found::GaveUp(offers))
 }

@@ -16,8 +16,12 @@ pub(crate) fn first_part(
         p.recorded ≡ record history.now.recorded { events = take count history.now.recorded.events })) }
 {
     let mut part = History::new(alloc, history.config());
-    'places: for place in 0..count {
-        let event = history.event(place);
+    let mut events = history.events();
+    'places: for _place in 0..count {
+        let Some(event) = events.next() else {
+            return Ok(None);
+        };
+        let event = event.to_event();
         if !part.fits(&event) || !part.has_room() {
             return Ok(None);
         }

@@ -25,6 +25,8 @@ pub(crate) struct Bounds {
     pub(crate) most: usize,
     /// How many steps are tried.
     pub(crate) limit: u64,
+    /// How many calls on measurements are tried for an order of all, and how many possibilities of such orders are kept.
+    pub(crate) readings: u64,
 }
 
 /// What is found return by return.

@@ -3,20 +3,22 @@
 ghost use Rattle.std.specs.Prelude.{IfOk};
 ghost use Rattle.finding.specs.Judged.{IsJudged};
 
+use crate::allowed::Allowed;
 use crate::judging::{Judged, judgement_of};
 use crate::lines::certificate_of;
 use crate::offers::Offers;
+use crate::watch::{Unwatched, Watch};
 use guessing::{GuessedOrder, guess};
 use history::History;
 use registers::lost_register;
 use std::alloc::{AllocError, Global};
 use std::cmp::min;
 
-/// How many calls on measurements are tried at first.
-const SOON: usize = 1 << 14;
+/// How many calls on measurements are tried at first, beside some for each.
+const SOON: u64 = 1 << 14;
 
 /// How many are tried where no register is known to have no order.
-const LATER: usize = 1 << 19;
+const LATER: u64 = 1 << 18;
 
 /// A guess, judged, and whether each of its calls on measurements reads what it read.
 #[derive(Drop)]
@@ -27,14 +29,16 @@ struct JudgedGuess {
 
 /// The guess, judged. Where it is no linearization, the place of the first return that it doesn't explain. Where readings aren't explained soon,
 /// an order for them is looked for longer, unless a register has none.
-pub(crate) fn guessed(
+pub(crate) fn guessed<W: Watch>(
     alloc: Global,
     offers: &mut Offers,
     history: &History,
+    limit: u64,
+    watch: &mut W,
 ) -> Result<Judged, AllocError>
     ensures { IfOk result (IsJudged history.now.recorded) }
 {
-    let soon = tried_guess(alloc, offers, history, SOON)?;
+    let soon = guessed_soon(alloc, offers, history)?;
     if soon.reads_all {
         return Ok(soon.judged);
     }
@@ -42,7 +46,9 @@ pub(crate) fn guessed(
     if lost.is_some() {
         return Ok(soon.judged);
     }
-    Ok(tried_guess(alloc, offers, history, LATER)?.judged)
+    let later = min(LATER, limit.saturating_sub(offers.count()));
+    let mut tries = Allowed::new(watch, later);
+    Ok(judged_guess(alloc, offers, history, &mut tries)?.judged)
 }
 
 /// Whether a guess soon is a linearization.
@@ -51,26 +57,40 @@ pub(crate) fn is_guessed_soon(
     offers: &mut Offers,
     history: &History,
 ) -> Result<bool, AllocError> {
-    match tried_guess(alloc, offers, history, SOON)?.judged {
+    match guessed_soon(alloc, offers, history)?.judged {
         Judged::Linearization(_) => Ok(true),
         Judged::Fails(_) => Ok(false),
     }
 }
 
-/// A guess for which so many calls on measurements are tried, judged.
-fn tried_guess(
+/// A guess for which few calls on measurements are tried, judged.
+fn guessed_soon(
     alloc: Global,
     offers: &mut Offers,
     history: &History,
-    tried: usize,
 ) -> Result<JudgedGuess, AllocError>
-    ensures { IfOk result (λ tried. IsJudged history.now.recorded tried.judged) }
+    ensures { IfOk result (λ guess. IsJudged history.now.recorded guess.judged) }
+{
+    let mut unwatched = Unwatched;
+    let mut tries = Allowed::new(&mut unwatched, SOON);
+    judged_guess(alloc, offers, history, &mut tries)
+}
+
+/// A guess for which so many calls on measurements are tried, judged. Each that is tried counts as a step.
+fn judged_guess<W: Watch>(
+    alloc: Global,
+    offers: &mut Offers,
+    history: &History,
+    tries: &mut Allowed<'_, W>,
+) -> Result<JudgedGuess, AllocError>
+    ensures { IfOk result (λ guess. IsJudged history.now.recorded guess.judged) }
 {
     let GuessedOrder {
         cpus,
         unexplained,
         reads_all,
-    } = guess(alloc, history, tried)?;
+    } = guess(alloc, history, tries)?;
+    tries.count(offers);
     let order = certificate_of(alloc, history, cpus.as_slice(), &[])?;
     let judged = match judgement_of(alloc, offers, history, order)? {
         Judged::Fails(place) => Judged::Fails(earlier(place, unexplained)),

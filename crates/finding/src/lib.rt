@@ -7,6 +7,7 @@
 #![tactic(auto)]
 
 mod alike;
+mod allowed;
 mod apart;
 mod attempt;
 mod begun;

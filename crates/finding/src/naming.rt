@@ -52,7 +52,8 @@ pub(crate) fn named_place<W: Watch>(
     let place = unread_place(alloc, offers, history, bounds, place, watch)?;
     if let Some(first) = first_unguessed(alloc, offers, history, place)? {
         if is_lost_up_to(alloc, offers, history, bounds, first, watch)? {
-            return Ok(Some(first));
+            let named = named_before(alloc, offers, history, bounds, place, first, watch)?;
+            return Ok(Some(named));
         }
     }
     if is_lost_up_to(alloc, offers, history, bounds, place, watch)? {

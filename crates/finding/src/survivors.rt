@@ -5,11 +5,12 @@ ghost use Rattle.std.specs.List.{All};
 ghost use Rattle.rmm_spec.specs.FirstFault.{Passes};
 ghost use Rattle.rmm_spec.specs.State.{State};
 
+use crate::allowed::Allowed;
 use crate::forward::{Bounds, Survey, forward};
 use crate::judging::passing;
 use crate::offers::Offers;
 use crate::shelved::Orders;
-use crate::survey::lines_of;
+use crate::survey::arranged_lines;
 use crate::unread::{reads_nothing, unread};
 use crate::watch::{Unwatched, Watch};
 use certificate::Certificate;
@@ -21,6 +22,9 @@ const KEPT: usize = 16;
 
 /// How many orders are told.
 const TOLD: usize = 4;
+
+/// How many calls on measurements are tried for each.
+const READINGS: u64 = 1 << 19;
 
 /// Orders of the calls that returned before the place of an event, four at most: their lines pass.
 pub fn orders_before<W: Watch>(
@@ -36,9 +40,10 @@ pub fn orders_before<W: Watch>(
         until: place as usize,
         most: KEPT,
         limit,
+        readings: READINGS,
     };
     match survey_of(alloc, history, bounds, watch)? {
-        Survey::Kept(orders) => first_orders(alloc, history, &orders),
+        Survey::Kept(orders) => first_orders(alloc, history, &orders, watch),
         _ => Ok(Vec::new(alloc)),
     }
 }
@@ -57,6 +62,7 @@ pub fn longest_order<W: Watch>(
         until: history.len(),
         most: KEPT,
         limit,
+        readings: READINGS,
     };
     let place = match survey_of(alloc, history, bounds, watch)? {
         Survey::Kept(orders) => return longest(alloc, history, &orders),
@@ -87,10 +93,11 @@ fn survey_of<W: Watch>(
 }
 
 /// The first orders whose calls are all given their replies: a reading may not be.
-fn first_orders(
+fn first_orders<W: Watch>(
     alloc: Global,
     history: &History,
     orders: &Orders,
+    watch: &mut W,
 ) -> Result<Vec<Certificate>, AllocError>
     ensures { IfOk result (λ told. All (λ order. (state : State) × Passes history.now.recorded order.lines state) told.items) }
 {
@@ -99,7 +106,8 @@ fn first_orders(
         if told.len() >= TOLD {
             return Ok(told);
         }
-        let lines = lines_of(alloc, history, &orders.trail, order, true)?.certificate;
+        let mut tries = Allowed::new(watch, READINGS);
+        let lines = arranged_lines(alloc, history, &orders.trail, order, &mut tries)?.certificate;
         let count = lines.len();
         let passing = passing(alloc, history, lines)?;
         if passing.len() < count {
@@ -116,7 +124,9 @@ fn longest(alloc: Global, history: &History, orders: &Orders) -> Result<Certific
 {
     let mut longest = passing(alloc, history, Certificate::new(alloc))?;
     'orders: for order in orders.begun.as_slice().iter().take(TOLD) {
-        let lines = lines_of(alloc, history, &orders.trail, order, true)?.certificate;
+        let mut unwatched = Unwatched;
+        let mut tries = Allowed::new(&mut unwatched, READINGS);
+        let lines = arranged_lines(alloc, history, &orders.trail, order, &mut tries)?.certificate;
         let passing = passing(alloc, history, lines)?;
         if longest.len() < passing.len() {
             longest = passing;

@@ -3,14 +3,12 @@
 use crate::calls::{CPUS, command_at, measured, reply_at};
 use crate::order::{Arranged, Placed, with_uses};
 use crate::registers::{Registers, Use};
+use crate::tries::Tries;
 use history::{History, Places};
 use rmi_view::{CommandRef, ReplyRef};
 use rmm_spec::{Call, FunctionId};
 use std::alloc::{AllocError, Global};
 use std::collections::HashMap;
-
-/// How many calls are tried for all measurements, beside those for each call.
-const TRIED: usize = 1 << 19;
 
 /// A call on a measurement, by the measurement's number.
 #[derive(Clone, Copy)]
@@ -37,10 +35,11 @@ struct Arrangement {
 
 /// The order, where the calls on each extensible measurement stand as they return, or in an order in which each reads what it read, if one is
 /// found. One that doesn't return stands there only where a reading needs it.
-pub fn arranged(
+pub fn arranged<T: Tries>(
     alloc: Global,
     history: &History,
     order: &[Placed],
+    tries: &mut T,
 ) -> Result<Arranged, AllocError> {
     let mut arrangement = Arrangement {
         alloc,
@@ -54,7 +53,7 @@ pub fn arranged(
     for placed in order {
         arrangement.pass(history, *placed)?;
     }
-    arrangement.with_measured(history)
+    arrangement.with_measured(history, tries)
 }
 
 impl Arrangement {
@@ -176,7 +175,11 @@ impl Arrangement {
     }
 
     // The order of all calls, those on measurements among them.
-    fn with_measured(self, history: &History) -> Result<Arranged, AllocError> {
+    fn with_measured<T: Tries>(
+        self,
+        history: &History,
+        tries: &mut T,
+    ) -> Result<Arranged, AllocError> {
         let mut registers = self.registers;
         for at in &self.by_return {
             let Some(index) = at.checked_sub(1) else {
@@ -187,7 +190,7 @@ impl Arrangement {
             }
         }
         add_open_calls(history, &self.counts, &mut registers)?;
-        with_uses(self.alloc, history, self.others, &registers, TRIED)
+        with_uses(self.alloc, history, self.others, &registers, tries)
     }
 }
 

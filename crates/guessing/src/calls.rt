@@ -120,7 +120,7 @@ pub(crate) fn number_of(command: CommandRef<'_>) -> Option<usize> {
 }
 
 /// Whether two calls name one word.
-pub(crate) fn shares_word(one: CommandRef<'_>, other: CommandRef<'_>) -> bool {
+pub fn shares_word(one: CommandRef<'_>, other: CommandRef<'_>) -> bool {
     for word in one.words {
         if other.words.contains(word) {
             return true;

@@ -3,6 +3,7 @@
 use crate::draft::Draft;
 use crate::order::{Arranged, with_uses};
 use crate::steps::others;
+use crate::tries::Tries;
 use history::History;
 use std::alloc::{AllocError, Global};
 
@@ -17,8 +18,12 @@ pub struct GuessedOrder {
     pub reads_all: bool,
 }
 
-/// Guesses an order of the history's calls. Some calls are tried for each that reads or extends a measurement, and so many more for all of them.
-pub fn guess(alloc: Global, history: &History, tried: usize) -> Result<GuessedOrder, AllocError> {
+/// Guesses an order of the history's calls.
+pub fn guess<T: Tries>(
+    alloc: Global,
+    history: &History,
+    tries: &mut T,
+) -> Result<GuessedOrder, AllocError> {
     let mut draft = Draft::new(alloc, history)?;
     let mut unexplained = None;
     let mut events = history.events();
@@ -33,7 +38,7 @@ pub fn guess(alloc: Global, history: &History, tried: usize) -> Result<GuessedOr
     }
     draft.add_unreturned(history)?;
     let placed = others(alloc, draft.steps.as_slice())?;
-    let Arranged { cpus, reads_all } = with_uses(alloc, history, placed, &draft.registers, tried)?;
+    let Arranged { cpus, reads_all } = with_uses(alloc, history, placed, &draft.registers, tries)?;
     Ok(GuessedOrder {
         cpus,
         unexplained,

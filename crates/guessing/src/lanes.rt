@@ -1,6 +1,7 @@
 //! A measurement's calls, by their CPUs.
 
 use crate::calls::CPUS;
+use crate::odds::{Open, bits_against};
 use crate::registers::{NEVER, Use};
 use std::alloc::{AllocError, Global};
 use std::cmp::min;
@@ -11,11 +12,23 @@ pub(crate) struct Lanes {
     // their places among the measurement's calls
     places: [Vec<usize>; CPUS],
     pub(crate) counts: [usize; CPUS],
+    // how many events the history has
+    end: usize,
+}
+
+/// An extension that may come next.
+#[derive(Clone, Copy)]
+pub(crate) struct Candidate {
+    pub(crate) cpu: usize,
+    /// How many others come before it, by the middles of the times in which they are open.
+    pub(crate) choice: usize,
+    /// How many bits the odds have against its coming before all those.
+    pub(crate) bits: u32,
 }
 
 impl Lanes {
-    /// No call stands in the order.
-    pub(crate) fn of(alloc: Global, uses: &[Use]) -> Result<Lanes, AllocError> {
+    /// No call stands in the order. The history has so many events.
+    pub(crate) fn of(alloc: Global, uses: &[Use], end: usize) -> Result<Lanes, AllocError> {
         let mut places = std::array::from_fn(|_cpu| Vec::new(alloc));
         for (place, used) in uses.iter().enumerate() {
             if let Some(lane) = places.get_mut(usize::from(used.cpu)) {
@@ -25,6 +38,7 @@ impl Lanes {
         Ok(Lanes {
             places,
             counts: [0; CPUS],
+            end,
         })
     }
 
@@ -71,42 +85,80 @@ impl Lanes {
         }
     }
 
-    /// The CPU whose next call is an extension that was made by the bound, before which so many others of these stand by the middles of their
-    /// times.
-    pub(crate) fn extension(&self, uses: &[Use], bound: usize, before: usize) -> Option<usize> {
-        let middles = self.middles(uses, bound);
-        for cpu in 0..CPUS {
-            if middles[cpu] < NEVER && count_before(&middles, cpu) == before {
-                return Some(cpu);
+    /// The first extension among those made by the bound that has at most so many bits against it, from one choice on.
+    pub(crate) fn candidate(
+        &self,
+        uses: &[Use],
+        bound: usize,
+        from: usize,
+        most: u32,
+    ) -> Option<Candidate> {
+        let open = self.open_extensions(uses, bound);
+        for choice in from..CPUS {
+            let cpu = chosen(&open, choice)?;
+            let bits = bits_against_all(&open, cpu);
+            if bits <= most {
+                return Some(Candidate { cpu, choice, bits });
             }
         }
         None
     }
 
-    // For each CPU twice the middle of the time of its next call, where that is an extension that was made by the bound.
-    fn middles(&self, uses: &[Use], bound: usize) -> [usize; CPUS] {
-        let mut middles = [NEVER; CPUS];
+    // For each CPU how long its next call is open, where that is an extension that was made by the bound.
+    fn open_extensions(&self, uses: &[Use], bound: usize) -> [Option<Open>; CPUS] {
+        let mut open = [None; CPUS];
         for cpu in 0..CPUS {
             if let Some(used) = self.next_by(uses, cpu, bound) {
                 if used.extends {
-                    middles[cpu] = min(used.called.saturating_add(used.returned), NEVER - 1);
+                    open[cpu] = Some(Open::of(used, self.end));
                 }
             }
         }
-        middles
+        open
     }
 }
 
-// How many CPUs come before that one, by their middles.
-fn count_before(middles: &[usize; CPUS], cpu: usize) -> usize {
+// The CPU whose extension comes after so many others, by the middles.
+fn chosen(open: &[Option<Open>; CPUS], choice: usize) -> Option<usize> {
+    for cpu in 0..CPUS {
+        if open[cpu].is_some() && count_before(open, cpu) == choice {
+            return Some(cpu);
+        }
+    }
+    None
+}
+
+// How many come before that CPU's.
+fn count_before(open: &[Option<Open>; CPUS], cpu: usize) -> usize {
     let mut before = 0usize;
-    for (other, middle) in middles.iter().enumerate() {
-        let Some(own) = middles.get(cpu) else {
-            return before;
-        };
-        if *middle < *own || (*middle == *own && other < cpu) {
+    for other in 0..CPUS {
+        if comes_before(open, other, cpu) {
             before = before.saturating_add(1);
         }
     }
     before
+}
+
+// How many bits the odds have against a CPU's coming before all that come before it by the middles.
+fn bits_against_all(open: &[Option<Open>; CPUS], cpu: usize) -> u32 {
+    let mut bits = 0u32;
+    for other in 0..CPUS {
+        if !comes_before(open, other, cpu) {
+            continue;
+        }
+        if let (Some(Some(own)), Some(Some(before))) = (open.get(cpu), open.get(other)) {
+            bits = bits.saturating_add(bits_against(*own, *before));
+        }
+    }
+    bits
+}
+
+// Whether one CPU's extension comes before the other's, by the middles of the times in which they are open.
+fn comes_before(open: &[Option<Open>; CPUS], one: usize, other: usize) -> bool {
+    match (open.get(one), open.get(other)) {
+        (Some(Some(first)), Some(Some(second))) => {
+            (first.middle(), one) < (second.middle(), other)
+        }
+        _ => false,
+    }
 }

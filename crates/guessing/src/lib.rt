@@ -11,13 +11,17 @@ mod draft;
 mod guessed;
 mod lanes;
 mod looking_back;
+mod odds;
 mod open_calls;
 mod order;
 mod placing;
 mod registers;
 mod solving;
 mod steps;
+mod tries;
 
 pub use arrangement::arranged;
+pub use calls::shares_word;
 pub use guessed::{GuessedOrder, guess};
 pub use order::{Arranged, Placed};
+pub use tries::Tries;

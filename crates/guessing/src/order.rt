@@ -2,6 +2,7 @@
 
 use crate::registers::{NEVER, Registers, Use};
 use crate::solving::order_found;
+use crate::tries::Tries;
 use history::History;
 use std::alloc::{AllocError, Global};
 use std::cmp::min;
@@ -22,23 +23,22 @@ pub struct Arranged {
     pub reads_all: bool,
 }
 
-/// The order of the other calls, in which the calls on measurements are put in. So many of those are tried for all measurements.
-pub(crate) fn with_uses(
+/// The order of the other calls, in which the calls on measurements are put in.
+pub(crate) fn with_uses<T: Tries>(
     alloc: Global,
     history: &History,
     others: Vec<Placed>,
     registers: &Registers,
-    tried: usize,
+    tries: &mut T,
 ) -> Result<Arranged, AllocError> {
     let mut placed = others;
     let count = placed.len();
-    let mut left = tried;
     let mut reads_all = true;
     for register in &registers.all {
         if register.uses.is_empty() {
             continue;
         }
-        let found = order_found(alloc, history, register, &mut left)?;
+        let found = order_found(alloc, history, register, tries)?;
         reads_all = reads_all && found.reads_all;
         place_uses(
             alloc,

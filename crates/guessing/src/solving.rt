@@ -1,8 +1,9 @@
 //! The order of the calls that read and extend one measurement.
 
 use crate::calls::{CPUS, command_at, reply_at};
-use crate::lanes::Lanes;
+use crate::lanes::{Candidate, Lanes};
 use crate::registers::{NEVER, Register, Use};
+use crate::tries::Tries;
 use byteorder::{ByteOrder, LittleEndian};
 use history::History;
 use measure::{Rem, extend_bytes, words, words8};
@@ -10,11 +11,13 @@ use rmi_view::ReplyRef;
 use rmm_spec::Measurement;
 use std::alloc::{AllocError, Global};
 
-/// How many calls are put in at most for each call, beside those that are for all.
+/// How many calls are put in for each call, beside those that are granted.
 const TRIED_A_CALL: usize = 16;
 
-/// How far extensions are moved at most between two readings, each before others that were open earlier.
-const MOST_MOVES: usize = 64;
+/// How many bits the odds may have at most against an order of the extensions between two readings, and how many more each time.
+const MOST_BITS: u32 = 256;
+
+const MORE_BITS: u32 = 4;
 
 /// An order of a measurement's calls, by their places among these.
 #[derive(Drop)]
@@ -29,10 +32,10 @@ pub(crate) struct Solved {
 struct Step {
     cpu: usize,
     place: usize,
-    // how many of the extensions that could come next were open before it
+    // which of the extensions that could come next it is
     choice: usize,
     before: Rem,
-    moves: usize,
+    bits: u32,
 }
 
 /// An order of a measurement's first calls, and the measurement after them. What is read tells which extensions came before, so none of
@@ -45,39 +48,42 @@ struct Solver {
     value: Rem,
     // which extension is tried next
     choice: usize,
-    // how far extensions were moved since the last reading, and may be
-    moves: usize,
-    limit: usize,
+    // how many bits the odds have against the extensions since the last reading, and may have
+    bits: u32,
+    limit: u32,
 }
 
-/// An order of the measurement's calls: one in which each reads what it read, where that is found before too many calls were put in, of which
-/// so many are left for all measurements. Else the last calls stand as they return. A call that doesn't return stands there where a reading
-/// needs it.
-pub(crate) fn order_found(
+/// An order of the measurement's calls: one in which each reads what it read, where that is found with the tries that are granted, likely orders
+/// first. Else the last calls stand as they return. A call that doesn't return stands there where a reading needs it.
+pub(crate) fn order_found<T: Tries>(
     alloc: Global,
     history: &History,
     register: &Register,
-    left: &mut usize,
+    tries: &mut T,
 ) -> Result<Solved, AllocError> {
     let uses = register.uses.as_slice();
     let mut solver = Solver {
-        lanes: Lanes::of(alloc, uses)?,
+        lanes: Lanes::of(alloc, uses, history.len())?,
         settled: Vec::with_capacity(alloc, uses.len())?,
         steps: Vec::new(alloc),
         value: register.start,
         choice: 0,
-        moves: 0,
+        bits: 0,
         limit: 0,
     };
-    let own = uses.len().saturating_mul(TRIED_A_CALL);
-    for tried in 0..own.saturating_add(*left) {
+    let mut left = uses.len().saturating_mul(TRIED_A_CALL);
+    for _ in 0..usize::MAX {
         let bound = solver.lanes.first_return(uses);
-        if bound == NEVER || !solver.step(history, uses, bound)? {
+        if bound == NEVER {
             break;
         }
-        if tried >= own {
-            *left = left.saturating_sub(1);
+        if left == 0 {
+            left = tries.more();
         }
+        if left == 0 || !solver.step(history, uses, bound)? {
+            break;
+        }
+        left = left.saturating_sub(1);
     }
     solver.order(uses)
 }
@@ -109,9 +115,10 @@ impl Solver {
             }
             return Ok(true);
         }
-        match self.extension(uses, bound) {
-            Some(cpu) => {
-                self.extend(history, uses, cpu)?;
+        let most = self.limit.saturating_sub(self.bits);
+        match self.lanes.candidate(uses, bound, self.choice, most) {
+            Some(candidate) => {
+                self.extend(history, uses, candidate)?;
                 Ok(true)
             }
             None => Ok(self.take_back()),
@@ -125,7 +132,7 @@ impl Solver {
         }
         self.steps.clear();
         self.choice = 0;
-        self.moves = 0;
+        self.bits = 0;
         self.limit = 0;
         Ok(())
     }
@@ -143,41 +150,39 @@ impl Solver {
         None
     }
 
-    // The CPU of the extension that is tried.
-    fn extension(&self, uses: &[Use], bound: usize) -> Option<usize> {
-        if self.moves.saturating_add(self.choice) > self.limit {
-            return None;
-        }
-        self.lanes.extension(uses, bound, self.choice)
-    }
-
-    fn extend(&mut self, history: &History, uses: &[Use], cpu: usize) -> Result<(), AllocError> {
+    fn extend(
+        &mut self,
+        history: &History,
+        uses: &[Use],
+        candidate: Candidate,
+    ) -> Result<(), AllocError> {
+        let Candidate { cpu, choice, bits } = candidate;
         let Some(place) = self.lanes.take(cpu) else {
             return Ok(());
         };
         self.steps.push(Step {
             cpu,
             place,
-            choice: self.choice,
+            choice,
             before: self.value,
-            moves: self.moves,
+            bits: self.bits,
         })?;
         self.value = extended(&self.value, history, uses.get(place));
-        self.moves = self.moves.saturating_add(self.choice);
+        self.bits = self.bits.saturating_add(bits);
         self.choice = 0;
         Ok(())
     }
 
-    // Takes the last extension out, in whose place the next one is tried. Where there is none, extensions may be moved further.
+    // Takes the last extension out, in whose place the next one is tried. Where there is none, less likely orders may be tried.
     fn take_back(&mut self) -> bool {
         let Some(step) = self.steps.pop() else {
-            self.limit = self.limit.saturating_add(1);
+            self.limit = self.limit.saturating_add(MORE_BITS);
             self.choice = 0;
-            return self.limit <= MOST_MOVES;
+            return self.limit <= MOST_BITS;
         };
         self.lanes.put_back(step.cpu);
         self.value = step.before;
-        self.moves = step.moves;
+        self.bits = step.bits;
         self.choice = step.choice.saturating_add(1);
         true
     }

@@ -28,12 +28,13 @@ impl Machine {
         let list = self.granules.list.copy(alloc)?;
         let side = self.granules.side.copy(alloc)?;
         let places = self.granules.places.copy(alloc)?;
+        let near = Near::new(alloc)?;
         let granules = Granules {
             alloc,
             list,
             side,
             places,
-            near: Near::new(),
+            near,
         };
         Ok(Machine {
             granules,

@@ -44,12 +44,13 @@ impl Machine {
         let list = CellList::new(alloc, config)?;
         let side = Side::new(alloc)?;
         let places = Places::new(alloc)?;
+        let near = Near::new(alloc)?;
         let granules = Granules {
             alloc,
             list,
             side,
             places,
-            near: Near::new(),
+            near,
         };
         Ok(Machine {
             granules,

@@ -3,6 +3,7 @@
 ghost use Rattle.std.specs.Prelude.{◌<◌};
 
 use memory_map::GRANULE_BYTES;
+use std::alloc::{AllocError, Global};
 
 /// How many granules are kept.
 const SLOTS: usize = 256;
@@ -14,15 +15,16 @@ const NUMBERS: u64 = 1 << 32;
 /// from here looks at it.
 #[derive(Drop)]
 pub(crate) struct Near {
-    // by their numbers, in few bytes since they are moved with the machine
-    granules: [u32; SLOTS],
+    // by their numbers, on the heap since the machine is moved
+    granules: Box<[u32; SLOTS]>,
 }
 
 impl Near {
     /// Nothing was found yet.
-    pub(crate) fn new() -> Near {
-        Near {
-            granules: [0; SLOTS],
+    pub(crate) fn new(alloc: Global) -> Result<Near, AllocError> {
+        match Box::new(alloc, [0; SLOTS]) {
+            Ok(granules) => Ok(Near { granules }),
+            Err(_) => Err(AllocError),
         }
     }
 

@@ -1,6 +1,10 @@
--- The events so far.
-use Rattle.std.proofs.Common.{◌≡◌, take}
+-- The events so far, and those that are left.
+use Rattle.std.proofs.Common.{◌≡◌, ◌++◌, length}
 use Rattle.finding.proofs.first_part.first_part.Given as goal
 
 abbrev pub invariant-places : goal.invariant-places
-invariant-places l = l.part.recorded ≡ record l.history.recorded { events = take l.place l.history.recorded.events }
+invariant-places l = record {
+  config : l.part.recorded.config ≡ l.history.recorded.config;
+  count : length l.part.recorded.events ≡ l._place;
+  all : l.part.recorded.events ++ l.events ≡ l.history.recorded.events;
+}

@@ -9,7 +9,7 @@ abbrev passes : History → Certificate → Type 0
 passes history order = (state : State) × Passes history order.lines state
 
 pub orders-preserved : goal.orders-preserved
-orders-preserved c =
+orders-preserved g c =
     let history = c.args.history.now.recorded in
     subst (All (passes history)) (sym c.in_ok-push.ensures.items)
     (All-push (passes history) c.orders.told.items c.in_ok-passing.passing c.orders.invariant c.in_ok-passing.ensures)

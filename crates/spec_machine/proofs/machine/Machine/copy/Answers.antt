@@ -14,6 +14,6 @@ invariant_of-result c =
 pub returns-clause-state : goal.returns-clause-state
 returns-clause-state c =
     let g = c.args.self.now.granules in
-    same g (record g { list = c.in_ok-list.list; side = c.in_ok-side.side; places = c.in_ok-places.places; near = c.new.result })
+    same g (record g { list = c.in_ok-list.list; side = c.in_ok-side.side; places = c.in_ok-places.places; near = c.in_ok-near.near })
     c.in_ok-list.ensures.size
     (λ i. record { cells = c.in_ok-list.ensures.cells i; side = c.in_ok-side.ensures i; places = c.in_ok-places.ensures i })
