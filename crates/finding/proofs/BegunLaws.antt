@@ -2,6 +2,7 @@
 use Rattle.finding.proofs.Common.{◌++◌, ◌+◌, ◌∙◌, ◌∷◌, ◌≡◌, Choice, History, IsBegun, IsFinished, IsHistory, IsLeast, IsNextCall, LeadsNowhere, Line, List, Option, Some, State, TriedIn, Unfinished, [], ap, arith, cpu_named, inl, inr, number_named, opening, rank_of, refl, state_of, subst, sym, ℕ}
 use Rattle.std.proofs.Common.{Bool, true, set, append_assoc, subst₂}
 use Rattle.rmm_spec.specs.declared.line.Line.TheVariants.{Keep}
+use Rattle.rmm_spec.specs.declared.reply.Reply.{Reply}
 use Rattle.rmm_spec.specs.FirstFault.{IsRefused}
 use Rattle.rmm_spec.specs.Rows.{ok}
 use Rattle.rmm_spec.specs.Linearization.{IsLinearization, IsOfItsKind}
@@ -155,3 +156,11 @@ pub MayCome-returned : (history : History) (counts : List ℕ) (state : State) (
 MayCome-returned history counts state choice next of_choice of_line call finished soon =
     subst (MayCome history counts state) (λ i. record { choice = sym of_choice i; line = sym of_line i })
     (record { call = call; of_cpu = refl; numbered = refl; kind = finished; soon = soon })
+
+-- one that hasn't returned may, with any reply
+pub MayCome-pending : (history : History) (counts : List ℕ) (state : State) (choice : Choice) (claimed : Reply) (next : Candidate)
+    → next.choice ≡ choice → next.line ≡ Unfinished choice.cpu choice.number claimed → IsNextCall history counts 0 choice
+    → ¬ IsFinished history.events choice.cpu choice.number → IsSoonAt history counts state choice → MayCome history counts state next
+MayCome-pending history counts state choice claimed next of_choice of_line call pending soon =
+    subst (MayCome history counts state) (λ i. record { choice = sym of_choice i; line = sym of_line i })
+    (record { call = call; of_cpu = refl; numbered = refl; kind = pending; soon = soon })

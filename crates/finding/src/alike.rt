@@ -6,15 +6,20 @@ ghost use Rattle.spec_machine.specs.Patches.{standing_of};
 ghost use Rattle.finding.specs.Begun.{base_of, AllLost, AllShelved, IsBegun, IsLost, IsShelved, IsShelvedLost};
 
 use crate::begun::Begun;
-use crate::candidate::with_its_reply;
+use crate::candidate::{with_claim, with_its_reply};
 use crate::choice::{cpus_of, rank};
 use crate::offers::Offers;
 use crate::shelved::Shelved;
+use crate::trail::Trail;
 use history::History;
 use spec_machine::Machine;
-use std::alloc::{AllocError, Global};
+use std::alloc::AllocError;
 
-/// Whether one of the orders is of the same calls to the same state, where it may differ in measurements if none is read.
+/// How many of the last orders are compared with one whatever its open calls are claimed to have been answered.
+const NEAR: usize = 16;
+
+/// Whether one of the orders is of the same calls to the same state, where it may differ in measurements if none is read. Those are asked of which
+/// the same is claimed, and the last ones.
 pub(crate) fn has_alike(
     history: &History,
     machine: &Machine,
@@ -27,7 +32,12 @@ pub(crate) fn has_alike(
     ensures { IsTrue result → AllLost history.now.recorded (standing_of machine.now) orders.now
         → IsShelvedLost history.now.recorded (standing_of machine.now) other.now }
 {
-    for one in orders {
+    for place in 0..orders.len() {
+        let one = &orders[place];
+        let is_near = orders.len() - place <= NEAR;
+        if !is_near && !one.claims.are(other.claims) {
+            continue;
+        }
         if is_alike(history, machine, one, other, unread) {
             return true;
         }
@@ -37,7 +47,7 @@ pub(crate) fn has_alike(
 
 /// Whether one of the orders leads to the same state as the other, by calls that it lacks. The machine is as it was.
 pub(crate) fn has_beginning(
-    alloc: Global,
+    trail: &Trail,
     offers: &mut Offers,
     history: &History,
     machine: Machine,
@@ -53,7 +63,7 @@ pub(crate) fn has_beginning(
 {
     let mut machine = machine;
     'orders: for one in orders {
-        let (leads, after) = leads_to(alloc, offers, history, machine, one, other, unread)?;
+        let (leads, after) = leads_to(trail, offers, history, machine, one, other, unread)?;
         machine = after;
         if leads {
             return Ok((true, machine));
@@ -93,7 +103,7 @@ fn is_alike(
 
 /// Whether the one leads to the same state as the other, by calls that it lacks: no more than one of each CPU. The machine is as it was.
 fn leads_to(
-    alloc: Global,
+    trail: &Trail,
     offers: &mut Offers,
     history: &History,
     machine: Machine,
@@ -107,12 +117,16 @@ fn leads_to(
     ensures leads { IfOk result (λ found. IsTrue found.0 → IsShelvedLost history.now.recorded (standing_of machine) one.now
         → IsShelvedLost history.now.recorded (standing_of machine) other.now) }
 {
+    if are_of_same_calls(one, other) {
+        let stands = is_alike(history, &machine, one, other, unread);
+        return Ok((stands, machine));
+    }
     if !lacks_few(one, other) {
         return Ok((false, machine));
     }
-    let copy = one.copy(alloc)?;
+    let copy = one.copy(trail.alloc)?;
     let mut longer = copy.at_hand(machine);
-    let takes = takes_lacking(offers, history, &mut longer, other)?;
+    let takes = takes_lacking(trail, offers, history, &mut longer, other)?;
     let (machine, longer) = longer.put_down();
     if !takes {
         return Ok((false, machine));
@@ -136,6 +150,7 @@ fn lacks_few(one: &Shelved, other: &Shelved) -> bool {
 /// Makes the order longer by a call of each CPU of which it has fewer than the other, where these may come next, CPU by CPU, and are given
 /// their replies.
 fn takes_lacking(
+    trail: &Trail,
     offers: &mut Offers,
     history: &History,
     begun: &mut Begun,
@@ -148,7 +163,7 @@ fn takes_lacking(
 {
     'cpus: for cpu in 0..cpus_of(history) {
         if begun.front.counts[cpu as usize] < other.front.counts[cpu as usize] {
-            if !takes_next(offers, history, begun, cpu)? {
+            if !takes_next(trail, offers, history, begun, other, cpu)? {
                 return Ok(false);
             }
         }
@@ -156,11 +171,14 @@ fn takes_lacking(
     Ok(true)
 }
 
-/// Makes the order longer by the next call of a CPU, where that returned, may come next and is given its reply.
+/// Makes the order longer by the next call of a CPU, where that may come next and is given its reply, or what it is claimed to have been answered
+/// in the other order.
 fn takes_next(
+    trail: &Trail,
     offers: &mut Offers,
     history: &History,
     begun: &mut Begun,
+    other: &Shelved,
     cpu: u8,
 ) -> Result<bool, AllocError>
     requires begun { IsBegun history.now.recorded begun.old }
@@ -175,8 +193,14 @@ fn takes_next(
     let Some(choice) = begun.front.next(history, cpu) else {
         return Ok(false);
     };
-    if choice.places.returned.is_none() || rank(&first) < choice.places.called {
+    if rank(&first) < choice.places.called {
         return Ok(false);
     }
-    begun.grow(offers, history, &with_its_reply(choice))
+    match choice.places.returned {
+        Some(_) => begun.grow(offers, history, &with_its_reply(choice)),
+        None => match trail.claim_of(other.last, cpu) {
+            Some(reply) => begun.grow(offers, history, &with_claim(choice, reply)),
+            None => Ok(false),
+        },
+    }
 }

@@ -1,6 +1,7 @@
 //! An order at hand.
 
 use crate::candidate::Candidate;
+use crate::claims::Claims;
 use crate::front::{Front, is_up_to};
 use crate::offering::offer;
 use crate::offers::Offers;
@@ -22,6 +23,7 @@ pub(crate) struct Begun {
     pub(crate) front: Front,
     pub(crate) machine: Machine,
     pub(crate) last: usize,
+    pub(crate) claims: Claims,
     pub(crate) undo: Patch,
 }
 
@@ -91,6 +93,7 @@ impl Begun {
                 return Ok(false);
             }
             self.last = trail.push(self.last, &next.line, scope.place as usize)?;
+            self.claims = self.claims.with(&next.line);
         }
         Ok(true)
     }
@@ -106,12 +109,19 @@ impl Begun {
             front,
             machine,
             last,
+            claims,
             undo,
         } = self;
         let mut machine = machine;
         let mut patch = undo;
         machine.exchange(&mut patch);
-        (machine, Shelved { front, last, patch })
+        let order = Shelved {
+            front,
+            last,
+            claims,
+            patch,
+        };
+        (machine, order)
     }
 
     /// The machine, which goes back.

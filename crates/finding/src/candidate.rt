@@ -4,7 +4,8 @@ ghost use Rattle.std.specs.Prelude.{◌≡◌};
 ghost use Rattle.rmm_spec.specs.declared.line.Line.TheVariants as line;
 
 use crate::choice::Choice;
-use rmm_spec::Line;
+use rmi_view::copied_reply;
+use rmm_spec::{Line, Reply};
 
 /// A call that may come next, and its line.
 #[derive(Drop)]
@@ -23,6 +24,21 @@ pub(crate) fn with_its_reply(choice: Choice) -> Candidate
         line: Line::Keep {
             cpu: choice.cpu,
             number: choice.number,
+        },
+    }
+}
+
+/// The line of a call that hasn't returned, with a reply that it is claimed to have been given.
+pub(crate) fn with_claim(choice: Choice, reply: &Reply) -> Candidate
+    ensures choice { result.choice ≡ choice }
+    ensures line { result.line ≡ line.Unfinished choice.cpu choice.number reply.now }
+{
+    Candidate {
+        choice,
+        line: Line::Unfinished {
+            cpu: choice.cpu,
+            number: choice.number,
+            reply: copied_reply(reply),
         },
     }
 }

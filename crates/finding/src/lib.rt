@@ -14,6 +14,7 @@ mod begun;
 mod beside;
 mod candidate;
 mod choice;
+mod claims;
 mod ending;
 mod ends;
 mod finding;

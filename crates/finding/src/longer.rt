@@ -22,7 +22,6 @@ impl Round {
     /// Takes the order that is longer by a line, where the machine gives the call the reply. The machine goes back.
     pub(crate) fn take_grown(
         &mut self,
-        alloc: Global,
         offers: &mut Offers,
         history: &History,
         begun: Begun,
@@ -45,8 +44,9 @@ impl Round {
         longer.last = self
             .trail
             .push(longer.last, &next.line, self.scope.place as usize)?;
+        longer.claims = longer.claims.with(&next.line);
         let (machine, grown) = longer.put_down();
-        self.take(alloc, offers, history, machine, grown)
+        self.take(offers, history, machine, grown)
     }
 
     /// Takes the order that is longer by a line than one that is kept, where the machine gives the call the reply. The machine is as it was.
@@ -69,7 +69,7 @@ impl Round {
             → LeadsNowhereWith history.now.recorded order.now.front.counts (state_from (standing_of machine) order.now) next.now) }
     {
         let copy = order.copy(alloc)?;
-        self.take_grown(alloc, offers, history, copy.at_hand(machine), next)
+        self.take_grown(offers, history, copy.at_hand(machine), next)
     }
 
     /// Takes the orders that are longer by each of the lines than one that is kept. The machine is as it was.
@@ -123,10 +123,10 @@ impl Round {
             return Ok(begun.back());
         };
         if lines.is_empty() {
-            return self.take_grown(alloc, offers, history, begun, &last);
+            return self.take_grown(offers, history, begun, &last);
         }
         let (machine, order) = begun.put_down();
         let machine = self.take_lines(alloc, offers, history, machine, &order, lines.as_slice())?;
-        self.take_grown(alloc, offers, history, order.at_hand(machine), &last)
+        self.take_grown(offers, history, order.at_hand(machine), &last)
     }
 }

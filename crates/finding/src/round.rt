@@ -43,7 +43,6 @@ impl Round {
     /// Takes an order, unless another stands for it or there is no room for it. The machine is as it was.
     pub(crate) fn take(
         &mut self,
-        alloc: Global,
         offers: &mut Offers,
         history: &History,
         machine: Machine,
@@ -58,7 +57,7 @@ impl Round {
             → IsShelvedLost history.now.recorded (standing_of machine) order) }
     {
         if is_up_to(history, &order.front, self.scope.place) {
-            self.take_next(alloc, offers, history, machine, order)
+            self.take_next(offers, history, machine, order)
         } else {
             self.take_lacking(history, &machine, order)?;
             Ok(machine)
@@ -68,7 +67,6 @@ impl Round {
     /// Takes an order that lacks no call, unless another leads to it or there is no room for it. The machine is as it was.
     fn take_next(
         &mut self,
-        alloc: Global,
         offers: &mut Offers,
         history: &History,
         machine: Machine,
@@ -84,7 +82,7 @@ impl Round {
     {
         let next = self.next.as_slice();
         let (stands, machine) = has_beginning(
-            alloc,
+            &self.trail,
             offers,
             history,
             machine,
@@ -145,7 +143,7 @@ impl Round {
         ensures taken { OnOk result (RoundLost history.now.recorded (base_of begun) self.new → IsLost history.now.recorded begun) }
     {
         match next_step(history, &begun, self.scope.unread) {
-            NextStep::Only(next) => self.take_grown(alloc, offers, history, begun, &next),
+            NextStep::Only(next) => self.take_grown(offers, history, begun, &next),
             NextStep::Group(group) => self.take_group(alloc, offers, history, begun, group),
             NextStep::Nothing => {
                 self.complete = false;

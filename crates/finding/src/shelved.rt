@@ -3,6 +3,7 @@
 ghost use Rattle.std.specs.Prelude.{◌≡◌};
 
 use crate::begun::Begun;
+use crate::claims::Claims;
 use crate::front::{Front, is_up_to};
 use crate::offers::Offers;
 use crate::scope::Scope;
@@ -17,6 +18,7 @@ use std::alloc::{AllocError, Global};
 pub(crate) struct Shelved {
     pub(crate) front: Front,
     pub(crate) last: usize,
+    pub(crate) claims: Claims,
     pub(crate) patch: Patch,
 }
 
@@ -34,6 +36,7 @@ impl Shelved {
         Ok(Shelved {
             front: same_front(&self.front),
             last: self.last,
+            claims: self.claims,
             patch,
         })
     }
@@ -45,7 +48,12 @@ impl Shelved {
         ensures there { standing_of result.machine ≡ patched self.patch (standing_of machine) }
         ensures base { base_of result ≡ standing_of machine }
     {
-        let Shelved { front, last, patch } = self;
+        let Shelved {
+            front,
+            last,
+            claims,
+            patch,
+        } = self;
         let mut machine = machine;
         let mut undo = patch;
         machine.exchange(&mut undo);
@@ -53,6 +61,7 @@ impl Shelved {
             front,
             machine,
             last,
+            claims,
             undo,
         }
     }
@@ -84,6 +93,7 @@ impl Orders {
         begun.push(Shelved {
             front: Front::new(history),
             last: 0,
+            claims: Claims::empty(),
             patch: Patch::none(alloc),
         })?;
         Ok(Orders {
@@ -124,6 +134,7 @@ impl Orders {
             front,
             machine,
             last,
+            claims,
             ..
         } = order;
         if !given {
@@ -137,6 +148,7 @@ impl Orders {
         begun.push(Shelved {
             front,
             last,
+            claims,
             patch: Patch::none(alloc),
         })?;
         Ok(Orders {

@@ -5,6 +5,9 @@ use rmi_view::copied_reply;
 use rmm_spec::{Line, Reply};
 use std::alloc::{AllocError, Global};
 
+/// How many steps up to one are looked at for what a call is claimed to have been answered.
+const RECENT: usize = 16;
+
 /// A call, what it is claimed to have been answered where it is open, and the step before it.
 #[derive(Clone, Copy)]
 struct Step {
@@ -43,6 +46,7 @@ impl Steps {
 /// of the calls: whoever takes them has a machine give every reply once more.
 #[derive(Drop)]
 pub(crate) struct Trail {
+    pub(crate) alloc: Global,
     steps: Vec<Step>,
     claims: Vec<Claim>,
 }
@@ -51,6 +55,7 @@ impl Trail {
     /// No step yet.
     pub(crate) fn new(alloc: Global) -> Self {
         Trail {
+            alloc,
             steps: Vec::new(alloc),
             claims: Vec::new(alloc),
         }
@@ -101,6 +106,20 @@ impl Trail {
         }
         steps.placed.reverse();
         Ok(steps)
+    }
+
+    /// What an open call of the CPU is claimed to have been answered, where it is one of the last calls up to a step.
+    pub(crate) fn claim_of(&self, last: usize, cpu: u8) -> Option<&Reply> {
+        let mut at = last;
+        for _step in 0..RECENT {
+            let step = self.step(at)?;
+            if step.placed.cpu == cpu {
+                let claim = self.claims.get(step.claim.checked_sub(1)?)?;
+                return Some(&claim.reply);
+            }
+            at = step.before;
+        }
+        None
     }
 
     fn step(&self, number: usize) -> Option<Step> {

@@ -26,7 +26,7 @@ pub returns : goal.returns
 returns c =
     let begun = c.at_hand-order.result in
     let grown = c.go_on.new.self in
-    let after : Shelved = record { front = grown.front; last = grown.last; patch = c.none.result } in
+    let after : Shelved = record { front = grown.front; last = grown.last; claims = grown.claims; patch = c.none.result } in
     let new : Orders = record { begun = c.push.new.self; complete = c.args.self.complete; trail = c.go_on.new.trail; machine = grown.machine } in
     let one : length c.args.self.begun.items ≡ 1 = omega arith in
     AreOrders-advanced c.args.history.now.recorded c.args.self new c.pop.new.self.items c.in-Some.order begun one c.in-Some.ensures.items

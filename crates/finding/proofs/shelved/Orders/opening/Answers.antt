@@ -10,7 +10,7 @@ pub returns : goal.returns
 returns c =
     let history = c.args.history.now.recorded in
     let machine = c.in_ok-machine.machine in
-    let order : Shelved = record { front = c.new-2.result; last = 0; patch = c.none.result } in
+    let order : Shelved = record { front = c.new-2.result; last = 0; claims = c.empty.result; patch = c.none.result } in
     let opens = c.in_ok-machine.ensures.opening ∙ ap opening c.config.ensures in
     AreOrders-one history (record { begun = c.push.new.self; complete = true; trail = c.new-3.result; machine = machine }) order
     (LeadsNowhere history [])
