@@ -18,12 +18,31 @@ pub struct GuessedOrder {
     pub reads_all: bool,
 }
 
+/// The calls that are put in, event by event, up to the first return that isn't explained.
+#[derive(Drop)]
+struct DraftSoFar {
+    draft: Draft,
+    unexplained: Option<u32>,
+}
+
 /// Guesses an order of the history's calls.
 pub fn guess<T: Tries>(
     alloc: Global,
     history: &History,
     tries: &mut T,
 ) -> Result<GuessedOrder, AllocError> {
+    let DraftSoFar { draft, unexplained } = drafted(alloc, history)?;
+    let placed = others(alloc, draft.steps.as_slice())?;
+    let Arranged { cpus, reads_all } = with_uses(alloc, history, placed, &draft.registers, tries)?;
+    Ok(GuessedOrder {
+        cpus,
+        unexplained,
+        reads_all,
+    })
+}
+
+// Puts the calls in.
+fn drafted(alloc: Global, history: &History) -> Result<DraftSoFar, AllocError> {
     let mut draft = Draft::new(alloc, history)?;
     let mut unexplained = None;
     let mut events = history.events();
@@ -37,11 +56,5 @@ pub fn guess<T: Tries>(
         }
     }
     draft.add_unreturned(history)?;
-    let placed = others(alloc, draft.steps.as_slice())?;
-    let Arranged { cpus, reads_all } = with_uses(alloc, history, placed, &draft.registers, tries)?;
-    Ok(GuessedOrder {
-        cpus,
-        unexplained,
-        reads_all,
-    })
+    Ok(DraftSoFar { draft, unexplained })
 }
