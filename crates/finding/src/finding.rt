@@ -9,7 +9,7 @@ use crate::judging::Judged;
 use crate::naming::{Beginning, beginning_up_to, named_before, named_place};
 use crate::offers::Offers;
 use crate::survey::{Answer, FIRST, answer_of};
-use crate::suspecting::first_unguessed;
+use crate::suspecting::{Suspect, first_unguessed};
 use crate::unread::reads_nothing;
 use crate::watch::{Unwatched, Watch};
 use certificate::Certificate;
@@ -74,7 +74,7 @@ fn find_wider<W: Watch>(
     offers: Offers,
     history: &History,
     limit: u64,
-    suspected: Option<u32>,
+    suspected: Option<Suspect>,
     watch: &mut W,
 ) -> Result<Found, AllocError>
     ensures { IfOk result (IsFoundWatched history.now.recorded limit (W.has_stopped watch.new)) }
@@ -111,15 +111,15 @@ fn look<W: Watch>(
     offers: &mut Offers,
     history: &History,
     bounds: Bounds,
-    suspected: &mut Option<u32>,
+    suspected: &mut Option<Suspect>,
     watch: &mut W,
 ) -> Result<Option<Found>, AllocError>
     ensures { IfOk result (λ found. IfSome found (IsDecided history.now.recorded)) }
 {
-    if let Some(last) = *suspected {
-        match beginning_up_to(alloc, offers, history, bounds, last, false, watch)? {
+    if let Some(suspect) = *suspected {
+        match beginning_up_to(alloc, offers, history, bounds, suspect.place, false, watch)? {
             Beginning::Lost(place) => {
-                return found_none_up_to(alloc, offers, history, bounds, place, last, watch);
+                return found_none_up_to(alloc, offers, history, bounds, place, suspect, watch);
             }
             Beginning::Ordered => *suspected = None,
             Beginning::Open if reads_nothing(history) => return Ok(None),
@@ -136,21 +136,21 @@ fn look<W: Watch>(
     }
 }
 
-/// There is none, since the events up to the last place have none: the return that is named is at that place or at an earlier one, from `place` on.
+/// There is none, since the events up to a suspected return have none: the return that is named is at that place or at an earlier one, from `place` on.
 fn found_none_up_to<W: Watch>(
     alloc: Global,
     offers: &mut Offers,
     history: &History,
     bounds: Bounds,
     place: u32,
-    last: u32,
+    suspect: Suspect,
     watch: &mut W,
 ) -> Result<Option<Found>, AllocError>
-    requires { HasNoneUpTo history.now.recorded last }
+    requires { HasNoneUpTo history.now.recorded suspect.place }
     ensures { IfOk result (λ found. IfSome found (IsDecided history.now.recorded)) }
 {
     let _fact = history.well_formed();
     let _law = first_parts_have_orders();
-    let named = named_before(alloc, offers, history, bounds, place, last, watch)?;
+    let named = named_before(alloc, offers, history, bounds, place, suspect, watch)?;
     Ok(Some(Found::None(Some(named))))
 }

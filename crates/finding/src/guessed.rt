@@ -15,7 +15,7 @@ use std::alloc::{AllocError, Global};
 use std::cmp::min;
 
 /// How many calls on measurements are tried at first, beside some for each.
-const SOON: u64 = 1 << 14;
+pub(crate) const SOON: u64 = 1 << 14;
 
 /// How many are tried where no register is known to have no order.
 const LATER: u64 = 1 << 18;
@@ -91,6 +91,12 @@ fn judged_guess<W: Watch>(
         reads_all,
     } = guess(alloc, history, tries)?;
     tries.count(offers);
+    if reads_all && unexplained.is_some() {
+        return Ok(JudgedGuess {
+            judged: Judged::Fails(unexplained),
+            reads_all,
+        });
+    }
     let order = certificate_of(alloc, history, cpus.as_slice(), &[])?;
     let judged = match judgement_of(alloc, offers, history, order)? {
         Judged::Fails(place) => Judged::Fails(earlier(place, unexplained)),

@@ -9,7 +9,7 @@ use crate::forward::{Bounds, Survey, forward};
 use crate::guessed::is_guessed_soon;
 use crate::offers::Offers;
 use crate::survey::{Answer, answer_of};
-use crate::suspecting::{first_unguessed, last_return};
+use crate::suspecting::{Suspect, first_unguessed, last_return};
 use crate::unread::{reads_nothing, unread};
 use crate::watch::Watch;
 use history::History;
@@ -51,7 +51,7 @@ pub(crate) fn named_place<W: Watch>(
     let bounds = bounds_for(offers, bounds);
     let place = unread_place(alloc, offers, history, bounds, place, watch)?;
     if let Some(first) = first_unguessed(alloc, offers, history, place)? {
-        if is_lost_up_to(alloc, offers, history, bounds, first, watch)? {
+        if is_lost_up_to(alloc, offers, history, bounds, first.place, watch)? {
             let named = named_before(alloc, offers, history, bounds, place, first, watch)?;
             return Ok(Some(named));
         }
@@ -67,20 +67,21 @@ pub(crate) fn named_place<W: Watch>(
     Ok(Some(named))
 }
 
-/// The same, up to a last place, where the events up to there have no order.
+/// The same, up to a suspected return, where the events up to there have no order.
 pub(crate) fn named_before<W: Watch>(
     alloc: Global,
     offers: &mut Offers,
     history: &History,
     bounds: Bounds,
     place: u32,
-    last: u32,
+    suspect: Suspect,
     watch: &mut W,
 ) -> Result<u32, AllocError>
-    requires { HasNoneUpTo history.now.recorded last }
+    requires { HasNoneUpTo history.now.recorded suspect.place }
     ensures { IfOk result (HasNoneUpTo history.now.recorded) }
 {
-    if last <= place {
+    let last = suspect.place;
+    if last <= place || suspect.is_first {
         return Ok(last);
     }
     let bounds = bounds_for(offers, bounds);

@@ -2,18 +2,32 @@
 
 ghost use Rattle.std.specs.Prelude.{◌<◌, ◌≤◌, length, IfSome};
 
-use crate::first_part::first_part;
-use crate::guessed::is_guessed_soon;
+use crate::allowed::Allowed;
+use crate::guessed::SOON;
 use crate::offers::Offers;
-use guessing::shares_word;
+use crate::watch::Unwatched;
+use guessing::{FirstParts, shares_word};
 use history::History;
 use rmi_view::CommandRef;
 use rmm_spec::Event;
 use std::alloc::{AllocError, Global};
 use std::cmp::min;
 
-/// How many events are looked back at to see which calls are open.
-const LOOKED_BACK: u32 = 1024;
+/// A return that may be the first up to which there is no order.
+#[derive(Clone, Copy)]
+pub(crate) struct Suspect {
+    pub(crate) place: u32,
+    /// Whether an order is guessed of all events before it.
+    pub(crate) is_first: bool,
+}
+
+/// The calls that are open at a place, by their CPUs: where each was made, and where it returns if its command shares a word with the one that
+/// returns at the place.
+#[derive(Clone, Copy)]
+struct Open {
+    called: [Option<u32>; 8],
+    related: [Option<u32>; 8],
+}
 
 /// The first place up to which no order is guessed, from one on up to the last return of a call that is open there: a guess may fail since
 /// that call returns with another reply than it is needed for. None where an order is guessed up to there.
@@ -22,29 +36,34 @@ pub(crate) fn first_unguessed(
     offers: &mut Offers,
     history: &History,
     place: u32,
-) -> Result<Option<u32>, AllocError> {
-    let related = related_returns(history, place);
-    if next_after(&related, place).is_none() {
-        return Ok(Some(place));
+) -> Result<Option<Suspect>, AllocError> {
+    let open = open_at(history, place);
+    let first = Suspect {
+        place,
+        is_first: false,
+    };
+    if next_after(&open.related, place).is_none() {
+        return Ok(Some(first));
     }
-    if !is_guessed_up_to(alloc, offers, history, place)? {
-        return Ok(Some(place));
+    let parts = parts_from(alloc, offers, history, first_of(&open.called, place))?;
+    if !is_guessed_up_to(alloc, offers, &parts, place)? {
+        return Ok(Some(first));
     }
     let mut guessed = place;
     for _cpu in 0..8 {
-        let Some(next) = next_after(&related, guessed) else {
+        let Some(next) = next_after(&open.related, guessed) else {
             break;
         };
-        if !is_guessed_up_to(alloc, offers, history, next)? {
-            return first_up_to(alloc, offers, history, guessed, next);
+        if !is_guessed_up_to(alloc, offers, &parts, next)? {
+            return first_up_to(alloc, offers, &parts, guessed, next);
         }
         guessed = next;
     }
     let last = last_return(history, place);
-    if last <= guessed || is_guessed_up_to(alloc, offers, history, last)? {
+    if last <= guessed || is_guessed_up_to(alloc, offers, &parts, last)? {
         return Ok(None);
     }
-    let first = first_between(alloc, offers, history, guessed, last)?;
+    let first = first_between(alloc, offers, &parts, guessed, last)?;
     Ok(Some(first))
 }
 
@@ -52,44 +71,82 @@ pub(crate) fn first_unguessed(
 fn first_up_to(
     alloc: Global,
     offers: &mut Offers,
-    history: &History,
+    parts: &FirstParts<'_>,
     guessed: u32,
     unguessed: u32,
-) -> Result<Option<u32>, AllocError>
+) -> Result<Option<Suspect>, AllocError>
     requires { guessed < unguessed }
 {
     let before = unguessed - 1;
-    if before == guessed || is_guessed_up_to(alloc, offers, history, before)? {
-        return Ok(Some(unguessed));
+    if before == guessed || is_guessed_up_to(alloc, offers, parts, before)? {
+        return Ok(Some(Suspect {
+            place: unguessed,
+            is_first: true,
+        }));
     }
-    let first = first_between(alloc, offers, history, guessed, before)?;
+    let first = first_between(alloc, offers, parts, guessed, before)?;
     Ok(Some(first))
 }
 
-/// When the calls return that are open at the place and share a word with the one that returns there, by their CPUs, as far as the events before
-/// it show.
-fn related_returns(history: &History, place: u32) -> [Option<u32>; 8] {
-    let mut returns = [None; 8];
+/// The calls that are open at the place, as the events before it show.
+fn open_at(history: &History, place: u32) -> Open {
+    let mut open = Open {
+        called: [None; 8],
+        related: [None; 8],
+    };
     let Some((own, command)) = call_at(history, place) else {
-        return returns;
+        return open;
     };
     let mut has_event = [false; 8];
-    if let Some(has_event) = has_event.get_mut(usize::from(own)) {
-        *has_event = true;
-    }
-    for back in 1..min(place, LOOKED_BACK) + 1 {
+    let mut left = history.config().cpus();
+    for back in 1..place.saturating_add(1) {
+        if left == 0 {
+            break;
+        }
         let event = history.event((place - back) as usize);
-        let cpu = usize::from(cpu_of(&event));
-        let (Some(has_event), Some(returned)) = (has_event.get_mut(cpu), returns.get_mut(cpu))
-        else {
+        let Some(has_event) = has_event.get_mut(usize::from(cpu_of(&event))) else {
             continue;
         };
-        if !*has_event {
-            *returned = return_of(history, &event, command);
+        if *has_event {
+            continue;
         }
         *has_event = true;
+        left = left.saturating_sub(1);
+        if cpu_of(&event) != own {
+            open.note(history, place - back, &event, command);
+        }
     }
-    returns
+    open
+}
+
+impl Open {
+    // Notes a call that is made by the event at a place, where it is one.
+    fn note(&mut self, history: &History, place: u32, event: &Event, other: CommandRef<'_>) {
+        let Event::Called {
+            cpu,
+            number,
+            command,
+        } = event
+        else {
+            return;
+        };
+        let Some(places) = history.places_of(*cpu, *number) else {
+            return;
+        };
+        let is_related = shares_word(other, CommandRef::of(command));
+        let (Some(called), Some(related)) = (
+            self.called.get_mut(usize::from(*cpu)),
+            self.related.get_mut(usize::from(*cpu)),
+        ) else {
+            return;
+        };
+        if places.returned.is_some() {
+            *called = Some(place);
+        }
+        if is_related {
+            *related = places.returned;
+        }
+    }
 }
 
 fn cpu_of(event: &Event) -> u8 {
@@ -98,20 +155,30 @@ fn cpu_of(event: &Event) -> u8 {
     }
 }
 
-/// When the call returns that is made by the event, where it shares a word with the other.
-fn return_of(history: &History, event: &Event, other: CommandRef<'_>) -> Option<u32> {
-    let Event::Called {
-        cpu,
-        number,
-        command,
-    } = event
-    else {
-        return None;
-    };
-    if !shares_word(other, CommandRef::of(command)) {
-        return None;
+/// The first of the places and of one.
+fn first_of(places: &[Option<u32>; 8], place: u32) -> u32 {
+    let mut first = place;
+    for called in places {
+        if let Some(called) = called {
+            first = min(first, *called);
+        }
     }
-    history.places_of(*cpu, *number)?.returned
+    first
+}
+
+/// The first parts of the history that have the events up to the place at least.
+fn parts_from<'h>(
+    alloc: Global,
+    offers: &mut Offers,
+    history: &'h History,
+    place: u32,
+) -> Result<FirstParts<'h>, AllocError> {
+    let mut unwatched = Unwatched;
+    let mut tries = Allowed::new(&mut unwatched, SOON);
+    let parts = FirstParts::new(alloc, history, place as usize, &mut tries)?;
+    tries.count(offers);
+    offers.add(u64::from(place));
+    Ok(parts)
 }
 
 /// The first of the places after one.
@@ -150,40 +217,41 @@ fn call_at(history: &History, place: u32) -> Option<(u8, CommandRef<'_>)>
 fn first_between(
     alloc: Global,
     offers: &mut Offers,
-    history: &History,
+    parts: &FirstParts<'_>,
     place: u32,
     last: u32,
-) -> Result<u32, AllocError>
+) -> Result<Suspect, AllocError>
     requires { place ≤ last }
 {
     let mut guessed = place;
     let mut unguessed = last;
     'halves: while unguessed - guessed > 1 {
         let middle = guessed + (unguessed - guessed) / 2;
-        if is_guessed_up_to(alloc, offers, history, middle)? {
+        if is_guessed_up_to(alloc, offers, parts, middle)? {
             guessed = middle;
         } else {
             unguessed = middle;
         }
     }
-    Ok(unguessed)
+    Ok(Suspect {
+        place: unguessed,
+        is_first: true,
+    })
 }
 
-/// Whether a guess soon is a linearization of the events up to the place.
+/// Whether an order is guessed of the events up to the place. Each that is gone through counts as a step.
 fn is_guessed_up_to(
     alloc: Global,
     offers: &mut Offers,
-    history: &History,
+    parts: &FirstParts<'_>,
     place: u32,
 ) -> Result<bool, AllocError> {
-    let count = place as usize + 1;
-    if count > history.len() {
-        return Ok(false);
-    }
-    match first_part(alloc, history, count)? {
-        Some(part) => is_guessed_soon(alloc, offers, &part),
-        None => Ok(false),
-    }
+    let mut unwatched = Unwatched;
+    let mut tries = Allowed::new(&mut unwatched, SOON);
+    let is_guessed = parts.has_order(alloc, place as usize + 1, &mut tries)?;
+    tries.count(offers);
+    offers.add(parts.events_up_to(place));
+    Ok(is_guessed)
 }
 
 /// The last place at which a call returns that is open at the place.

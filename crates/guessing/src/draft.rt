@@ -3,7 +3,7 @@
 use crate::calls::{CPUS, OpenCall, command_at, is_look, is_never, never, reply_of, shares_word};
 use crate::open_calls::OpenCalls;
 use crate::registers::{Registers, Use};
-use crate::steps::{Checkpoint, Step};
+use crate::steps::{Checkpoint, Step, copied_checkpoint};
 use history::History;
 use rmi_view::CommandRef;
 use rmm_spec::Event;
@@ -20,11 +20,13 @@ pub(crate) struct Draft {
     pub(crate) steps: Vec<Step>,
     pub(crate) checkpoint: Option<Checkpoint>,
     pub(crate) registers: Registers,
+    // what returns there or later counts as what doesn't return
+    until: u32,
 }
 
 impl Draft {
-    /// No call yet.
-    pub(crate) fn new(alloc: Global, history: &History) -> Result<Draft, AllocError> {
+    /// No call yet. What returns at the place or later counts as what doesn't return.
+    pub(crate) fn new(alloc: Global, history: &History, until: u32) -> Result<Draft, AllocError> {
         Ok(Draft {
             machine: Machine::new(alloc, history.config())?,
             open: OpenCalls::none(),
@@ -32,6 +34,20 @@ impl Draft {
             steps: Vec::new(alloc),
             checkpoint: None,
             registers: Registers::new(alloc),
+            until,
+        })
+    }
+
+    /// The same calls once more, where what returns at the place or later counts as what doesn't return.
+    pub(crate) fn copy(&self, alloc: Global, until: u32) -> Result<Draft, AllocError> {
+        Ok(Draft {
+            machine: self.machine.copy()?,
+            open: self.open,
+            unreturned: self.unreturned,
+            steps: self.steps.to_vec(alloc)?,
+            checkpoint: copied_checkpoint(&self.checkpoint)?,
+            registers: self.registers.copy()?,
+            until,
         })
     }
 
@@ -71,8 +87,8 @@ impl Draft {
             return Ok(());
         };
         let returned = match places.returned {
-            Some(returned) => returned,
-            None => {
+            Some(returned) if returned < self.until => returned,
+            _ => {
                 self.note_unreturned(cpu, place);
                 never(cpu)
             }

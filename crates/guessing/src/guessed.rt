@@ -20,9 +20,9 @@ pub struct GuessedOrder {
 
 /// The calls that are put in, event by event, up to the first return that isn't explained.
 #[derive(Drop)]
-struct DraftSoFar {
-    draft: Draft,
-    unexplained: Option<u32>,
+pub(crate) struct DraftSoFar {
+    pub(crate) draft: Draft,
+    pub(crate) unexplained: Option<u32>,
 }
 
 /// Guesses an order of the history's calls.
@@ -31,7 +31,11 @@ pub fn guess<T: Tries>(
     history: &History,
     tries: &mut T,
 ) -> Result<GuessedOrder, AllocError> {
-    let DraftSoFar { draft, unexplained } = drafted(alloc, history)?;
+    let DraftSoFar {
+        mut draft,
+        unexplained,
+    } = drafted(alloc, history, history.len())?;
+    draft.add_unreturned(history)?;
     let placed = others(alloc, draft.steps.as_slice())?;
     let Arranged { cpus, reads_all } = with_uses(alloc, history, placed, &draft.registers, tries)?;
     Ok(GuessedOrder {
@@ -41,12 +45,16 @@ pub fn guess<T: Tries>(
     })
 }
 
-// Puts the calls in.
-fn drafted(alloc: Global, history: &History) -> Result<DraftSoFar, AllocError> {
-    let mut draft = Draft::new(alloc, history)?;
+/// Puts the calls of the first events in, so many.
+pub(crate) fn drafted(
+    alloc: Global,
+    history: &History,
+    count: usize,
+) -> Result<DraftSoFar, AllocError> {
+    let mut draft = Draft::new(alloc, history, u32::MAX)?;
     let mut unexplained = None;
     let mut events = history.events();
-    for place in 0..history.len() {
+    for place in 0..count {
         let Some(event) = events.next() else {
             break;
         };
@@ -55,6 +63,5 @@ fn drafted(alloc: Global, history: &History) -> Result<DraftSoFar, AllocError> {
             break;
         }
     }
-    draft.add_unreturned(history)?;
     Ok(DraftSoFar { draft, unexplained })
 }

@@ -8,6 +8,7 @@
 mod arrangement;
 mod calls;
 mod draft;
+mod first_parts;
 mod guessed;
 mod lanes;
 mod looking_back;
@@ -22,6 +23,7 @@ mod tries;
 
 pub use arrangement::arranged;
 pub use calls::shares_word;
+pub use first_parts::FirstParts;
 pub use guessed::{GuessedOrder, guess};
 pub use order::{Arranged, Placed};
 pub use tries::Tries;

@@ -3,7 +3,7 @@
 use crate::calls::{CPUS, OpenCall};
 
 /// The open call of each CPU, where it has one that returns later.
-#[derive(Drop)]
+#[derive(Clone, Copy)]
 pub(crate) struct OpenCalls {
     calls: [Option<OpenCall>; CPUS],
     // how many of them change nothing and don't stand in the order

@@ -53,6 +53,16 @@ impl Registers {
         }
     }
 
+    /// The same measurements once more.
+    pub(crate) fn copy(&self) -> Result<Registers, AllocError> {
+        Ok(Registers {
+            alloc: self.alloc,
+            all: copied(self.alloc, self.all.as_slice())?,
+            firsts: copied_firsts(self.alloc, &self.firsts)?,
+            inside: self.inside,
+        })
+    }
+
     /// A realm is made at the address.
     pub(crate) fn make_realm(&mut self, rd: u64, algo: u64) -> Result<(), AllocError> {
         let first = self.all.len();
@@ -138,4 +148,28 @@ impl Registers {
             _ => Ok(()),
         }
     }
+}
+
+// The same measurements once more.
+fn copied(alloc: Global, registers: &[Register]) -> Result<Vec<Register>, AllocError> {
+    let mut copies = Vec::with_capacity(alloc, registers.len())?;
+    for register in registers {
+        copies.push(Register {
+            start: register.start,
+            uses: register.uses.to_vec(alloc)?,
+        })?;
+    }
+    Ok(copies)
+}
+
+// The same once more.
+fn copied_firsts(
+    alloc: Global,
+    firsts: &HashMap<u64, usize>,
+) -> Result<HashMap<u64, usize>, AllocError> {
+    let mut copies = HashMap::new(alloc);
+    for (rd, first) in firsts.iter() {
+        copies.insert(*rd, *first)?;
+    }
+    Ok(copies)
 }

@@ -28,6 +28,19 @@ pub(crate) struct Checkpoint {
     pub(crate) machine: Machine,
 }
 
+/// The same once more, where there is one.
+pub(crate) fn copied_checkpoint(
+    checkpoint: &Option<Checkpoint>,
+) -> Result<Option<Checkpoint>, AllocError> {
+    match checkpoint {
+        Some(Checkpoint { steps, machine }) => Ok(Some(Checkpoint {
+            steps: *steps,
+            machine: machine.copy()?,
+        })),
+        None => Ok(None),
+    }
+}
+
 /// Whether the machine gives a call its reply, and carries it out. Extensible measurements are looked at later: what is read of them may be
 /// anything, and extensions change nothing.
 pub(crate) fn gives(
