@@ -70,15 +70,16 @@ module _ (history : History) where
   )
 
   -- a CPU of the machine has come further
-  pub IsFront-set : (front : Front) (cpu count : ℕ) (next : Option Choice) (refusals : ℕ) → cpu < 8 → IsFront history front
+  pub IsFront-set : (front : Front) (cpu count : ℕ) (next : Option Choice) (refusals looks : ℕ) → cpu < 8 → IsFront history front
       → IsNextOf history (set front.counts cpu count) cpu next
       → IsFront history (record {
         counts = set front.counts cpu count;
         nexts = set front.nexts cpu next;
         ranks = set front.ranks cpu (least_of next);
         refusals = refusals;
+        looks = looks;
       })
-  IsFront-set front cpu count next refusals inside is_front is =
+  IsFront-set front cpu count next refusals looks inside is_front is =
       let eight = is_front.ranks in
       let within : cpu < length front.ranks = omega (arith, inside, eight) in
       record {

@@ -1,7 +1,7 @@
 -- What the next calls of CPUs tell of the order in which they may come.
 use Rattle.finding.proofs.Common.{◌++◌, ◌<◌, ◌∙◌, ◌∷◌, ◌≡◌, ◌≤◌, Choice, HasOnePlaces-from_history, History, IsBegun, Line, List, None, Option, Some, [], ap, arith, cpu_named, number_named, rank_of, refl, state_of, subst, sym, ℕ}
-use Rattle.std.proofs.Common.{Bool, true, false, get_or, zero, suc}
-use Rattle.std.specs.Prelude.{IfSome, slice_set}
+use Rattle.std.proofs.Common.{Bool, true, false, get_or, zero, suc, inl, inr}
+use Rattle.std.specs.Prelude.{IfSome, slice_get, slice_set}
 use Rattle.std.proofs.lemmas.Option.{slice_get-get_or}
 use Rattle.rmm_spec.specs.declared.call.Call.{Call}
 use Rattle.rmm_spec.specs.declared.command.Command.{Command}
@@ -18,13 +18,13 @@ use Rattle.spec_lemmas.proofs.Calls.{same_command, same_reply}
 use Rattle.verdict_laws.specs.Order.{IsNext}
 use Rattle.verdict_laws.specs.Apart.{IsCarriedOut, is_apart_from, lent, lets_lend}
 use Rattle.verdict_laws.specs.Beside.{AreBeside}
-use Rattle.verdict_laws.specs.Ending.{EndsApart}
+use Rattle.verdict_laws.specs.Ending.{EndsApart, EndsLater, IsLeftAlone, NamesNoPart}
 use Rattle.verdict_laws.specs.Forward.{AreOpen, IsKept, IsOpen, Passes}
 use Rattle.verdict_laws.specs.Making.{AreMadeApart}
 use Rattle.verdict_laws.proofs.Steps.{kept_line}
-use Rattle.verdict_laws.proofs.Passing.{Passes-from_done_lending, Passes-from_ending, Passes-from_entry, Passes-from_lending, Passes-from_lent, Passes-from_made_apart, Passes-from_work}
+use Rattle.verdict_laws.proofs.Passing.{Passes-from_done_lending, Passes-from_ended, Passes-from_ending, Passes-from_entry, Passes-from_lending, Passes-from_lent, Passes-from_made_apart, Passes-from_work}
 use Rattle.finding.specs.Begun.{Holds, IsGroup}
-use Rattle.finding.specs.Group.{PassInside, PassesWhere, is_outside}
+use Rattle.finding.specs.Group.{IsNamedAlone, PassInside, PassesWhere, is_outside}
 use Rattle.finding.specs.MayPass.{AreRelated, MayPass, Apart, Ends, Enters, LendsApart, LendsFirst, LendsLast, Works}
 use Rattle.finding.specs.Next as next
 use Rattle.finding.specs.Next.{AreOpenCalls, HasNoneBefore, IsNextFound, IsNextWith}
@@ -166,6 +166,17 @@ module _ (history : History) (begun : Begun) (is_begun : IsBegun history begun) 
         (line_done cpu one is_one lines line holds of_cpu opened.0.next done)
         (line_done other two is_two lines later holds of_other opened.1.next done_too)
 
+    -- so it does where its call ends something, and what the other names is left alone
+    Passes-last : EndsLater one.call two.call → next.IsCarriedOut one → next.IsCarriedOut two
+        → IsLeftAlone history.events place lines (state_of begun.machine) later → Passes history place lines (state_of begun.machine) line later
+    Passes-last ends done done_too alone =
+        Passes-from_ended history place lines (state_of begun.machine) line later kept
+        (λ called called_too command also is_called is_called_too.
+        commands_related EndsLater ends called called_too command also is_called is_called_too)
+        alone
+        (line_done cpu one is_one lines line holds of_cpu opened.0.next done)
+        (line_done other two is_two lines later holds of_other opened.1.next done_too)
+
   -- a line whose call wasn't made before the place isn't open there
   not_open : (place cpu : ℕ) → HasNoneBefore history begun.front.counts place cpu → (lines : List Line) (line : Line)
       → Holds history begun lines → cpu_named line ≡ cpu → ¬ IsOpen history.events place lines line
@@ -176,36 +187,86 @@ module _ (history : History) (begun : Begun) (is_begun : IsBegun history begun) 
       let before = opened.before in
       absurd (omega (arith, behind, before))
 
+  -- an open line is of a CPU of the machine
+  open_within : (place : ℕ) (lines : List Line) (line : Line) → Holds history begun lines → IsOpen history.events place lines line
+      → cpu_named line < history.config.cpus
+  open_within place lines line holds is_open =
+      of_machine history is_begun.front.is_history lines (state_of begun.machine) holds.reached begun.front.counts holds.counts
+      (cpu_named line) (number_named line) is_open.next.known
+
+  -- a CPU's line is left alone, where its call names no part and nothing that another's open call names
+  IsLeftAlone-found : (place other : ℕ) (calls : List (Option NextCall)) (two : NextCall) → history.config.cpus ≤ 8
+      → AreOpenCalls history begun.front.counts place calls → IsNextWith history begun.front.counts other two
+      → NamesNoPart (state_of begun.machine) two.call → IsNamedAlone calls other two 8 → (lines : List Line) (later : Line)
+      → Holds history begun lines → cpu_named later ≡ other → IsNext history.events lines later
+      → IsLeftAlone history.events place lines (state_of begun.machine) later
+  IsLeftAlone-found place other calls two few are is_two whole alone lines later holds of_other is_next = record {
+    whole = λ called command is_called.
+        subst (λ (c : Call). NamesNoPart (state_of begun.machine) c) (mine called command is_called) whole;
+    others = λ called called_too command also line is_open differ is_called is_called_too granule names.
+        let cpu = cpu_named line in
+        let within = open_within place lines line holds is_open in
+        let eight = are.eight in
+        let here = slice_get-get_or calls cpu None (omega (arith, within, few, eight)) in
+        by called called_too command also line is_open differ is_called is_called_too granule names (omega (arith, within, few))
+        (get_or calls cpu None) here (are.each cpu (get_or calls cpu None) within here);
+  }
+    where
+      mine : (called : ℕ) (command : Command) → IsCalled history.events called (cpu_named later) (number_named later) command
+          → two.call ≡ call_of command
+      mine called command is_called = line_call other two is_two lines later holds of_other is_next called command is_called
+
+      by : (called called_too : ℕ) (command also : Command) (line : Line) → IsOpen history.events place lines line
+          → ¬ (cpu_named line ≡ cpu_named later) → IsCalled history.events called (cpu_named later) (number_named later) command
+          → IsCalled history.events called_too (cpu_named line) (number_named line) also → (granule : ℕ)
+          → is_named (named (call_of command)) granule ≡ true → cpu_named line < 8 → (found : Option NextCall)
+          → slice_get calls (cpu_named line) ≡ Some found → IsNextFound history begun.front.counts place (cpu_named line) found
+          → is_named (named (call_of also)) granule ≡ false
+      by called called_too command also line is_open differ is_called is_called_too granule names below None at is =
+          absurd (not_open place (cpu_named line) is lines line holds refl is_open)
+      by called called_too command also line is_open differ is_called is_called_too granule names below (Some found) at is =
+          subst (λ (c : Call). is_named (named c) granule ≡ false)
+          (line_call (cpu_named line) found is lines line holds refl is_open.next called_too also is_called_too)
+          (alone (cpu_named line) found below (λ same. differ (same ∙ sym of_other)) at granule
+          (subst (λ (c : Call). is_named (named c) granule ≡ true) (sym (mine called command is_called)) names))
+
   -- by what is found of both CPUs' calls
-  Passes-found : (place cpu other : ℕ) (one two : Option NextCall) → IsNextFound history begun.front.counts place cpu one
-      → IsNextFound history begun.front.counts place other two → PassesWhere one two → (lines : List Line) (line later : Line)
+  Passes-found : (place cpu other : ℕ) (calls : List (Option NextCall)) (one two : Option NextCall) → history.config.cpus ≤ 8
+      → AreOpenCalls history begun.front.counts place calls → IsNextFound history begun.front.counts place cpu one
+      → IsNextFound history begun.front.counts place other two → PassesWhere calls (state_of begun.machine) other one two → (lines : List Line) (line later : Line)
       → IsKept history place lines (state_of begun.machine) → Holds history begun lines → cpu_named line ≡ cpu → cpu_named later ≡ other
       → Passes history place lines (state_of begun.machine) line later
-  Passes-found place cpu other None two here there may lines line later kept holds of_cpu of_other before old new are_open earlier given =
+  Passes-found place cpu other calls None two few are here there may lines line later kept holds of_cpu of_other before old new are_open earlier given =
       absurd (not_open place cpu here lines line holds of_cpu (two_open history.events place lines before line later are_open).0)
-  Passes-found place cpu other (Some one) None here there may lines line later kept holds of_cpu of_other before old new are_open earlier given =
+  Passes-found place cpu other calls (Some one) None few are here there may lines line later kept holds of_cpu of_other before old new are_open earlier
+      given =
       absurd (not_open place other there lines later holds of_other (two_open history.events place lines before line later are_open).1)
-  Passes-found place cpu other (Some one) (Some two) here there may lines line later kept holds of_cpu of_other before old new are_open earlier is =
-      Passes-may place cpu other one two here there lines line later kept holds of_cpu of_other
-      (two_open history.events place lines before line later are_open) may before old new are_open earlier is
+  Passes-found place cpu other calls (Some one) (Some two) few are here there may lines line later kept holds of_cpu of_other before old new are_open
+      earlier is =
+      let opened = two_open history.events place lines before line later are_open in
+      let passes : Passes history place lines (state_of begun.machine) line later = elim may [
+        | inl passes ↦ Passes-may place cpu other one two here there lines line later kept holds of_cpu of_other opened passes
+        | inr ends ↦ Passes-last place cpu other one two here there lines line later kept holds of_cpu of_other opened ends.later ends.done ends.done_too
+            (IsLeftAlone-found place other calls two few are there ends.whole ends.alone lines later holds of_other opened.1.next)
+      ] in
+      passes before old new are_open earlier is
 
   -- so the CPUs inside are a group
   pub IsGroup-drawn : (first : Choice) (calls : List (Option NextCall)) (group : ℕ → Bool) → group first.cpu ≡ true
-      → history.config.cpus ≤ 8 → AreOpenCalls history begun.front.counts (rank_of first) calls → PassInside calls group 8
+      → history.config.cpus ≤ 8 → AreOpenCalls history begun.front.counts (rank_of first) calls
+      → PassInside calls (state_of begun.machine) group 8
       → IsGroup history begun first group
   IsGroup-drawn first calls group has few are pass = record {
     has_first = has;
     passes = λ lines line other kept holds is_out is_in before old new are_open earlier given.
         let opened = two_open history.events (rank_of first) lines before line other are_open in
-        let within : (x : Line) → IsOpen history.events (rank_of first) lines x → cpu_named x < history.config.cpus =
-        λ x is_open. of_machine history is_begun.front.is_history lines (state_of begun.machine) holds.reached begun.front.counts holds.counts
-        (cpu_named x) (number_named x) is_open.next.known in
-        let one = within line opened.0 in
-        let two = within other opened.1 in
+        let one = open_within (rank_of first) lines line holds opened.0 in
+        let two = open_within (rank_of first) lines other holds opened.1 in
         let eight = are.eight in
         let here = slice_get-get_or calls (cpu_named line) None (omega (arith, one, few, eight)) in
         let there = slice_get-get_or calls (cpu_named other) None (omega (arith, two, few, eight)) in
-        Passes-found (rank_of first) (cpu_named line) (cpu_named other) (get_or calls (cpu_named line) None) (get_or calls (cpu_named other) None)
+        Passes-found (rank_of first) (cpu_named line) (cpu_named other) calls (get_or calls (cpu_named line) None)
+        (get_or calls (cpu_named other) None) few are
         (are.each (cpu_named line) (get_or calls (cpu_named line) None) one here)
         (are.each (cpu_named other) (get_or calls (cpu_named other) None) two there)
         (pass (cpu_named line) (omega (arith, one, few)) is_out (cpu_named other) (omega (arith, two, few)) is_in)

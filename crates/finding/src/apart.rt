@@ -1,7 +1,9 @@
 //! Calls that may as well come behind others, whatever the state, by their words alone.
 
 ghost use Rattle.std.specs.Prelude.{◌≡◌};
+ghost use Rattle.std.specs.List.{list_any};
 ghost use Rattle.rmm_spec.specs.Locks as locks;
+ghost use Rattle.rmm_spec.specs.Rows.{Needed};
 ghost use Rattle.rmm_spec.specs.Step.Terms as terms;
 ghost use Rattle.verdict_laws.specs.Apart as spec;
 
@@ -31,6 +33,17 @@ pub(crate) fn names(call: &Call, granule: u64) -> bool
     ensures { result ≡ locks.is_named (terms.named call.now) granule }
 {
     is_named(named(call).as_slice(), granule)
+}
+
+/// Whether the second call names a granule that the first names.
+pub(crate) fn names_any(one: &Call, two: &Call) -> bool
+    ensures { result ≡ list_any (λ (n : Needed). locks.is_named (terms.named two.now) n.granule) (terms.named one.now) }
+{
+    let theirs = named(two);
+    named(one)
+        .as_slice()
+        .iter()
+        .any(|name| is_named(theirs.as_slice(), name.granule))
 }
 
 /// Whether a granule is named.

@@ -5,7 +5,7 @@ use crate::claims::Claims;
 use crate::front::{Front, is_up_to};
 use crate::offering::offer;
 use crate::offers::Offers;
-use crate::only::{NextStep, next_step};
+use crate::only::next_alone;
 use crate::scope::Scope;
 use crate::shelved::Shelved;
 use crate::trail::Trail;
@@ -85,7 +85,8 @@ impl Begun {
             if is_up_to(history, &self.front, scope.place) {
                 return Ok(true);
             }
-            let NextStep::Only(next) = next_step(history, self, scope.unread) else {
+            let next = next_alone(trail.alloc, offers, history, self, scope.unread)?;
+            let Some(next) = next else {
                 return Ok(true);
             };
             let given = self.grow(offers, history, &next)?;

@@ -6,6 +6,7 @@ ghost use Rattle.finding.specs.Choice.{IsNextOf, rank_of};
 
 use history::{History, Places};
 use rmi_view::ReplyRef;
+use rmm_spec::FunctionId;
 
 /// Calls that haven't returned are tried behind all places of returns.
 pub(crate) const PENDING: u32 = 1_000_000;
@@ -18,6 +19,8 @@ pub(crate) struct Choice {
     pub(crate) places: Places,
     // whether it has returned with a refusal
     pub(crate) refusal: bool,
+    // whether it has returned, and only looks or extends a measurement
+    pub(crate) looks: bool,
 }
 
 /// When a call is tried: in the order of the returns, and behind them, by its CPU, where it hasn't returned.
@@ -55,7 +58,28 @@ pub(crate) fn next_of(history: &History, counts: &[u32; 8], cpu: u8) -> Option<C
         number,
         places,
         refusal: is_refusal(history, cpu, number, places),
+        looks: has_looked(history, cpu, number, places),
     })
+}
+
+/// Whether a call that is in these places has returned, and only looks or extends a measurement.
+fn has_looked(history: &History, cpu: u8, number: u32, places: Places) -> bool
+    requires { ArePlacesOf history.now.recorded.events cpu number places }
+{
+    if places.returned.is_none() {
+        return false;
+    }
+    let Some(command) = history.command_at(places.called as usize) else {
+        return false;
+    };
+    matches!(
+        command.function,
+        FunctionId::RttReadEntry
+            | FunctionId::MeasurementRead
+            | FunctionId::MeasurementExtend
+            | FunctionId::RealmConfig
+            | FunctionId::IpaStateGet
+    )
 }
 
 /// Whether a call that is in these places has returned with a refusal.

@@ -21,6 +21,8 @@ pub(crate) struct Front {
     pub(crate) ranks: [u64; 8],
     // how many of them have returned with a refusal
     pub(crate) refusals: u8,
+    // how many of them have returned, and only look or extend a measurement
+    pub(crate) looks: u8,
 }
 
 impl Front {
@@ -34,10 +36,12 @@ impl Front {
         let mut nexts = [None; 8];
         let mut ranks = [NOWHERE; 8];
         let mut refusals = 0u8;
+        let mut looks = 0u8;
         for cpu in 0..cpus_of(history) {
             let next = next_of(history, &counts, cpu);
             ranks[cpu as usize] = rank_or_nowhere(&next);
             refusals = refusals.wrapping_add(refusals_in(&next));
+            looks = looks.wrapping_add(looks_in(&next));
             nexts[cpu as usize] = next;
         }
         Front {
@@ -45,6 +49,7 @@ impl Front {
             nexts,
             ranks,
             refusals,
+            looks,
         }
     }
 
@@ -63,6 +68,10 @@ impl Front {
                 .refusals
                 .wrapping_sub(refusals_in(&self.nexts[cpu as usize]))
                 .wrapping_add(refusals_in(&next));
+            self.looks = self
+                .looks
+                .wrapping_sub(looks_in(&self.nexts[cpu as usize]))
+                .wrapping_add(looks_in(&next));
             self.nexts[cpu as usize] = next;
         }
     }
@@ -129,6 +138,14 @@ fn rank_or_nowhere(next: &Option<Choice>) -> u64
 fn refusals_in(next: &Option<Choice>) -> u8 {
     match next {
         Some(choice) if choice.refusal => 1,
+        _ => 0,
+    }
+}
+
+/// One, where the call has returned, and only looks or extends a measurement.
+fn looks_in(next: &Option<Choice>) -> u8 {
+    match next {
+        Some(choice) if choice.looks => 1,
         _ => 0,
     }
 }

@@ -1,15 +1,18 @@
 //! Which open calls may have to come before the one that returned: those of a group of CPUs, which the others may as well come behind.
 
 ghost use Rattle.std.specs.Prelude.{◌≡◌, ◌<◌, false, true, IfNone, IfSome, IsTrue};
+ghost use Rattle.spec_machine.specs.View.{state_of};
 ghost use Rattle.finding.specs.Begun.{IsBegun, IsGroup};
 ghost use Rattle.finding.specs.Choice.{IsNextCall};
 ghost use Rattle.finding.specs.Group.{PassInside, PassesAt, PassesInside, is_inside};
 
 use crate::begun::Begun;
 use crate::choice::{Choice, cpus_of, rank};
+use crate::last::ends_last;
 use crate::next_call::{NextCall, open_calls};
 use crate::passing::may_pass;
 use history::History;
+use spec_machine::Machine;
 
 /// The open call that returned first, and the CPUs outside of its group.
 #[derive(Clone, Copy)]
@@ -73,7 +76,7 @@ pub(crate) fn group_at(history: &History, begun: &Begun, first: Choice) -> Group
     };
     let mut group = nobody.with(first.cpu);
     'drawn: for _cpu in 0..8 {
-        match drawn_in(&calls, group) {
+        match drawn_in(&calls, &begun.machine, group) {
             Some(cpu) => group = group.with(cpu),
             None => return group,
         }
@@ -85,12 +88,12 @@ pub(crate) fn group_at(history: &History, begun: &Begun, first: Choice) -> Group
 }
 
 /// A CPU outside whose call may have to come before one inside.
-fn drawn_in(calls: &[Option<NextCall<'_>>; 8], group: Group) -> Option<u8>
+fn drawn_in(calls: &[Option<NextCall<'_>>; 8], machine: &Machine, group: Group) -> Option<u8>
     ensures some { IfSome result (λ cpu. cpu < 8) }
-    ensures none { IfNone result (PassInside calls.now (is_inside group) 8) }
+    ensures none { IfNone result (PassInside calls.now (state_of machine.now) (is_inside group) 8) }
 {
     for cpu in 0..8 {
-        if !stays_outside(calls, group, cpu) {
+        if !stays_outside(calls, machine, group, cpu) {
             return Some(cpu);
         }
     }
@@ -98,24 +101,34 @@ fn drawn_in(calls: &[Option<NextCall<'_>>; 8], group: Group) -> Option<u8>
 }
 
 /// Whether the CPU is inside, or its call may as well come behind each one inside.
-fn stays_outside(calls: &[Option<NextCall<'_>>; 8], group: Group, cpu: u8) -> bool
+fn stays_outside(
+    calls: &[Option<NextCall<'_>>; 8],
+    machine: &Machine,
+    group: Group,
+    cpu: u8,
+) -> bool
     requires { cpu < 8 }
-    ensures { IsTrue result → is_inside group cpu ≡ false → PassesInside calls.now (is_inside group) cpu 8 }
+    ensures { IsTrue result → is_inside group cpu ≡ false → PassesInside calls.now (state_of machine.now) (is_inside group) cpu 8 }
 {
     if group.has(cpu) {
         true
     } else {
-        passes_inside(calls, group, cpu)
+        passes_inside(calls, machine, group, cpu)
     }
 }
 
 /// Whether the CPU's call may as well come behind each one inside.
-fn passes_inside(calls: &[Option<NextCall<'_>>; 8], group: Group, cpu: u8) -> bool
+fn passes_inside(
+    calls: &[Option<NextCall<'_>>; 8],
+    machine: &Machine,
+    group: Group,
+    cpu: u8,
+) -> bool
     requires { cpu < 8 }
-    ensures { IsTrue result → PassesInside calls.now (is_inside group) cpu 8 }
+    ensures { IsTrue result → PassesInside calls.now (state_of machine.now) (is_inside group) cpu 8 }
 {
     for other in 0..8 {
-        if group.has(other) && !passes(calls, cpu, other) {
+        if group.has(other) && !passes(calls, machine, cpu, other) {
             return false;
         }
     }
@@ -123,16 +136,16 @@ fn passes_inside(calls: &[Option<NextCall<'_>>; 8], group: Group, cpu: u8) -> bo
 }
 
 /// Whether the call of the one CPU may as well come behind that of the other, where both have one.
-fn passes(calls: &[Option<NextCall<'_>>; 8], cpu: u8, other: u8) -> bool
+fn passes(calls: &[Option<NextCall<'_>>; 8], machine: &Machine, cpu: u8, other: u8) -> bool
     requires cpu { cpu < 8 }
     requires other { other < 8 }
-    ensures { IsTrue result → PassesAt calls.now cpu other }
+    ensures { IsTrue result → PassesAt calls.now (state_of machine.now) cpu other }
 {
     let Some(one) = &calls[cpu as usize] else {
         return true;
     };
     match &calls[other as usize] {
-        Some(two) => may_pass(one, two),
+        Some(two) => may_pass(one, two) || ends_last(calls, machine, other, one, two),
         None => true,
     }
 }

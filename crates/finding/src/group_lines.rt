@@ -3,7 +3,7 @@
 ghost use Rattle.std.specs.Prelude.{IfOk, IfSome};
 ghost use Rattle.spec_machine.specs.View.{state_of};
 ghost use Rattle.finding.specs.Begun.{IsBegun, IsLost};
-ghost use Rattle.finding.specs.Only.{IsFirstGroup};
+ghost use Rattle.finding.specs.Only.{IsFirstGroup, IsOnly};
 ghost use Rattle.finding.specs.Waiting.{AllLeadNowhere, AllMayCome};
 
 use crate::begun::Begun;
@@ -58,4 +58,28 @@ pub(crate) fn group_lines(
         }
     }
     Ok(None)
+}
+
+/// The line of a group that is tried alone, where the machine is known to refuse all others.
+pub(crate) fn only_line(
+    alloc: Global,
+    offers: &mut Offers,
+    history: &History,
+    begun: &Begun,
+    group: Group,
+) -> Result<Option<Candidate>, AllocError>
+    requires begun { IsBegun history.now.recorded begun.now }
+    requires group { IsFirstGroup history.now.recorded begun.now group }
+    ensures { IfOk result (λ found. IfSome found (IsOnly history.now.recorded begun.now)) }
+{
+    let Some(mut lines) = group_lines(alloc, offers, history, begun, group)? else {
+        return Ok(None);
+    };
+    let Some(last) = lines.pop() else {
+        return Ok(None);
+    };
+    if !lines.is_empty() {
+        return Ok(None);
+    }
+    Ok(Some(last))
 }

@@ -25,6 +25,7 @@ mod group;
 mod group_lines;
 mod guessed;
 mod judging;
+mod last;
 mod left;
 mod lines;
 mod longer;

@@ -1,9 +1,8 @@
 //! Calls of different realms, or on different granules, which may as well come the other way round.
 
 ghost use Rattle.std.specs.Prelude.{◌≡◌, ◌==◌, ◌||◌, ℕ, true, false, IsTrue, IfNone, IfSome, Some};
-ghost use Rattle.std.specs.List.{list_any};
 ghost use Rattle.rmm_spec.specs.declared.reply.Reply.{Reply};
-ghost use Rattle.rmm_spec.specs.Rows.{Needed};
+ghost use Rattle.rmm_spec.specs.Locks.{is_named};
 ghost use Rattle.rmm_spec.specs.Step.Terms.{named};
 ghost use Rattle.rmi_view.specs.Seen.{reply_seen};
 ghost use Rattle.verdict_laws.specs.Making as making;
@@ -11,9 +10,8 @@ ghost use Rattle.verdict_laws.specs.Separate as spec;
 ghost use Rattle.finding.specs.MayPass.{MayPass};
 ghost use Rattle.finding.specs.Next.{IsWorkOf};
 
-use crate::apart::{lent, names};
+use crate::apart::{lent, names, names_any};
 use crate::next_call::NextCall;
-use command_words::named;
 use rmi_view::ReplyRef;
 use rmm_spec::Call;
 
@@ -138,7 +136,7 @@ fn own_realm(call: &Call) -> Option<u64>
 
 /// The VMID that a call takes for a realm, where it does.
 #[tactic(auto, unfolding(verdict_laws::specs::Making::taken_vmid))]
-fn taken_vmid(call: &Call) -> Option<u64>
+pub(crate) fn taken_vmid(call: &Call) -> Option<u64>
     ensures { result ≡ making.taken_vmid call.now }
 {
     match call {
@@ -188,14 +186,14 @@ pub(crate) fn works_on(work: &Work<'_>, granule: u64) -> bool
     names(&work.call, granule) || freed(&work.call, work.reply) == Some(granule)
 }
 
-/// Whether the second works on a granule that the first names.
-fn works_on_named(one: &Work<'_>, two: &Work<'_>) -> bool
-    ensures { result ≡ list_any (λ (n : Needed). spec.works_on two.now.call (reply_seen two.now.reply) n.granule) (named one.now.call) }
+/// Whether the first names the granule that the second gives back, if it does.
+fn names_freed(one: &Work<'_>, two: &Work<'_>) -> bool
+    ensures { result ≡ false → (g : ℕ) → spec.is_freed two.now.call (reply_seen two.now.reply) g ≡ true → is_named (named one.now.call) g ≡ false }
 {
-    named(&one.call)
-        .as_slice()
-        .iter()
-        .any(|name| works_on(two, name.granule))
+    match freed(&two.call, two.reply) {
+        Some(granule) => names(&one.call, granule),
+        None => false,
+    }
 }
 
 /// Whether the second works on the granule that the first gives back, if it does.
@@ -214,7 +212,10 @@ fn are_of_other_granules(one: &Work<'_>, two: &Work<'_>) -> bool
     ensures { IsTrue result → (g : ℕ) → spec.works_on one.now.call (reply_seen one.now.reply) g ≡ true
         → spec.works_on two.now.call (reply_seen two.now.reply) g ≡ false }
 {
-    if works_on_named(one, two) {
+    if names_any(&one.call, &two.call) {
+        return false;
+    }
+    if names_freed(one, two) {
         return false;
     }
     !works_on_freed(one, two)

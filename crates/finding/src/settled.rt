@@ -44,11 +44,17 @@ fn given_choice(history: &History, begun: &Begun, bound: u32, unread: bool) -> O
     ensures bound { IfSome result (λ choice. choice.places.called ≤ bound) }
     ensures given { IfSome result (IsGivenHere history.now.recorded (state_of begun.now.machine)) }
 {
+    if begun.front.looks == 0 {
+        return None;
+    }
     for cpu in 0..cpus_of(history) {
         let Some(choice) = begun.front.next(history, cpu) else {
             continue;
         };
-        if choice.places.called <= bound && is_given(history, begun, choice, unread) {
+        if choice.looks
+            && choice.places.called <= bound
+            && is_given(history, begun, choice, unread)
+        {
             return Some(choice);
         }
     }

@@ -182,5 +182,6 @@ fn same_front(front: &Front) -> Front
         nexts: front.nexts,
         ranks: front.ranks,
         refusals: front.refusals,
+        looks: front.looks,
     }
 }

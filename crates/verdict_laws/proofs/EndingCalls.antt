@@ -91,7 +91,7 @@ named_tag s (n ∷ names) has own granule is = by (n.granule == granule) refl is
     by false apart is later = later is
 
 -- a call that makes a realm, or makes a REC for it or works on its tables, names the realm
-own_named : (c : Call) → (is_making c || is_local c) ≡ true → (rd : ℕ) → is_own (own_realm c) rd ≡ true → is_named (named c) rd ≡ true
+pub own_named : (c : Call) → (is_making c || is_local c) ≡ true → (rd : ℕ) → is_own (own_realm c) rd ≡ true → is_named (named c) rd ≡ true
 unfolding is_making made_realm table_realm lent named
 own_named (call.GranuleDelegate granule) makes rd is = both_ways is refl
 own_named (call.GranuleUndelegate granule) makes rd is = both_ways is refl
@@ -147,7 +147,7 @@ taken_free s cpu (call.RealmCreate rd root width level vmid algo) rows = not-tru
 taken_free s cpu _ rows = tt
 
 -- What a call names has such a tag before it, no realm has the VMID that it takes, and what it gives back waits for use behind it.
-record IsWork (old middle : State) (c : Call) (given : Reply) : Type 0 where
+pub record IsWork (old middle : State) (c : Call) (given : Reply) : Type 0 where
   named_own : (granule : ℕ) → is_named (named c) granule ≡ true → is_own_tag (old.tag granule) ≡ true
   untaken : IsFree old (taken_vmid c)
   freed_waits : (granule : ℕ) → is_freed c given granule ≡ true → middle.tag granule ≡ Delegated
@@ -177,12 +177,12 @@ module _ (old middle : State) (cpu : ℕ) (command : Command) (given : Reply)
           both_ways is ((λ i. is_freed (call_of command) (carried.1.1 i) granule) ∙ leaves carried.0 granule)
 
   -- and so by its step
-  work_of : Step old cpu command given middle → IsWork old middle (call_of command) given
+  pub work_of : Step old cpu command given middle → IsWork old middle (call_of command) given
   work_of step = work_by (outcome old cpu (call_of command)) refl step
 
 module _ (old middle : State) (c : Call) (given : Reply) (work : IsWork old middle c given) (granule : ℕ) where
   -- it doesn't work on what it doesn't name and what doesn't wait for use behind it
-  unworked : is_named (named c) granule ≡ false → (middle.tag granule ≡ Delegated → ⊥) → works_on c given granule ≡ false
+  pub unworked : is_named (named c) granule ≡ false → (middle.tag granule ≡ Delegated → ⊥) → works_on c given granule ≡ false
   unworked unnamed kept =
       let unfreed = false_from_ne_true (is_freed c given granule) (λ is. kept (work.freed_waits granule is)) in
       λ i. unnamed i || unfreed i
@@ -205,10 +205,16 @@ made-owned s granules own (RecMade owner rec mpidr flags aux0 aux1) sound can is
     ∙ none_of (s.rec rec) (sound.recs.tagged rec ∙ has_tag-other s rec Delegated Rec can.rec_tag refl)))) (λ _. refl)
 made-owned s granules own _ sound can is rd apart g = refl
 
--- a change leaves what an ending reads of other granules and realms
-AgreeAt-made : (s : State) (cpu : ℕ) (granules : ℕ → Bool) (own : Option ℕ) (change : Change) → IsSound s → CanApply s change
-    → IsMadeIn granules own change → (granule : ℕ) → granules granule ≡ false → is_own own granule ≡ false → AgreeAt cpu granule s (made s change)
+-- no other realm gets or loses a REC
+pub has_rec-made : (s : State) (granules : ℕ → Bool) (own : Option ℕ) (change : Change) → IsSound s → CanApply s change
+    → IsMadeIn granules own change → (rd : ℕ) → is_own own rd ≡ false → has_rec (made s change) rd ≡ has_rec s rd
 unfolding has_rec
+has_rec-made s granules own change sound can is rd apart = λ i.
+    any_below s.config.granules (λ k. made-owned s granules own change sound can is rd apart (k * 4096) i)
+
+-- a change leaves what an ending reads of other granules and realms
+pub AgreeAt-made : (s : State) (cpu : ℕ) (granules : ℕ → Bool) (own : Option ℕ) (change : Change) → IsSound s → CanApply s change
+    → IsMadeIn granules own change → (granule : ℕ) → granules granule ≡ false → is_own own granule ≡ false → AgreeAt cpu granule s (made s change)
 AgreeAt-made s cpu granules own change sound can is granule free apart =
     let within = made_patch-within granules own change is in
     record {
@@ -219,7 +225,6 @@ AgreeAt-made s cpu granules own change sound can is granule free apart =
       rec = put_rec-keeps granules own change is granule free (s.rec granule);
       table = within.table granule apart (s.table granule);
       leaf = within.leaf granule apart (s.leaf granule);
-      owns = λ i. any_below s.config.granules (λ k. made-owned s granules own change sound can is granule apart (k * 4096) i);
     }
 
 -- ---- the ending comes first
@@ -325,7 +330,8 @@ module _ (old new : State) (making : Change) (cpu other : ℕ) (one : Command) (
       let free = unworked old middle c given work rd unnamed (λ waits. let bad : Rd ≡ Delegated = sym behind_it.tag ∙ waits in cc) in
       let own = elsewhere rd unnamed in
       let agree = AgreeAt-made old other mine (own_realm c) making sound can is_made rd free own in
-      let same : outcome old other (call.RealmDestroy rd) ≡ Ok found = sym (outcome-agree_realm old middle other rd agree) ∙ is in
+      let same : outcome old other (call.RealmDestroy rd) ≡ Ok found =
+      sym (outcome-agree_realm old middle other rd agree (has_rec-made old mine (own_realm c) making sound can is_made rd own)) ∙ is in
       let before = realm_ends old other rd found sound same in
       let root = (realm_at old rd).root in
       let is_root : middle.tag root ≡ Rtt =

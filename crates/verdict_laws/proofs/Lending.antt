@@ -30,7 +30,7 @@ use Rattle.spec_lemmas.proofs.TagLaws.{tag-has_tag}
 use Rattle.rmm_laws.proofs.RowLaws.{refusal-refuses}
 use Rattle.rmm_laws.proofs.Ties.{IsUnused}
 use Rattle.verdict_laws.specs.Apart.{frees_unnamed, is_apart_from, is_delegation, lent}
-use Rattle.verdict_laws.proofs.SparedCalls.{FreesOthers, Leaves, step_leaves, step_swapped}
+use Rattle.verdict_laws.proofs.SparedCalls.{FreesOthers, Leaves, step_leaves, step_swapped, unused-is_part}
 
 -- what a lending leads to, by whether the CPU is inside of a REC, and whether the granule has the tag that is needed
 abbrev lending_found : Bool → Bool → ℕ → Tag → Result Accepted Refusal
@@ -168,4 +168,4 @@ done_lending_turned old middle new cpu other one two given answered granule soun
     let lending = IsLending-from_lent granule (call_of one) lends in
     let needed = (lent_done old middle cpu granule (call_of one) given lending accepted first).0 in
     turned old middle new cpu other one two given answered granule sound differ lends unnamed
-    (inr (subst IsUnused (sym needed) lending.needed_unused)) first second
+    (inr (unused-is_part (old.tag granule) (subst IsUnused (sym needed) lending.needed_unused))) first second

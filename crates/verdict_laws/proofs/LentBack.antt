@@ -34,7 +34,7 @@ use Rattle.rmm_laws.proofs.Runs.{step_sound}
 use Rattle.rmm_laws.proofs.Ties.{IsUnused}
 use Rattle.verdict_laws.specs.Apart.{frees_unnamed, is_delegation, lent, lets_lend}
 use Rattle.verdict_laws.proofs.Lending.{IsLending, IsLending-from_lent, lending_same, lent_done}
-use Rattle.verdict_laws.proofs.SparedCalls.{FreesOthers, step_leaves, step_swapped}
+use Rattle.verdict_laws.proofs.SparedCalls.{FreesOthers, step_leaves, step_swapped, unused-is_part}
 
 -- ---- what is the host's behind a step was unused before
 
@@ -142,7 +142,8 @@ module _ (old middle new : State) (cpu other : ℕ) (one two : Command) (given a
       let between = with_tag old granule lending.put in
       let has : between.tag granule ≡ lending.put = at_itself granule lending.put tag in
       let still = step_sound old other two answered between sound earlier in
-      let apart : FreesOthers between granule (call_of one) = inr (subst IsUnused (sym has) lending.put_unused) in
+      let apart : FreesOthers between granule (call_of one) =
+      inr (unused-is_part (between.tag granule) (subst IsUnused (sym has) lending.put_unused)) in
       let from : Step (with_tag between granule tag) cpu one given middle =
       subst (λ (s : State). Step s cpu one given middle) (sym (with_tag-restored old granule lending.put)) first in
       let parts = step_swapped between granule other cpu still differ one tag given middle unnamed apart from in
@@ -173,6 +174,6 @@ lent_turned old middle new cpu other one two given answered granule sound differ
     frees : (delegates : Bool) → is_delegation (call_of two) ≡ delegates → (delegates || not (frees_unnamed (call_of one))) ≡ true
         → FreesOthers old granule (call_of one)
     frees true is _ =
-        inr (step-host old middle cpu granule one given sound first
-        ((lent_done middle new other granule (call_of two) answered lending accepted second).0 ∙ lending.delegates is))
+        inr (unused-is_part (old.tag granule) (step-host old middle cpu granule one given sound first
+        ((lent_done middle new other granule (call_of two) answered lending accepted second).0 ∙ lending.delegates is)))
     frees false is none = inl (not-true (frees_unnamed (call_of one)) none)

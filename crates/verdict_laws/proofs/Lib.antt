@@ -29,6 +29,8 @@ pub mod MakingLooks
 pub mod MakingCalls
 pub mod Endings
 pub mod EndingCalls
+pub mod EndedCalls
+pub mod EndedPairs
 pub mod Passing
 pub mod CallOrder
 pub mod Counts

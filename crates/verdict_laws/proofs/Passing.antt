@@ -1,29 +1,36 @@
 -- Lines pass each other whose calls have nothing to do with each other.
-use Rattle.std.proofs.Common.{◌≡◌, ℕ, List, [], ◌∷◌, ◌++◌, refl, sym, ◌∙◌, subst}
+use Rattle.std.proofs.Common.{◌≡◌, ℕ, ◌+◌, true, false, List, [], ◌∷◌, ◌++◌, inr, refl, sym, ◌∙◌, ap, subst, arith}
 use Rattle.lemmas.proofs.Tests.{keys_apart}
+use Rattle.rmm_spec.specs.declared.command.Command.{Command}
 use Rattle.rmm_spec.specs.declared.event.Event.{Event}
 use Rattle.rmm_spec.specs.declared.line.Line.{Line}
+use Rattle.rmm_spec.specs.Call.{call_of}
 use Rattle.rmm_spec.specs.HistoryText.{History}
 use Rattle.rmm_spec.specs.State.{State, opening}
 use Rattle.rmm_spec.specs.Sound.{IsSound}
+use Rattle.rmm_spec.specs.Locks.{is_named}
+use Rattle.rmm_spec.specs.Step.Terms.{named}
 use Rattle.rmm_spec.specs.Step.{Step}
 use Rattle.rmm_spec.specs.Run.{JournalEntry, IsRun}
-use Rattle.rmm_spec.specs.Linearization.{AreEntriesOf, IsEntryOf, cpu_named}
+use Rattle.rmm_spec.specs.Linearization.{AreEntriesOf, IsCalled, IsEntryOf, cpu_named, number_named}
 use Rattle.rmm_laws.proofs.RunLaws.{run-append}
-use Rattle.rmm_laws.proofs.Runs.{opened_run_sound}
-use Rattle.verdict_laws.specs.Apart.{Lends, IsApart, IsCarriedOut, LetsLend, NamesOthers}
+use Rattle.rmm_laws.proofs.Runs.{opened_run_sound, step_sound}
+use Rattle.verdict_laws.specs.Order.{count_of}
+use Rattle.verdict_laws.specs.Apart.{is_part, Lends, IsApart, IsCarriedOut, LetsLend, NamesOthers}
 use Rattle.verdict_laws.specs.Beside.{AreBesideLines}
-use Rattle.verdict_laws.specs.Ending.{EndsApartLines}
+use Rattle.verdict_laws.specs.Ending.{EndsApartLines, EndsLaterLines, IsLeftAlone}
 use Rattle.verdict_laws.specs.Forward.{AreOpen, Gives, IsKept, Passes}
 use Rattle.verdict_laws.specs.Making.{AreMadeApartLines}
 use Rattle.verdict_laws.specs.Separate.{AreSeparateLines}
-use Rattle.verdict_laws.proofs.Counted.{count_of-none}
+use Rattle.verdict_laws.proofs.Counted.{count_of-append, count_of-none}
+use Rattle.verdict_laws.proofs.EndedPairs.{ended_turned}
 use Rattle.verdict_laws.proofs.EndingCalls.{ending_turned}
 use Rattle.verdict_laws.proofs.Entries.{entry_turned, work_turned}
 use Rattle.verdict_laws.proofs.Lending.{done_lending_turned, lending_turned}
 use Rattle.verdict_laws.proofs.LentBack.{lent_turned}
 use Rattle.verdict_laws.proofs.MakingCalls.{made_turned}
 use Rattle.verdict_laws.proofs.SeparateCalls.{separate_turned}
+use Rattle.verdict_laws.proofs.SparedCalls.{step_leaves}
 
 -- open calls are of CPUs of their own
 open_apart : (events : List Event) (place : ℕ) (lines before : List Line) (line other : Line)
@@ -145,3 +152,49 @@ Passes-from_made_apart history place lines state line other kept apart =
     Passes-from_exchange history place lines state line other kept
     (λ e f old middle new one two sound differ. made_turned old middle new e.cpu f.cpu e.command f.command e.given f.given sound
     (apart one.called two.called e.command f.command e.given f.given one.is_called one.given two.is_called two.given))
+
+-- ---- behind the end of a REC or a realm
+
+-- lines of which none is of the CPU end in one of another
+last_elsewhere : (cpu : ℕ) (before : List Line) (line other : Line) → count_of cpu (before ++ line ∷ other ∷ []) ≡ 0 → ¬ (cpu ≡ cpu_named other)
+last_elsewhere cpu before line other none same =
+    let both : count_of cpu (line ∷ other ∷ []) ≡ 0 =
+    let sum = count_of-append cpu before (line ∷ other ∷ []) in omega (arith, sum, none) in
+    keys_apart (cpu_named other) cpu (count_of-none cpu other [] (count_of-none cpu line (other ∷ []) both).1).0 (sym same)
+
+module _ (events : List Event) (place : ℕ) (lines : List Line) (state : State) (line other : Line) (alone : IsLeftAlone events place lines state other)
+    (called : ℕ) (command : Command) (is_called : IsCalled events called (cpu_named other) (number_named other) command)
+    (granule : ℕ) (is : is_named (named (call_of command)) granule ≡ true) where
+  -- open calls of other CPUs leave the tag of what the call names
+  tag_stays : (before : List Line) (entries : List JournalEntry) (old new : State) → IsSound old
+      → AreOpen events place lines (before ++ line ∷ other ∷ []) → AreEntriesOf events before entries → IsRun old entries new
+      → is_part (old.tag granule) ≡ false → new.tag granule ≡ old.tag granule
+  tag_stays [] [] old new sound are_open claimed run whole = ap (λ (s : State). s.tag granule) run
+  tag_stays [] (e ∷ entries) old new sound are_open claimed run whole = absurd claimed
+  tag_stays (x ∷ before) [] old new sound are_open claimed run whole = absurd claimed
+  tag_stays (x ∷ before) (e ∷ entries) old new sound are_open claimed run whole =
+      let entry = claimed.0 in
+      let unnamed =
+      alone.others called entry.called command e.command x are_open.0 (last_elsewhere (cpu_named x) before line other are_open.1)
+      is_called entry.is_called granule is in
+      let left = step_leaves old granule (e.cpu + 1) e.cpu sound (λ same. omega (arith, same)) e.command e.given run.0 unnamed (inr whole) run.1 in
+      tag_stays before entries run.0 new (step_sound old e.cpu e.command e.given run.0 sound run.1) are_open.2 claimed.1 run.2
+      (ap is_part left.tag ∙ whole)
+      ∙ left.tag
+
+-- where both are carried out, a line whose call ends something passes one whose call doesn't name it, and names what is left alone
+pub Passes-from_ended : (history : History) (place : ℕ) (lines : List Line) (state : State) (line other : Line)
+    → IsKept history place lines state → EndsLaterLines history.events line other → IsLeftAlone history.events place lines state other
+    → IsCarriedOut history.events line → IsCarriedOut history.events other → Passes history place lines state line other
+Passes-from_ended history place lines state line other kept later alone done done_too before old new are_open earlier given =
+    gives_turned history.events line other old new
+    (λ e f middle one two first second. ended_turned old middle new e.cpu f.cpu e.command f.command e.given f.given
+    (given_sound history place lines before state old kept earlier)
+    (later one.called two.called e.command f.command one.is_called two.is_called)
+    (λ granule is.
+    let whole = alone.whole two.called f.command two.is_called granule is in
+    ap is_part (tag_stays history.events place lines state line other alone two.called f.command two.is_called granule is before earlier.entries state
+    old (opened_run_sound history.config kept.reached.passes.entries state kept.reached.passes.run.run) are_open earlier.claimed earlier.run whole)
+    ∙ whole)
+    (done e.given one.given) (done_too f.given two.given) first second)
+    given

@@ -35,7 +35,7 @@ use Rattle.rmm_laws.proofs.Searches.{inside_runs}
 use Rattle.rmm_laws.proofs.StepLaws.{step-keeps}
 use Rattle.rmm_laws.proofs.Tags.{has_tag-other}
 use Rattle.rmm_laws.proofs.Ties.{IsUnused}
-use Rattle.verdict_laws.specs.Apart.{frees_unnamed}
+use Rattle.verdict_laws.specs.Apart.{frees_unnamed, is_part}
 use Rattle.verdict_laws.proofs.GivenBack.{aux_apart, page_apart, root_apart, table_apart}
 use Rattle.verdict_laws.proofs.Retags.{AreKeptAt, IsReached-tags, outcome-tags}
 use Rattle.verdict_laws.proofs.Spared.{RunAlike, Spares, changed-runs, changed-swapped, changed-tag, is_inside-alike, runs_on-read}
@@ -50,13 +50,18 @@ AreOthers-from_unnamed granule [] unnamed = tt
 AreOthers-from_unnamed granule (n ∷ names) unnamed =
     let parts = or_parts (n.granule == granule) (is_named names granule) unnamed in (parts.0, AreOthers-from_unnamed granule names parts.1)
 
--- what the call may give back without naming it is another granule: there is none, or the granule is unused
+-- what the call may give back without naming it is another granule: there is none, or the granule is no part
 abbrev pub FreesOthers : State → ℕ → Call → Type 0
-FreesOthers s granule c = (frees_unnamed c ≡ false) ⊎ IsUnused (s.tag granule)
+FreesOthers s granule c = (frees_unnamed c ≡ false) ⊎ (is_part (s.tag granule) ≡ false)
 
--- where the call may give back what it doesn't name, the granule is unused
-unused_still : (s : State) (granule : ℕ) → (true ≡ false) ⊎ IsUnused (s.tag granule) → IsUnused (s.tag granule)
-unused_still s granule frees = elim frees [ inl never ↦ both_ways refl never | inr unused ↦ unused ]
+-- where the call may give back what it doesn't name, the granule is no part
+whole_still : (s : State) (granule : ℕ) → (true ≡ false) ⊎ (is_part (s.tag granule) ≡ false) → is_part (s.tag granule) ≡ false
+whole_still s granule frees = elim frees [ inl never ↦ both_ways refl never | inr whole ↦ whole ]
+
+-- a granule that is unused is none
+pub unused-is_part : (tag : Tag) → IsUnused tag → is_part tag ≡ false
+unused-is_part tag (inl host) = ap is_part host
+unused-is_part tag (inr waits) = ap is_part waits
 
 -- what is accepted spares the granule and the CPU, whatever end a reply gives
 abbrev SparesAll : State → ℕ → ℕ → Accepted → Type 0
@@ -126,15 +131,15 @@ module _ (s : State) (granule cpu other : ℕ) (sound : IsSound s) (differ : ¬ 
   call_spares call.Exit frees apart placed tags rows = sym (inside_elsewhere placed)
   call_spares (call.DataDestroy rd ipa) frees apart placed tags rows =
       let level = reach s rd ipa 3 in
-      (page_apart s granule sound (unused_still s granule frees) rd level (entry_number level ipa) rows.1.1.0, tt)
+      (page_apart s granule sound (whole_still s granule frees) rd level (entry_number level ipa) rows.1.1.0, tt)
   call_spares (call.RealmDestroy rd) frees apart placed tags rows =
-      (apart.0, root_apart s granule sound (unused_still s granule frees) rd tags.0)
+      (apart.0, root_apart s granule sound (whole_still s granule frees) rd tags.0)
   call_spares (call.RecDestroy rec) frees apart placed tags rows =
-      let aux = aux_apart s granule sound (unused_still s granule frees) rec tags.0 in
+      let aux = aux_apart s granule sound (whole_still s granule frees) rec tags.0 in
       (apart.0, aux.0, aux.1, runs_on-read s.rec cpu rec ∙ idle_elsewhere cpu (unwrap_or (s.rec rec) no_rec).cpu rows.0)
   call_spares (call.RttRemove removal rd ipa level) frees apart placed tags rows =
       let up = reach s rd ipa (level - 1) in
-      table_apart s granule sound (unused_still s granule frees) rd up (entry_number up ipa) rows.1.1.1.0
+      table_apart s granule sound (whole_still s granule frees) rd up (entry_number up ipa) rows.1.1.1.0
   call_spares _ frees apart placed tags rows = tt
 
   -- ---- what a call leads to

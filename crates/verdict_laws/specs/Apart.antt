@@ -6,6 +6,8 @@ use Rattle.rmm_spec.specs.declared.command.Command.{Command}
 use Rattle.rmm_spec.specs.declared.event.Event.{Event}
 use Rattle.rmm_spec.specs.declared.line.Line.{Line}
 use Rattle.rmm_spec.specs.declared.reply.Reply.{Reply}
+use Rattle.rmm_spec.specs.declared.tag.Tag.{Tag}
+use Rattle.rmm_spec.specs.declared.tag.Tag.TheVariants.{RecAux, Data, Rtt}
 use Rattle.rmm_spec.specs.Call.{call_of}
 use Rattle.rmm_spec.specs.Locks.{is_named}
 use Rattle.rmm_spec.specs.Step.Terms.{named}
@@ -17,6 +19,13 @@ unfoldable pub lent : Call → Option ℕ
 lent (GranuleDelegate granule) = Some granule
 lent (GranuleUndelegate granule) = Some granule
 lent _ = None
+
+-- whether a granule with the tag is a part of a realm or a REC, which may be given back without being named
+abbrev pub is_part : Tag → Bool
+is_part RecAux = true
+is_part Data = true
+is_part Rtt = true
+is_part _ = false
 
 -- whether a call may give back granules that it doesn't name
 unfoldable pub frees_unnamed : Call → Bool

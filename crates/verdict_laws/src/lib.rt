@@ -27,7 +27,7 @@ pub use begun::{
     orders_are_short,
 };
 pub use beside::{entries_exchange, entries_pass};
-pub use ending::{ending_comes_first, ending_is_passed};
+pub use ending::{ending_comes_first, ending_comes_last, ending_is_passed, ending_passes};
 pub use exchanges::{
     a_returning_call_is_open, all_kept_behind_a_call, all_kept_behind_a_return,
     all_kept_where_covered, first_parts_have_orders, kept_at_first, kept_at_last_is_linearization,

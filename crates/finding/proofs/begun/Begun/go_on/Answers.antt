@@ -6,7 +6,7 @@ calls-preserved c =
     let grown = rw c.if-not-given.false at c.in_ok-given.ensures.grown in
     record {
       begun = grown.begun;
-      covers = λ lost. c.calls.invariant.covers (c.in-Only.ensures.alone (λ lines holds. grown.behind lines holds lost));
+      covers = λ lost. c.calls.invariant.covers ((rw c.in-Some.is at c.in_ok-next.ensures).alone (λ lines holds. grown.behind lines holds lost));
     }
 
 pub returns-then-not-given-clause-begun : goal.returns-then-not-given-clause-begun
@@ -15,4 +15,4 @@ returns-then-not-given-clause-begun c = (rw c.if-not-given.true at c.in_ok-given
 pub returns-then-not-given-clause-covers : goal.returns-then-not-given-clause-covers
 returns-then-not-given-clause-covers c =
     let stays = rw c.if-not-given.true at c.in_ok-given.ensures.grown in
-    c.calls.invariant.covers (c.in-Only.ensures.alone (λ lines holds. stays.refused lines holds))
+    c.calls.invariant.covers ((rw c.in-Some.is at c.in_ok-next.ensures).alone (λ lines holds. stays.refused lines holds))

@@ -6,7 +6,7 @@ pub returns-then-cpu-cpus_of-clause-front : goal.returns-then-cpu-cpus_of-clause
 returns-then-cpu-cpus_of-clause-front c =
     rw c.rank_or_nowhere.ensures
     (IsFront-set c.args.history.now.recorded c.args.self.now c.args.cpu c.args.count
-    c.next_of-next.result _ c.requires.cpu c.requires.front c.next_of-next.ensures)
+    c.next_of-next.result _ _ c.requires.cpu c.requires.front c.next_of-next.ensures)
 
 pub returns-else-cpu-cpus_of-clause-front : goal.returns-else-cpu-cpus_of-clause-front
 returns-else-cpu-cpus_of-clause-front c =
