@@ -16,7 +16,7 @@ abbrev pub AreRelated : (Call → Reply → Call → Reply → Type 0) → NextC
 AreRelated related one two = (given answered : Reply) → IsReplyOf one given → IsReplyOf two answered → related one.call given two.call answered
 
 -- The one lends a granule with which the other has nothing to do, or which that doesn't name; or the other lends one and may come first; or the
--- two are apart; or one enters a REC or leaves one beside the other's work; or the other ends a REC or a realm that the one doesn't name.
+-- two are apart; or one changes a REC alone beside the other's work; or the other ends a REC or a realm that the one doesn't name.
 pub data MayPass (one two : NextCall) : Type 0 where
   LendsApart : (granule : ℕ) → lent one.call ≡ Some granule → is_apart_from two.call granule ≡ true → MayPass one two
   LendsFirst : (granule : ℕ) → lent one.call ≡ Some granule → IsCarriedOut one → is_named (named two.call) granule ≡ false → MayPass one two

@@ -1,4 +1,4 @@
-//! Calls that enter a REC or leave one, beside calls that work on tables or lend granules.
+//! Calls that change a REC alone, beside calls that work on tables or lend granules.
 
 ghost use Rattle.std.specs.Prelude.{◌≡◌, ℕ, Some, false, IsTrue};
 ghost use Rattle.rmm_spec.specs.declared.reply.Reply.{Reply};
@@ -11,7 +11,7 @@ use crate::next_call::NextCall;
 use crate::separate::{work_of, works_on};
 use rmm_spec::Call;
 
-/// Whether the one enters a REC or leaves one, and the other works, but not on the REC's granule.
+/// Whether the one enters a REC, leaves one or asks something there, and the other works, but not on the REC's granule.
 pub(crate) fn are_beside(entry: &NextCall<'_>, work: &NextCall<'_>) -> bool
     ensures { IsTrue result → (answered : Reply) → IsReplyOf work.now answered → AreBeside entry.now.call work.now.call answered }
 {
@@ -37,12 +37,19 @@ fn works_elsewhere(work: &NextCall<'_>, granule: u64) -> bool
     }
 }
 
-/// Whether a call enters a REC, or leaves the one in which its CPU is.
+/// Whether a call enters a REC, or leaves the one in which its CPU is, or asks something of the host there.
 #[tactic(auto, unfolding(verdict_laws::specs::Beside::is_entry))]
 fn is_entry(call: &Call) -> bool
     ensures { result ≡ spec.is_entry call.now }
 {
-    matches!(call, Call::RecEnter { .. } | Call::Exit)
+    matches!(
+        call,
+        Call::RecEnter { .. }
+            | Call::Exit
+            | Call::IpaStateSet { .. }
+            | Call::HostCall { .. }
+            | Call::CpuOff
+    )
 }
 
 /// The granule of the REC that a call enters, where it does.

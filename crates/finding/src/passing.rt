@@ -24,14 +24,14 @@ fn one_lends(one: &NextCall<'_>, two: &NextCall<'_>) -> bool
     lends_apart(one, two) || lends_last(one, two)
 }
 
-/// Whether it may since they are separate, or one of them enters a REC, leaves one or ends something.
+/// Whether it may since they are separate, or one of them changes a REC alone or ends something.
 fn are_elsewhere(one: &NextCall<'_>, two: &NextCall<'_>) -> bool
     ensures { IsTrue result → MayPass one.now two.now }
 {
     are_separate(one, two) || enters_or_ends(one, two)
 }
 
-/// Whether it may since one of them enters a REC, leaves one, or ends a REC or a realm.
+/// Whether it may since one of them changes a REC alone, or ends a REC or a realm.
 fn enters_or_ends(one: &NextCall<'_>, two: &NextCall<'_>) -> bool
     ensures { IsTrue result → MayPass one.now two.now }
 {
@@ -74,7 +74,7 @@ fn lends_last(one: &NextCall<'_>, two: &NextCall<'_>) -> bool
     lets_lend(&one.call, &two.call, granule)
 }
 
-/// Whether the one enters a REC or leaves one beside the other's work, or works beside the other's entry.
+/// Whether the one changes a REC alone beside the other's work, or works beside the other's change.
 fn enters_or_works(one: &NextCall<'_>, two: &NextCall<'_>) -> bool
     ensures { IsTrue result → MayPass one.now two.now }
 {

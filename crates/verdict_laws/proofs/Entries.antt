@@ -1,6 +1,6 @@
--- A call that enters a REC or leaves one, and a call that works on tables or lends a granule, on two CPUs, come either way round.
+-- A call that changes a REC alone, and a call that works on tables or lends a granule, on two CPUs, come either way round.
 use Rattle.std.proofs.Common.{arith, ◌≡◌, ℕ, suc, ◌==◌, Bool, true, false, not, if◌then◌else◌, [], ◌∷◌, inl, Option, Some, None, refl, sym, ◌∙◌, ap, subst}
-use Rattle.std.specs.Prelude.{Result, Ok, Err, is_none, unwrap_or}
+use Rattle.std.specs.Prelude.{Result, Ok, Err, is_none, nat_le, unwrap_or}
 use Rattle.std.proofs.lemmas.Bool.{ne_eqb}
 use Rattle.rmm_spec.specs.declared.accepted.Accepted.{Accepted}
 use Rattle.rmm_spec.specs.declared.accepted.Accepted.TheVariants.{Done, Reaches}
@@ -21,7 +21,8 @@ use Rattle.rmm_spec.specs.State.{State, RealmRecord, RecRecord}
 use Rattle.rmm_spec.specs.Sound.{IsSound}
 use Rattle.rmm_spec.specs.Locks.{is_named}
 use Rattle.rmm_spec.specs.Lookup.{has_tag, is_inside, is_new_state, is_system_off_state, no_realm, no_rec, realm_at, rec_at, rec_inside}
-use Rattle.rmm_spec.specs.Rows.{decided, realm_row, rec_row, row}
+use Rattle.rmm_spec.specs.Walk.{half}
+use Rattle.rmm_spec.specs.Rows.{input, decided, realm_row, rec_row, row}
 use Rattle.rmm_spec.specs.Step.Front.{with_front}
 use Rattle.rmm_spec.specs.Step.Ripas.{reached_change}
 use Rattle.rmm_spec.specs.Step.Terms.{Class, ByHost, ByRealm, ByExit, class_of, named}
@@ -38,9 +39,13 @@ use Rattle.verdict_laws.proofs.SeparateCalls.{IsAcceptedOf, IsWorkOf, behind_wor
 use Rattle.verdict_laws.proofs.SeparateLooks.{AgreeOn, with_recs}
 use Rattle.verdict_laws.proofs.SparedCalls.{step_leaves}
 
--- each realm's state is in the one state as in the other
+-- the record is in the state of the other, of a realm as wide
+abbrev IsLike : RealmRecord → RealmRecord → Type 0
+IsLike new old = (new.state ≡ old.state) × (new.width ≡ old.width)
+
+-- each realm's record is so in the one state as in the other
 abbrev AreStill : State → State → Type 0
-AreStill s t = (rd : ℕ) → (realm_at t rd).state ≡ (realm_at s rd).state
+AreStill s t = (rd : ℕ) → IsLike (realm_at t rd) (realm_at s rd)
 
 -- ---- what an entry leads to
 
@@ -52,20 +57,27 @@ with_realms s t = record s { realm = t.realm; table = t.table; leaf = t.leaf }
 abbrev BehindRealms : State → State → ℕ → Call → Type 0
 BehindRealms s t cpu c = ((behind (with_realms s t) cpu c).0 ≡ (behind s cpu c).0) × ((behind (with_realms s t) cpu c).1 ≡ (behind s cpu c).1)
 
--- for each entry, which reads of realms no more than each one's state
+-- for each entry, which reads of realms no more than each one's state and width
 behind-realms : (s t : State) (cpu : ℕ) (c : Call) → is_entry c ≡ true → AreStill s t → BehindRealms s t cpu c
 unfolding is_entry behind realm_at rec_at rec_inside
 behind-realms s t cpu (call.RecEnter rec) enters still =
     let old = unwrap_or (s.rec rec) no_rec in (
       λ i.
-          realm_row condition.RealmNew (not (is_new_state (still old.owner i)))
-          ∷ row (Realm condition.SystemOff 1) (not (is_system_off_state (still old.owner i)))
+          realm_row condition.RealmNew (not (is_new_state ((still old.owner).0 i)))
+          ∷ row (Realm condition.SystemOff 1) (not (is_system_off_state ((still old.owner).0 i)))
           ∷ rec_row condition.RecState (is_none old.cpu)
           ∷ rec_row condition.RecRunnable old.runnable
           ∷ [],
       refl,
     )
 behind-realms s t cpu call.Exit enters still = (refl, refl)
+behind-realms s t cpu (call.IpaStateSet base top ripas) enters still =
+    let owner = (unwrap_or (s.rec (rec_inside s cpu)) no_rec).owner in (
+      λ i. input condition.RgnBound (nat_le top (half (record (unwrap_or (s.realm owner) no_realm) { width = (still owner).1 i }))) ∷ [],
+      refl,
+    )
+behind-realms s t cpu (call.HostCall imm) enters still = (refl, refl)
+behind-realms s t cpu call.CpuOff enters still = (refl, refl)
 behind-realms s t cpu _ enters still = both_ways enters refl
 
 -- so what is answered where the call is placed
@@ -95,6 +107,9 @@ entered_kept : (s t : State) (c : Call) → is_entry c ≡ true → ((rec : ℕ)
 unfolding is_entry entered named
 entered_kept s t (call.RecEnter rec) enters same = (sym (same rec refl), tt)
 entered_kept s t call.Exit enters same = tt
+entered_kept s t (call.IpaStateSet base top ripas) enters same = tt
+entered_kept s t (call.HostCall imm) enters same = tt
+entered_kept s t call.CpuOff enters same = tt
 entered_kept s t _ enters same = both_ways enters refl
 
 -- a patch that leaves that tag, and each realm's state, leaves what the call leads to
@@ -116,6 +131,9 @@ behind_of_rec : (s : State) (cpu : ℕ) (c : Call) → is_entry c ≡ true → I
 unfolding is_entry behind
 behind_of_rec s cpu (call.RecEnter rec) enters = tt
 behind_of_rec s cpu call.Exit enters = tt
+behind_of_rec s cpu (call.IpaStateSet base top ripas) enters = tt
+behind_of_rec s cpu (call.HostCall imm) enters = tt
+behind_of_rec s cpu call.CpuOff enters = tt
 behind_of_rec s cpu _ enters = both_ways enters refl
 
 -- the RECs behind such a change
@@ -159,6 +177,9 @@ unnamed_by-unnamed : (c : Call) → is_entry c ≡ true → (is_named (named c) 
 unfolding is_entry named frees_unnamed
 unnamed_by-unnamed (call.RecEnter rec) enters = (rw (ne_eqb rec (suc rec) (λ same. omega (arith, same))) refl, refl)
 unnamed_by-unnamed call.Exit enters = (refl, refl)
+unnamed_by-unnamed (call.IpaStateSet base top ripas) enters = (refl, refl)
+unnamed_by-unnamed (call.HostCall imm) enters = (refl, refl)
+unnamed_by-unnamed call.CpuOff enters = (refl, refl)
 unnamed_by-unnamed _ enters = both_ways enters refl
 
 -- another CPU stays inside of a REC, or outside
@@ -187,10 +208,10 @@ is_local-from_work (call.RttUnmapUnprotected rd ipa) works = refl
 is_local-from_work (call.RttInitRipas rd base top) works = refl
 is_local-from_work _ works = both_ways works refl
 
--- the record that replaces a realm's, if one does, is in the same state
+-- the record that replaces a realm's, if one does, is like that
 abbrev IsStill : Option RealmChange → Type 0
 IsStill None = Unit {0}
-IsStill (Some change) = (realm : RealmRecord) → (realm_updated change.update realm).state ≡ realm.state
+IsStill (Some change) = (realm : RealmRecord) → IsLike (realm_updated change.update realm) realm
 
 -- so is what is accepted, whatever end a reply gives
 abbrev IsAcceptedStill : Accepted → Type 0
@@ -202,7 +223,7 @@ behind_still : (s : State) (cpu : ℕ) (c : Call) → is_work c ≡ true → IsA
 unfolding is_work behind reached_change realm_updated
 behind_still s cpu (call.GranuleDelegate granule) works = tt
 behind_still s cpu (call.GranuleUndelegate granule) works = tt
-behind_still s cpu (call.DataCreate rd granule ipa source flags digest) works = λ realm. refl
+behind_still s cpu (call.DataCreate rd granule ipa source flags digest) works = λ realm. (refl, refl)
 behind_still s cpu (call.DataCreateUnknown rd granule ipa) works = tt
 behind_still s cpu (call.DataDestroy rd ipa) works = tt
 behind_still s cpu (call.RttCreate rd rtt ipa level) works = tt
@@ -210,26 +231,27 @@ behind_still s cpu (call.RttRemove removal rd ipa level) works = tt
 behind_still s cpu (call.RttMapUnprotected rd ipa page) works = tt
 behind_still s cpu (call.RttReadEntry rd ipa level) works = tt
 behind_still s cpu (call.RttUnmapUnprotected rd ipa) works = tt
-behind_still s cpu (call.RttInitRipas rd base top) works = λ end realm. refl
+behind_still s cpu (call.RttInitRipas rd base top) works = λ end realm. (refl, refl)
 behind_still s cpu _ works = both_ways works refl
 
--- where such a record is put, the realm's state stays
+-- where such a record is put, the realm's is like it was
 put_realm-still : (change : Option RealmChange) → IsStill change → (rd : ℕ) (old : Option RealmRecord)
-    → (unwrap_or (put_realm change rd old) no_realm).state ≡ (unwrap_or old no_realm).state
-put_realm-still None still rd old = refl
+    → IsLike (unwrap_or (put_realm change rd old) no_realm) (unwrap_or old no_realm)
+put_realm-still None still rd old = (refl, refl)
 put_realm-still (Some change) still rd old = by (rd == change.rd) refl
   where
-    by : (b : Bool) → (rd == change.rd) ≡ b
-        → (unwrap_or (put_realm (Some change) rd old) no_realm).state ≡ (unwrap_or old no_realm).state
+    by : (b : Bool) → (rd == change.rd) ≡ b → IsLike (unwrap_or (put_realm (Some change) rd old) no_realm) (unwrap_or old no_realm)
     by true is = rw is (still (unwrap_or old no_realm))
-    by false is = rw is refl
+    by false is = rw is (refl, refl)
 
--- so do all behind such a change
+-- so are all behind such a change
 changed-still : (s : State) (own : Option ℕ) (change : Change) → IsChangeOf own change → IsStill (realm_of_change change)
     → AreStill s (changed s change)
 unfolding realm_at
 changed-still s own change is still rd =
-    ap (λ (t : State). (realm_at t rd).state) (changed-patched s own change is) ∙ put_realm-still (realm_of_change change) still rd (s.realm rd)
+    let same = changed-patched s own change is in
+    let kept = put_realm-still (realm_of_change change) still rd (s.realm rd) in
+    (ap (λ (t : State). (realm_at t rd).state) same ∙ kept.0, ap (λ (t : State). (realm_at t rd).width) same ∙ kept.1)
 
 module _ (s : State) (cpu : ℕ) (command : Command) (given : Reply) (new : State) (works : is_work (call_of command) ≡ true) where
   -- what is behind a work's rows is of its realm, and leaves realms' states
@@ -242,7 +264,7 @@ module _ (s : State) (cpu : ℕ) (command : Command) (given : Reply) (new : Stat
 
   -- by what the work leads to
   still_by : (found : Result Accepted Refusal) → outcome s cpu (call_of command) ≡ found → CarriesOut found s given new → AreStill s new
-  still_by (Err refused) is carried = subst (AreStill s) (sym carried.1) (λ rd. refl)
+  still_by (Err refused) is carried = subst (AreStill s) (sym carried.1) (λ rd. (refl, refl))
   still_by (Ok (Done words change)) is carried =
       let all = leads_still (Done words change) is in
       subst (AreStill s) (sym carried.1) (changed-still s (table_realm (call_of command)) change all.0.0 all.1)

@@ -120,7 +120,7 @@ Passes-from_separate history place lines state line other separate before old ne
     (separate one.called two.called e.command f.command e.given f.given one.is_called one.given two.is_called two.given) first second)
     given
 
--- a line whose call enters a REC or leaves one passes one whose call works beside it
+-- a line whose call changes a REC alone passes one whose call works beside it
 pub Passes-from_entry : (history : History) (place : ℕ) (lines : List Line) (state : State) (line other : Line)
     → IsKept history place lines state → AreBesideLines history.events line other → Passes history place lines state line other
 Passes-from_entry history place lines state line other kept beside =

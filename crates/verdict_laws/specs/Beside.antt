@@ -1,4 +1,4 @@
--- Calls that enter a REC or leave one, beside calls that work on tables or lend granules. This project's own.
+-- Calls that change a REC alone, beside calls that work on tables or lend granules. This project's own.
 use Rattle.std.specs.Prelude.{◌≡◌, ℕ, Bool, true, false, List, Option, Some, None}
 use Rattle.rmm_spec.specs.declared.call.Call.{Call}
 use Rattle.rmm_spec.specs.declared.call.Call.TheVariants as call
@@ -10,10 +10,13 @@ use Rattle.rmm_spec.specs.Call.{call_of}
 use Rattle.rmm_spec.specs.Linearization.{IsCalled, IsReplyOf, cpu_named, number_named}
 use Rattle.verdict_laws.specs.Separate.{works_on}
 
--- whether a call enters a REC, or leaves the one in which its CPU is
+-- whether a call enters a REC, or leaves the one in which its CPU is, or asks something of the host there
 unfoldable pub is_entry : Call → Bool
 is_entry (call.RecEnter rec) = true
 is_entry call.Exit = true
+is_entry (call.IpaStateSet base top ripas) = true
+is_entry (call.HostCall imm) = true
+is_entry call.CpuOff = true
 is_entry _ = false
 
 -- the granule of the REC that it enters, where it does
@@ -36,7 +39,7 @@ is_work (call.RttUnmapUnprotected rd ipa) = true
 is_work (call.RttInitRipas rd base top) = true
 is_work _ = false
 
--- The one call enters a REC or leaves one, and the other works, but not on the REC's granule.
+-- The one call enters a REC, leaves one or asks something there, and the other works, but not on the REC's granule.
 pub record AreBeside (entry work : Call) (answered : Reply) : Type 0 where
   pub enters : is_entry entry ≡ true
   pub works : is_work work ≡ true

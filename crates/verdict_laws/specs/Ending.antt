@@ -1,4 +1,4 @@
--- Calls that end a REC or a realm, behind calls that make others, work on tables or lend granules. This project's own.
+-- Calls that end a REC or a realm, beside calls that make others, work on tables or lend granules, and beside each other. This project's own.
 use Rattle.std.specs.Prelude.{◌≡◌, ℕ, ◌||◌, Bool, true, false, List, Some}
 use Rattle.rmm_spec.specs.declared.call.Call.{Call}
 use Rattle.rmm_spec.specs.declared.call.Call.TheVariants as call

@@ -1,4 +1,4 @@
-//! The laws of calls that enter a REC or leave one, beside calls that work on tables or lend granules.
+//! The laws of calls that change a REC alone, beside calls that work on tables or lend granules.
 
 ghost use Rattle.std.specs.Prelude.{◌≡◌, ℕ, List};
 ghost use Rattle.rmm_spec.specs.declared.command.Command.{Command};
@@ -12,8 +12,8 @@ ghost use Rattle.rmm_spec.specs.Step.{Step};
 ghost use Rattle.verdict_laws.specs.Beside.{AreBeside, AreBesideLines};
 ghost use Rattle.verdict_laws.specs.Forward.{IsKept, Passes};
 
-/// A call that enters a REC or leaves one, and one on another CPU that works, but not on the REC's granule, may as well come the other way round,
-/// whichever came first.
+/// A call that enters a REC, leaves one or asks something of the host there, and one on another CPU that works, but not on the REC's granule, may
+/// as well come the other way round, whichever came first.
 pub fn entries_exchange()
     ensures entry_first { (old middle new : State) (cpu other : ℕ) (one two : Command) (given answered : Reply)
         → IsSound old → ¬ (cpu ≡ other) → AreBeside (call_of one) (call_of two) answered

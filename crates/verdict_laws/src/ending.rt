@@ -1,4 +1,4 @@
-//! The laws of calls that end a REC or a realm, behind calls that make others, work on tables or lend granules.
+//! The laws of calls that end a REC or a realm, beside calls that make others, work on tables or lend granules, and beside each other.
 
 ghost use Rattle.std.specs.Prelude.{◌≡◌, ℕ, true, List};
 ghost use Rattle.rmm_spec.specs.declared.command.Command.{Command};
