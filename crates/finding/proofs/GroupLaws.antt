@@ -233,21 +233,23 @@ module _ (history : History) (begun : Begun) (is_begun : IsBegun history begun) 
   -- by what is found of both CPUs' calls
   Passes-found : (place cpu other : ℕ) (calls : List (Option NextCall)) (one two : Option NextCall) → history.config.cpus ≤ 8
       → AreOpenCalls history begun.front.counts place calls → IsNextFound history begun.front.counts place cpu one
-      → IsNextFound history begun.front.counts place other two → PassesWhere calls (state_of begun.machine) other one two → (lines : List Line) (line later : Line)
+      → IsNextFound history begun.front.counts place other two → PassesWhere calls (state_of begun.machine) other one two
+      → (lines : List Line) (line later : Line)
       → IsKept history place lines (state_of begun.machine) → Holds history begun lines → cpu_named line ≡ cpu → cpu_named later ≡ other
       → Passes history place lines (state_of begun.machine) line later
-  Passes-found place cpu other calls None two few are here there may lines line later kept holds of_cpu of_other before old new are_open earlier given =
-      absurd (not_open place cpu here lines line holds of_cpu (two_open history.events place lines before line later are_open).0)
-  Passes-found place cpu other calls (Some one) None few are here there may lines line later kept holds of_cpu of_other before old new are_open earlier
+  Passes-found place cpu other calls None two few are here there may lines line later kept holds of_cpu of_other before old new are_open earlier
       given =
+      absurd (not_open place cpu here lines line holds of_cpu (two_open history.events place lines before line later are_open).0)
+  Passes-found place cpu other calls (Some one) None few are here there may lines line later kept holds of_cpu of_other before old new are_open
+      earlier given =
       absurd (not_open place other there lines later holds of_other (two_open history.events place lines before line later are_open).1)
   Passes-found place cpu other calls (Some one) (Some two) few are here there may lines line later kept holds of_cpu of_other before old new are_open
       earlier is =
       let opened = two_open history.events place lines before line later are_open in
       let passes : Passes history place lines (state_of begun.machine) line later = elim may [
         | inl passes ↦ Passes-may place cpu other one two here there lines line later kept holds of_cpu of_other opened passes
-        | inr ends ↦ Passes-last place cpu other one two here there lines line later kept holds of_cpu of_other opened ends.later ends.done ends.done_too
-            (IsLeftAlone-found place other calls two few are there ends.whole ends.alone lines later holds of_other opened.1.next)
+        | inr ends ↦ Passes-last place cpu other one two here there lines line later kept holds of_cpu of_other opened ends.later ends.done
+            ends.done_too (IsLeftAlone-found place other calls two few are there ends.whole ends.alone lines later holds of_other opened.1.next)
       ] in
       passes before old new are_open earlier is
 

@@ -32,8 +32,8 @@ pub(crate) fn ends_apart(one: &NextCall<'_>, two: &NextCall<'_>) -> bool
     !names_any(&one.call, &two.call)
 }
 
-/// Whether both are carried out, and the one ends a REC or a realm which the other doesn't name: this makes something, works, lends or ends something,
-/// takes no VMID where the first gives one back, and ends no realm where that ends a REC.
+/// Whether both are carried out, and the one ends a REC or a realm which the other doesn't name: this makes something, works, lends or ends
+/// something, takes no VMID where the first gives one back, and ends no realm where that ends a REC.
 pub(crate) fn ends_later(one: &NextCall<'_>, two: &NextCall<'_>) -> bool
     ensures later { IsTrue result → EndsLater one.now.call two.now.call }
     ensures done { IsTrue result → IsCarriedOut one.now }

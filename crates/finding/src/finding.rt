@@ -136,7 +136,7 @@ fn look<W: Watch>(
     }
 }
 
-/// There is none, since the events up to a suspected return have none: the return that is named is at that place or at an earlier one, from `place` on.
+/// There is none, since the events up to a suspected return have none: the return that is named is there or at an earlier place, from `place` on.
 fn found_none_up_to<W: Watch>(
     alloc: Global,
     offers: &mut Offers,

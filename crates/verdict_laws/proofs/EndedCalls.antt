@@ -90,7 +90,8 @@ module _ (old middle new : State) (cpu other : ℕ) (one two : Command) (given a
       → ((vmid : ℕ) → taken_vmid (call_of two) ≡ Some vmid
       → is_vmid_used (ended old ending.patch ending.rec) vmid ≡ is_vmid_used old vmid)
       → ((between : State) → Step old other two answered between → (making : Change) → CanApply old making
-      → IsMadeIn (works_on (call_of two) answered) (own_realm (call_of two)) making → outcome (made old making) cpu (call_of one) ≡ outcome old cpu (call_of one))
+      → IsMadeIn (works_on (call_of two) answered) (own_realm (call_of two)) making
+      → outcome (made old making) cpu (call_of one) ≡ outcome old cpu (call_of one))
       → Turned
   change_turned change ending is carried untaken still =
       let c = call_of two in
@@ -154,7 +155,8 @@ module _ (old middle new : State) (cpu other : ℕ) (one two : Command) (given a
       (λ between earlier making can is_made.
       ap (outcome (made old making) cpu) is_call
       ∙ outcome-agree_rec old (made old making) cpu rec
-      (agree_at rec (ap is_part ends.tag) (λ waits. let bad : Rec ≡ Delegated = sym ends.tag ∙ waits in cc) unnamed between earlier making can is_made)
+      (agree_at rec (ap is_part ends.tag) (λ waits. let bad : Rec ≡ Delegated = sym ends.tag ∙ waits in cc) unnamed between earlier making can
+      is_made)
       ∙ sym (ap (outcome old cpu) is_call))
 
   -- the end of a realm

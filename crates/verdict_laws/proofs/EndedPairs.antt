@@ -38,8 +38,8 @@ change_of (Ok (Done words change)) = change
 change_of _ = Unchanged
 
 -- what an ending puts leaves what another reads
-AgreeAt-ended : (mine own : ℕ → Bool) (s : State) (cpu here : ℕ) (change : Change) (ending : IsEnding mine own s cpu change) → mine here ≡ true → own here ≡ true
-    → AgreeAt cpu here s (ended s ending.patch ending.rec)
+AgreeAt-ended : (mine own : ℕ → Bool) (s : State) (cpu here : ℕ) (change : Change) (ending : IsEnding mine own s cpu change)
+    → mine here ≡ true → own here ≡ true → AgreeAt cpu here s (ended s ending.patch ending.rec)
 AgreeAt-ended mine own s cpu here changes ending is is_own =
     let apart = ending.apart here is in
     let other = ending.others here is_own in
@@ -181,7 +181,8 @@ module _ (old middle new : State) (cpu other : ℕ) (one two : Command) (given a
     between,
     subst (λ (r : Result Accepted Refusal). CarriesOut r old answered between) (sym second_there.does) (second_carried.0, refl),
     subst (λ (s : State). Step between cpu one given s) (sym is_new)
-        (subst (λ (r : Result Accepted Refusal). CarriesOut r between given (changed between first_end.change)) (sym same_behind) (first_carried.0, refl)),
+        (subst (λ (r : Result Accepted Refusal). CarriesOut r between given (changed between first_end.change)) (sym same_behind)
+        (first_carried.0, refl)),
   )
 
 -- a call that ends something comes behind one that makes something, is local or ends something too

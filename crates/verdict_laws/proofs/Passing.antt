@@ -162,8 +162,9 @@ last_elsewhere cpu before line other none same =
     let sum = count_of-append cpu before (line ∷ other ∷ []) in omega (arith, sum, none) in
     keys_apart (cpu_named other) cpu (count_of-none cpu other [] (count_of-none cpu line (other ∷ []) both).1).0 (sym same)
 
-module _ (events : List Event) (place : ℕ) (lines : List Line) (state : State) (line other : Line) (alone : IsLeftAlone events place lines state other)
-    (called : ℕ) (command : Command) (is_called : IsCalled events called (cpu_named other) (number_named other) command)
+module _ (events : List Event) (place : ℕ) (lines : List Line) (state : State) (line other : Line)
+    (alone : IsLeftAlone events place lines state other) (called : ℕ) (command : Command)
+    (is_called : IsCalled events called (cpu_named other) (number_named other) command)
     (granule : ℕ) (is : is_named (named (call_of command)) granule ≡ true) where
   -- open calls of other CPUs leave the tag of what the call names
   tag_stays : (before : List Line) (entries : List JournalEntry) (old new : State) → IsSound old

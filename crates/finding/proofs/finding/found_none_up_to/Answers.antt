@@ -5,7 +5,8 @@ use Rattle.finding.proofs.finding.found_none_up_to.Goals as goal
 pub returns : goal.returns
 returns g c = (
   λ lines valid.
-      let part = c.first_parts_have_orders-law.ensures c.args.history.now.recorded (c.args.suspect.place + 1) lines c.well_formed-fact.ensures valid in
+      let history = c.args.history.now.recorded in
+      let part = c.first_parts_have_orders-law.ensures history (c.args.suspect.place + 1) lines c.well_formed-fact.ensures valid in
       c.requires part.0 part.1,
   c.in_ok-named.ensures,
 )
