@@ -20,11 +20,11 @@ use Rattle.rmm_laws.proofs.Entries.{value_there}
 use Rattle.world_laws.proofs.Locals.{unchanged-is_local, step-is_local}
 use Rattle.spec_lemmas.proofs.Maps.{put-same}
 use Rattle.world_laws.proofs.Refusals.{Step-refused}
-use Rattle.shape_laws.specs.Whole.{IsShaped, cells_changed, side_changed, side_without_vmid, side_without_rec, places_changed, places_of_rec, places_with_rec_change, table_changed, whole_changed}
-use Rattle.cell_changes.specs.Changes.{cells_made, table_found}
-use Rattle.cell_changes.specs.MadeLaws.{cells_made-changed}
-use Rattle.shape_laws.proofs.Accepted.{done-keeps_shape}
-use Rattle.shape_laws.proofs.Cells.{cell-rec}
+use Rattle.rmm_laws.specs.Whole.{IsShaped, cells_changed, side_changed, side_without_vmid, side_without_rec, places_changed, places_of_rec, places_with_rec_change, table_changed, whole_changed}
+use Rattle.granule_cells.specs.Changes.{cells_made, table_found}
+use Rattle.granule_cells.specs.MadeLaws.{cells_made-changed}
+use Rattle.rmm_laws.proofs.Accepted.{done-keeps_shape}
+use Rattle.rmm_laws.proofs.Cells.{cell-rec}
 use Rattle.command_core.specs.Seen.{known_cell}
 use Rattle.command_core.specs.Changed.{place_with_rec, place_with_rec_change, new_place, hold_changed, table_touched, HoldsTables, IsOnCpu, CanChange, CanAnswer, Answers, IsFurthest, given_of}
 use Rattle.world_laws.specs.TableCells.{is_moved, holds_page, holds_realm, holds_rec, holds_change}

@@ -25,10 +25,10 @@ use Rattle.rmm_spec.specs.declared.change.RecChange.{RecChange}
 use Rattle.rmm_spec.specs.Sound.{IsTableOf}
 use Rattle.rmm_spec.specs.Walk.{table_size}
 use Rattle.rmm_laws.proofs.Spaces.{space_cases}
-use Rattle.shape_laws.specs.Whole.{table_changed}
+use Rattle.rmm_laws.specs.Whole.{table_changed}
 use Rattle.world_laws.specs.TableCells.{is_moved, holds_page, holds_realm, holds_rec, holds_change}
 use Rattle.command_core.specs.Seen.{known_cell}
-use Rattle.cell_changes.specs.Changes.{fits_entries, is_plain}
+use Rattle.granule_cells.specs.Changes.{fits_entries, is_plain}
 use Rattle.command_core.specs.Changed.{counts_in, is_realm_update, fits_realm, is_rec_update, fits_rec, fits_realm_change, fits_rec_change, fits_cells, can_count, CanMake, CanChange, fits_page}
 use Rattle.command_core.proofs.Wholes.{Whole, state, same_at, few_recs, realm_at-cell, rec_at-cell}
 

@@ -8,10 +8,10 @@ use Rattle.arrayvec.proofs.ArrayVecLemmas.{items-with_items}
 use Rattle.rmm_spec.specs.Cell as whole
 use Rattle.rmm_spec.specs.Cell.{put}
 use Rattle.spec_lemmas.proofs.Maps.{put-same}
-use Rattle.shape_laws.specs.Whole.{changed_at}
-use Rattle.cell_changes.specs.declared.cell_change.CellChange.{CellChange}
-use Rattle.cell_changes.specs.declared.cell_change.CellChange.TheVariants.{Realm, Rec, Entries}
-use Rattle.cell_changes.specs.OneCell.{cell_changed}
+use Rattle.rmm_laws.specs.Whole.{changed_at}
+use Rattle.granule_cells.specs.declared.cell_change.CellChange.{CellChange}
+use Rattle.granule_cells.specs.declared.cell_change.CellChange.TheVariants.{Realm, Rec, Entries}
+use Rattle.granule_cells.specs.OneCell.{cell_changed}
 use Rattle.granule_cells.specs.declared.cell.Cell.{Cell}
 use Rattle.command_core.specs.declared.held_pairs.HeldPairs.{HeldPairs}
 use Rattle.command_core.specs.Pairs.{granules_held-paired, pair_cells, paired}

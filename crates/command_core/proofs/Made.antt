@@ -4,8 +4,8 @@ use Rattle.rmm_spec.specs.Rows.{ok, reply_of}
 use Rattle.rmm_spec.specs.Step.{CarriesOut, outcome}
 use Rattle.rmm_spec.specs.Local.{LocalStep, put_all}
 use Rattle.rmm_laws.proofs.Runs.{done_applies}
-use Rattle.shape_laws.specs.Whole.{side_changed}
-use Rattle.shape_laws.proofs.Ties.{well_shaped-is_sound}
+use Rattle.rmm_laws.specs.Whole.{side_changed}
+use Rattle.rmm_laws.proofs.ShapeTies.{well_shaped-is_sound}
 use Rattle.command_core.specs.Changed.{new_place, CanAnswer}
 use Rattle.command_core.specs.Decided.{made_answer}
 use Rattle.command_core.proofs.Changes.{is_answer}

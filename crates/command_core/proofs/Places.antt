@@ -13,10 +13,10 @@ use Rattle.rmm_spec.specs.Walk.{table_size}
 use Rattle.lemmas.proofs.Tests.{both_ways}
 use Rattle.rmm_laws.proofs.Spaces.{unscaled_le}
 use Rattle.rtt_table.specs.Shaped.{IsShaped}
-use Rattle.shape_laws.specs.Whole.{width_in}
-use Rattle.shape_laws.proofs.Cells.{cell-table}
+use Rattle.rmm_laws.specs.Whole.{width_in}
+use Rattle.rmm_laws.proofs.Cells.{cell-table}
 use Rattle.world_laws.proofs.Found.{placed-holds}
-use Rattle.cell_changes.specs.PlaceLaws.{shaped-below, shaped-small}
+use Rattle.granule_cells.specs.PlaceLaws.{shaped-below, shaped-small}
 use Rattle.command_core.specs.Seen.{known_cell}
 
 -- ---- one place

@@ -19,8 +19,8 @@ use Rattle.rmm_spec.specs.Walk.{table_size}
 use Rattle.spec_lemmas.proofs.Maps.{put-elsewhere}
 use Rattle.spec_lemmas.proofs.Members.{Contains-head, Contains-tail}
 use Rattle.realm_desc.specs.Updates.{IsRecUpdate}
-use Rattle.cell_changes.specs.Changes.{CanPutAll, CanUpdate, FitsCells, cells_made, fits_entries, granules_changed, granules_put, is_plain, page_put, rec_changed, realm_changed, table_at}
-use Rattle.cell_changes.specs.MadeLaws.{AgreeOn, IsApart, all-parts, cells_made-agree, cells_made-apart}
+use Rattle.granule_cells.specs.Changes.{CanPutAll, CanUpdate, FitsCells, cells_made, fits_entries, granules_changed, granules_put, is_plain, page_put, rec_changed, realm_changed, table_at}
+use Rattle.granule_cells.specs.MadeLaws.{AgreeOn, IsApart, all-parts, cells_made-agree, cells_made-apart}
 use Rattle.world_laws.specs.Held.{known_cell}
 use Rattle.world_laws.specs.TableCells.{holds_change}
 use Rattle.world_laws.proofs.AllHeld.{put_all-listed}
@@ -29,7 +29,7 @@ use Rattle.command_core.specs.Changed.{AreHeld, counts_in, fits_cells, fits_page
 use Rattle.command_core.proofs.SeenCells.{is_held-replaced_cells}
 use Rattle.rmm_spec.specs.Table.{TableRecord}
 use Rattle.rtt_table.specs.Shaped.{IsShaped}
-use Rattle.shape_laws.specs.Whole.{width_in}
+use Rattle.rmm_laws.specs.Whole.{width_in}
 use Rattle.command_core.proofs.Places.{made-shaped}
 
 -- ---- what is known of cells that are replaced

@@ -17,10 +17,10 @@ use Rattle.rmm_spec.specs.Local.{LocalStep}
 use Rattle.rmm_laws.proofs.Entries.{value_there}
 use Rattle.rmm_laws.proofs.Runs.{reached_applies}
 use Rattle.world_laws.proofs.Refusals.{outcome-host}
-use Rattle.shape_laws.specs.Whole.{table_changed}
-use Rattle.shape_laws.proofs.Accepted.{reached-keeps_shape}
-use Rattle.cell_changes.specs.Changes.{page_put, realm_changed, rec_changed, table_at}
-use Rattle.shape_laws.proofs.Ties.{well_shaped-is_sound}
+use Rattle.rmm_laws.specs.Whole.{table_changed}
+use Rattle.rmm_laws.proofs.Accepted.{reached-keeps_shape}
+use Rattle.granule_cells.specs.Changes.{page_put, realm_changed, rec_changed, table_at}
+use Rattle.rmm_laws.proofs.ShapeTies.{well_shaped-is_sound}
 use Rattle.command_rows.specs.Answers.{IsOwned}
 use Rattle.world_laws.specs.TableCells.{holds_change, holds_page, holds_realm, holds_rec, is_moved}
 use Rattle.world_laws.specs.Walking.{Way, keeps_realm, are_told, is_table_error, is_refused_early, seen_answer, is_way_settled}

@@ -7,7 +7,7 @@ use Rattle.rmm_spec.specs.Cell.{Cell, rec_in, realms_of, recs_of}
 use Rattle.rmm_spec.specs.Shape.{CpuPlace, IsWellShaped, count_below}
 use Rattle.rmm_spec.specs.Local.{Agrees}
 use Rattle.spec_lemmas.proofs.Placed.{passing_below, any_below-from, running, runs_on-running, cell_is_granule, cell_granule, rec_granule}
-use Rattle.shape_laws.proofs.Cells.{cell-rec}
+use Rattle.rmm_laws.proofs.Cells.{cell-rec}
 use Rattle.world_laws.proofs.Wholes as walks
 use Rattle.command_core.specs.Seen.{known_cell}
 use Rattle.command_core.proofs.Searches.{greatest_below-one, any_below-counted}

@@ -35,8 +35,8 @@ use Rattle.rmm_spec.specs.Cell.{Cell, Rd, Rec}
 use Rattle.rmm_spec.specs.Shape.{Side, CpuPlace, Outside, Inside, IsWellShaped}
 use Rattle.rmm_spec.specs.Local.{HeldCell, Hold, Agrees, LocalStep}
 use Rattle.world_laws.specs.Replaced.{held_at, replaced_all}
-use Rattle.shape_laws.specs.Whole.{side_changed}
-use Rattle.cell_changes.specs.Changes.{cells_made, fits_entries, granules_changed, is_plain, table_found}
+use Rattle.rmm_laws.specs.Whole.{side_changed}
+use Rattle.granule_cells.specs.Changes.{cells_made, fits_entries, granules_changed, is_plain, table_found}
 use Rattle.command_core.specs.Seen.{is_held, known_cell}
 
 -- ---- cells

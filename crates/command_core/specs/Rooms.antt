@@ -1,2 +1,2 @@
 -- The memory that a change needs.
-pub use Rattle.cell_changes.specs.Rooms.{HasNoMore, IsRoomFor, makes_table}
+pub use Rattle.granule_cells.specs.Rooms.{HasNoMore, IsRoomFor, makes_table}

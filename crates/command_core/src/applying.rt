@@ -5,7 +5,7 @@ ghost use Rattle.rmm_spec.specs.Cell as whole;
 ghost use Rattle.rtt_table.specs.Shaped.{IsShaped};
 ghost use Rattle.world_laws.specs.Replaced.{replaced_all};
 ghost use Rattle.world_laws.specs.SeenState.{table_held};
-ghost use Rattle.shape_laws.specs.Whole.{side_changed};
+ghost use Rattle.rmm_laws.specs.Whole.{side_changed};
 ghost use Rattle.rmm_spec.specs.declared.version.Version.TheVariants.{Large};
 ghost use Rattle.rmm_spec.specs.HistoryText.{granule_limit};
 ghost use Rattle.command_core.specs.Changed as spec;
@@ -17,8 +17,7 @@ ghost use Rattle.command_core.specs.Sides.{side_of};
 
 use crate::held_pairs::HeldPairs;
 use crate::held_tables::{placed, stands_well};
-use cell_changes::{Room, table_changed};
-use granule_cells::{Cell, CpuPlace, Side};
+use granule_cells::{Cell, CpuPlace, Room, Side, table_changed};
 use memory_map::Pa;
 use rmm_spec::{Change, RecChange, RecUpdate};
 
@@ -51,7 +50,7 @@ pub fn apply_held(held: &mut HeldPairs, place: &mut CpuPlace, change: &Change, r
 {
     *place = place_after(held, *place, change);
     let at = table_touched(held, change);
-    cell_changes::apply(held, change, at, room);
+    granule_cells::apply(held, change, at, room);
 }
 
 // The granule of the table whose entries the change changes, where it is held.
@@ -100,7 +99,7 @@ fn place_with_rec(cell: Option<&Cell>, place: CpuPlace, change: &RecChange) -> C
 }
 
 /// Makes the change of the side table: of the VMIDs where a realm is made or destroyed, of the counts where a REC is.
-#[tactic(auto, unfolding(shape_laws::specs::Whole::side_changed, realm_desc::specs::View::realm_record, realm_desc::specs::View::rec_record))]
+#[tactic(auto, unfolding(rmm_laws::specs::Whole::side_changed, realm_desc::specs::View::realm_record, realm_desc::specs::View::rec_record))]
 pub fn apply_aside(held: &HeldPairs, side: &mut Side, change: &Change)
     requires { IsTrue (can_count (granule_limit Large) (side_of side.old) change.now) }
     ensures { side_of side.new ≡ side_changed (known_cell (pair_cells held.now)) (side_of side.old) change.now }

@@ -1,8 +1,7 @@
 //! Held cells as what a change is made of.
 
 use crate::held_pairs::HeldPairs;
-use cell_changes::{CellChange, CellStore, CellView, change_cell};
-use granule_cells::Cell;
+use granule_cells::{Cell, CellChange, CellStore, CellView, change_cell};
 use memory_map::Pa;
 
 impl CellStore for HeldPairs {

@@ -17,7 +17,7 @@ ghost use Rattle.rmm_spec.specs.Shape.{CpuPlace, IsWellShaped};
 ghost use Rattle.rmm_spec.specs.Local.{HeldCell, Hold, granules_held, Agrees, LocalStep};
 ghost use Rattle.rmm_spec.specs.Locks.{IsRisingTake};
 ghost use Rattle.world_laws.specs.Replaced.{replaced_all};
-ghost use Rattle.shape_laws.specs.Whole.{side_changed};
+ghost use Rattle.rmm_laws.specs.Whole.{side_changed};
 ghost use Rattle.command_core.specs.Seen.{are_distinct, known_cell};
 ghost use Rattle.command_core.specs.Changed.{CanAnswer, Answers, Decides, new_cells, new_place};
 ghost use Rattle.command_core.specs.Named.{is_upward, is_downward};

@@ -27,9 +27,8 @@ mod ways;
 
 pub use applying::{apply, apply_aside, apply_held};
 pub use bearing_out::bears_out;
-pub use cell_changes::{Room, room_for};
 pub use deciding::{answer, decide, foresee};
-pub use granule_cells::{Cell, CpuPlace, Descriptor, Side};
+pub use granule_cells::{Cell, CpuPlace, Descriptor, Room, Side, room_for};
 pub use held_pairs::HeldPairs;
 pub use laws::{
     answers_are_local, applied_decisions_are_local, settled_commands_are_ready, tested_takes_rise,

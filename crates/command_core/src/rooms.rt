@@ -1,11 +1,10 @@
 //! The memory that a change needs, taken before it.
 
 ghost use Rattle.std.specs.Prelude.{◌≡◌, IfOk, OnErr, IsTrue};
-ghost use Rattle.cell_changes.specs.Rooms.{IsRoomFor, HasNoMore, makes_table};
+ghost use Rattle.granule_cells.specs.Rooms.{IsRoomFor, HasNoMore, makes_table};
 ghost use Rattle.command_core.specs.Sides.{side_of};
 
-use cell_changes::{Room, room_for};
-use granule_cells::Side;
+use granule_cells::{Room, Side, room_for};
 use rmm_spec::Change;
 use std::alloc::{AllocError, Global};
 

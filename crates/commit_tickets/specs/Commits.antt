@@ -5,7 +5,7 @@ use Rattle.rmm_spec.specs.HistoryText.{Config}
 use Rattle.rmm_spec.specs.Local.{HeldCell, LocalStep}
 use Rattle.rmm_spec.specs.Run.{IsRun}
 use Rattle.rmm_spec.specs.State.{State, opening}
-use Rattle.shape_laws.specs.Whole.{side_changed}
+use Rattle.rmm_laws.specs.Whole.{side_changed}
 use Rattle.command_core.specs.Changed.{given_of}
 use Rattle.command_core.specs.Foreseen.{change_of}
 use Rattle.command_core.specs.Seen.{known_cell}

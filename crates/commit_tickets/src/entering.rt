@@ -2,7 +2,7 @@
 
 ghost use Rattle.std.specs.Prelude.{◌≡◌, ◌+◌, ◌<◌, ◌≤◌, [], ◌∷◌, ◌++◌, length, None, Err, IsTrue, IfOk, IfErr, OnOk, OnErr};
 ghost use Rattle.rmm_spec.specs.Call.{call_of};
-ghost use Rattle.shape_laws.specs.Whole.{side_changed};
+ghost use Rattle.rmm_laws.specs.Whole.{side_changed};
 ghost use Rattle.rmm_spec.specs.declared.version.Version.TheVariants.{Large};
 ghost use Rattle.rmm_spec.specs.HistoryText.{granule_limit};
 ghost use Rattle.command_core.specs.Changed.{can_count, given_of};

@@ -11,10 +11,10 @@ use crate::words::walks;
 use anyhow::{Result, bail};
 use arrayvec::ArrayVec;
 use memory_map::Config;
+use reasons::owner_report;
 use rmm_spec::{Accepted, Command, FunctionId, Reply, Stretch};
 use spec_machine::Machine;
 use std::alloc::Global;
-use told::owner_report;
 
 /// One of so many commands is taken as it is drawn.
 const UNCHECKED: u64 = 12;

@@ -8,8 +8,8 @@ use crate::words::{drawn_place, drawn_word};
 use arrayvec::ArrayVec;
 use command_words::{Name, named};
 use memory_map::GRANULE_BYTES;
+use reasons::OwnerRow;
 use rmm_spec::{Call, Command, FunctionId, Tag};
-use told::OwnerRow;
 
 /// How often a granule is drawn before one with another tag does.
 const GRANULE_DRAWS: u32 = 16;

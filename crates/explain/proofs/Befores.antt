@@ -6,11 +6,11 @@ use Rattle.std.proofs.lemmas.Option.{none-some}
 use Rattle.rmm_spec.specs.declared.tag.Tag.{Tag}
 use Rattle.rmm_spec.specs.Lookup.{is_granule}
 use Rattle.rmm_spec.specs.Ownership.{IsTied}
-use Rattle.told.specs.declared.owner_rows.OwnerRow.{OwnerRow}
-use Rattle.told.specs.Report.{AddsOwners, IsOwnerOf}
+use Rattle.reasons.specs.declared.owner_rows.OwnerRow.{OwnerRow}
+use Rattle.reasons.specs.Report.{AddsOwners, IsOwnerOf}
 use Rattle.explain.proofs.Owners.{is_row-owner_rows}
 use Rattle.rmm_spec.specs.Rows.{Needed}
-use Rattle.told.specs.declared.before.GranuleBefore.{GranuleBefore}
+use Rattle.reasons.specs.declared.before.GranuleBefore.{GranuleBefore}
 use Rattle.explain.specs.Before.{AreGranulesBefore, IsGranuleBefore}
 use Rattle.explain.specs.Facts.{IsFound}
 

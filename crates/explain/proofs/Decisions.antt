@@ -11,14 +11,14 @@ use Rattle.rmm_spec.specs.Call.{call_of}
 use Rattle.rmm_spec.specs.Change.{changed}
 use Rattle.rmm_spec.specs.Lookup.{rec_inside}
 use Rattle.rmm_spec.specs.Step.{CarriesOut, Step, outcome}
-use Rattle.conditions.specs.declared.test.Test.{Test}
-use Rattle.conditions.specs.Law.{IsFirst, IsOfWords, first_failing, refused_for}
-use Rattle.conditions.specs.Lists.{conditions}
-use Rattle.conditions.specs.Tests.{passes, stands}
-use Rattle.conditions.proofs.First.{fails-first, first_failing-first}
-use Rattle.conditions.proofs.Rows.{refused_for-outcome}
-use Rattle.told.specs.declared.explanation.Deciding.{Deciding}
-use Rattle.told.specs.declared.explanation.Deciding.TheVariants as deciding
+use Rattle.reasons.specs.declared.test.Test.{Test}
+use Rattle.reasons.specs.Law.{IsFirst, IsOfWords, first_failing, refused_for}
+use Rattle.reasons.specs.Lists.{conditions}
+use Rattle.reasons.specs.Tests.{passes, stands}
+use Rattle.reasons.proofs.First.{fails-first, first_failing-first}
+use Rattle.reasons.proofs.Rows.{refused_for-outcome}
+use Rattle.reasons.specs.declared.explanation.Deciding.{Deciding}
+use Rattle.reasons.specs.declared.explanation.Deciding.TheVariants as deciding
 use Rattle.explain.specs.declared.watch.Watch.{Watch}
 use Rattle.explain.specs.declared.watch.Watch.TheVariants as watch
 use Rattle.explain.specs.Deciding.{IsApart, IsConditionOf, IsDecision, IsFailing}

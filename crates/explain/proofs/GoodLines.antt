@@ -4,13 +4,13 @@ use Rattle.std.proofs.Common.{◌-◌, map, lit≤}
 use Rattle.std.specs.List.{take-map}
 use Rattle.std.proofs.lemmas.List.{append-nil, append_cancel_left, length-append, length-map, length-take, map_push}
 use Rattle.std.proofs.lemmas.List.Splits.{join_with_byte-slice_split}
-use Rattle.told.specs.Wrong.{IsCertificateLine}
+use Rattle.reasons.specs.Wrong.{IsCertificateLine}
 use Rattle.spec_lemmas.proofs.CertificateLines.{line_parts-one_line}
 use Rattle.spec_lemmas.proofs.Lines.{first_lines-line, first_lines-take, lines_text-push, same_lines}
 use Rattle.spec_lemmas.proofs.Texts.{AllByRecursion-append}
 use Rattle.rmm_spec.specs.CertificateText.{InCertificates, IsLine, certificate_text, line_parts}
 use Rattle.rmm_spec.specs.Text.{HasNoNewline, IsBadLine, first_lines, line_text, lines_text, parts_of}
-use Rattle.told.specs.declared.flaw.Misplaced.TheVariants as misplaced
+use Rattle.reasons.specs.declared.flaw.Misplaced.TheVariants as misplaced
 use Rattle.explain.proofs.TextLines.{first_lines-again, first_lines-next, not-HasNoNewline}
 use Rattle.explain.specs.Explained.{IsLineIn, IsMisplaced}
 

@@ -3,7 +3,7 @@ use Rattle.explain.proofs.Common.{◌+◌, ◌<◌, ◌≡◌, Bool, Command, Ev
 use Rattle.std.specs.Prelude.{◌&&◌, IfNone, IfOk, IfSome, MatchOption, Result, Ok, Err, not}
 use Rattle.rmm_spec.specs.Linearization.{IsOfItsKind, IsReplyOf, IsReturned, ReturnsBefore}
 use Rattle.rmm_spec.specs.Step.{Step}
-use Rattle.conditions.specs.declared.test.Test.{Test}
+use Rattle.reasons.specs.declared.test.Test.{Test}
 use Rattle.spec_lemmas.proofs.Calls.{same_command, same_reply}
 use Rattle.checker.proofs.Judging.{HasOnePlaces-from_history}
 use Rattle.explain.specs.Late.{holds, IsMoved, Moves, Overlap, TakesLine}

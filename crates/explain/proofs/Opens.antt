@@ -1,7 +1,7 @@
 -- Calls that never returned, place by place.
 use Rattle.explain.proofs.Common.{◌++◌, ◌+◌, ◌∷◌, ◌≡◌, Command, Event, IsCalled, Line, List, [], arith, inl, inr, subst, suc, ℕ}
 use Rattle.rmm_spec.specs.Linearization.{IsFinished}
-use Rattle.told.specs.declared.named_call.UnfinishedCall.{UnfinishedCall}
+use Rattle.reasons.specs.declared.named_call.UnfinishedCall.{UnfinishedCall}
 use Rattle.explain.specs.Unfinished.{AreUnfinished, IsUnfinished}
 
 next_place : (place : ℕ) → suc place ≡ place + 1

@@ -5,8 +5,8 @@ use Rattle.std.proofs.lemmas.Bool.{false_from_ne_true}
 use Rattle.std.proofs.lemmas.List.{length-append}
 use Rattle.std.proofs.lemmas.Option.{none-some, same_Some}
 use Rattle.rmm_spec.specs.Lookup.{is_granule}
-use Rattle.told.specs.declared.owner_rows.OwnerRow.{OwnerRow}
-use Rattle.told.specs.Report.{AddsOwners, owner_rows}
+use Rattle.reasons.specs.declared.owner_rows.OwnerRow.{OwnerRow}
+use Rattle.reasons.specs.Report.{AddsOwners, owner_rows}
 use Rattle.spec_machine.proofs.Kept.{granule_placed, place_within, place-granule}
 use Rattle.lemmas.proofs.Elements.{slice_get-append, slice_get-push}
 

@@ -1,8 +1,8 @@
 -- What a loop over numbers, or over the granules of a report, has found so far.
 use Rattle.explain.proofs.Common.{◌*◌, ◌+◌, ◌∙◌, ◌≡◌, ◌≤◌, Bool, List, Some, State, [], ap, arith, false, length, refl, slice_get, subst, suc, sym, ℕ}
 use Rattle.rmm_spec.specs.Lookup.{any_below}
-use Rattle.told.specs.declared.owner_rows.OwnerRow.{OwnerRow}
-use Rattle.told.specs.Report.{AddsOwners}
+use Rattle.reasons.specs.declared.owner_rows.OwnerRow.{OwnerRow}
+use Rattle.reasons.specs.Report.{AddsOwners}
 use Rattle.explain.proofs.Owners.{is_row-owner_rows, length-owner_rows}
 
 -- none passes, with one more that doesn't

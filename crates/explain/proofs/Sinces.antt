@@ -3,8 +3,8 @@ use Rattle.explain.proofs.Common.{◌+◌, ◌<◌, ◌∙◌, ◌≡◌, ◌≤
 use Rattle.std.proofs.Common.{◌≢◌, not, ◌||◌}
 use Rattle.std.specs.Prelude.{IfNone, IfSome}
 use Rattle.std.proofs.lemmas.Bool.{and_parts, both_ways}
-use Rattle.conditions.specs.Tests.{stands}
-use Rattle.told.specs.declared.named_call.EarlierStep.{EarlierStep}
+use Rattle.reasons.specs.Tests.{stands}
+use Rattle.reasons.specs.declared.named_call.EarlierStep.{EarlierStep}
 use Rattle.explain.specs.declared.track.Track.{Track}
 use Rattle.explain.specs.declared.watch.Watch.{Watch}
 use Rattle.explain.specs.declared.watch.Watch.TheVariants as watch

@@ -19,8 +19,8 @@ use Rattle.rmm_spec.specs.Step.Terms.{Class, ByHost, ByRealm, ByExit, class_of, 
 use Rattle.spec_lemmas.proofs.Behind.{behind}
 use Rattle.rmm_laws.proofs.RowLaws.{front-rest, outcome-leads}
 use Rattle.rmm_laws.proofs.Applies.{inside_running}
-use Rattle.conditions.specs.declared.source.Source.TheVariants as source
-use Rattle.conditions.specs.Reading.{read, request_read}
+use Rattle.reasons.specs.declared.source.Source.TheVariants as source
+use Rattle.reasons.specs.Reading.{read, request_read}
 use Rattle.explain.specs.Deciding.{words_source}
 
 -- one of the words that are read, and 0 where there are fewer

@@ -8,12 +8,12 @@ use Rattle.rmm_spec.specs.State.{State, RealmRecord, RecRecord}
 use Rattle.rmm_spec.specs.Step.Terms.{Way, named, way_of}
 use Rattle.rmm_spec.specs.Walk.{entry_for}
 use Rattle.realm_desc.specs.View.{pending_of}
-use Rattle.told.specs.declared.before.GranuleBefore.{GranuleBefore}
-use Rattle.told.specs.declared.before.RealmBefore.{RealmBefore}
-use Rattle.told.specs.declared.before.RecBefore.{RecBefore}
-use Rattle.told.specs.declared.before.StateBefore.{StateBefore}
-use Rattle.told.specs.declared.before.WalkBefore.{WalkBefore}
-use Rattle.told.specs.declared.facts.EntryRead.{EntryRead}
+use Rattle.reasons.specs.declared.before.GranuleBefore.{GranuleBefore}
+use Rattle.reasons.specs.declared.before.RealmBefore.{RealmBefore}
+use Rattle.reasons.specs.declared.before.RecBefore.{RecBefore}
+use Rattle.reasons.specs.declared.before.StateBefore.{StateBefore}
+use Rattle.reasons.specs.declared.before.WalkBefore.{WalkBefore}
+use Rattle.reasons.specs.declared.facts.EntryRead.{EntryRead}
 use Rattle.explain.specs.Facts.{IsFound, entry_seen}
 
 -- a granule's tag, and the realm to which the state ties it, if it does

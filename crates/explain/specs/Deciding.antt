@@ -12,15 +12,15 @@ use Rattle.rmm_spec.specs.declared.reply.Reply.TheVariants as reply
 use Rattle.rmm_spec.specs.Call.{call_of}
 use Rattle.rmm_spec.specs.Lookup.{rec_at, rec_inside}
 use Rattle.rmm_spec.specs.State.{State}
-use Rattle.conditions.specs.declared.source.Source.{Source}
-use Rattle.conditions.specs.declared.source.Source.TheVariants as source
-use Rattle.conditions.specs.declared.test.Test.{Test}
-use Rattle.conditions.specs.Law.{IsFirst, IsOfWords, refused_for}
-use Rattle.conditions.specs.Lists.{conditions}
-use Rattle.conditions.specs.Tests.{passes, stands}
-use Rattle.told.specs.declared.explanation.Deciding.{Deciding}
-use Rattle.told.specs.declared.explanation.Deciding.TheVariants as deciding
-use Rattle.told.specs.declared.explanation.WrongWord.{WrongWord}
+use Rattle.reasons.specs.declared.source.Source.{Source}
+use Rattle.reasons.specs.declared.source.Source.TheVariants as source
+use Rattle.reasons.specs.declared.test.Test.{Test}
+use Rattle.reasons.specs.Law.{IsFirst, IsOfWords, refused_for}
+use Rattle.reasons.specs.Lists.{conditions}
+use Rattle.reasons.specs.Tests.{passes, stands}
+use Rattle.reasons.specs.declared.explanation.Deciding.{Deciding}
+use Rattle.reasons.specs.declared.explanation.Deciding.TheVariants as deciding
+use Rattle.reasons.specs.declared.explanation.WrongWord.{WrongWord}
 use Rattle.explain.specs.Facts.{IsFact}
 use Rattle.explain.specs.declared.watch.Watch.{Watch}
 use Rattle.explain.specs.declared.watch.Watch.TheVariants as watch

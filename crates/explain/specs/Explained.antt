@@ -10,19 +10,19 @@ use Rattle.rmm_spec.specs.State.{State}
 use Rattle.rmm_spec.specs.Step.{outcome}
 use Rattle.rmm_spec.specs.Linearization.{ReturnsBefore, IsReplyOf}
 use Rattle.rmm_spec.specs.FirstFault.{Passes}
-use Rattle.told.specs.Report.{AddsOwners}
-use Rattle.told.specs.declared.explanation.Cause.{Cause}
-use Rattle.told.specs.declared.explanation.Cause.TheVariants as cause
-use Rattle.told.specs.declared.explanation.Explanation.{Explanation}
-use Rattle.told.specs.declared.explanation.Explanation.TheVariants as explanation
-use Rattle.told.specs.declared.flaw.Flaw.{Flaw}
-use Rattle.told.specs.declared.flaw.Flaw.TheVariants as flaw
-use Rattle.told.specs.declared.flaw.Misplaced.{Misplaced}
-use Rattle.told.specs.declared.flaw.Misplaced.TheVariants as misplaced
-use Rattle.told.specs.Wrong.{IsCertificateLine, IsEventLine, IsHeader, IsHeaderOf, IsWrong}
-use Rattle.told.specs.declared.explanation.RefusedLine.{RefusedLine}
-use Rattle.told.specs.declared.explanation.Summary.{Summary}
-use Rattle.told.specs.declared.named_call.UnfinishedCall.{UnfinishedCall}
+use Rattle.reasons.specs.Report.{AddsOwners}
+use Rattle.reasons.specs.declared.explanation.Cause.{Cause}
+use Rattle.reasons.specs.declared.explanation.Cause.TheVariants as cause
+use Rattle.reasons.specs.declared.explanation.Explanation.{Explanation}
+use Rattle.reasons.specs.declared.explanation.Explanation.TheVariants as explanation
+use Rattle.reasons.specs.declared.flaw.Flaw.{Flaw}
+use Rattle.reasons.specs.declared.flaw.Flaw.TheVariants as flaw
+use Rattle.reasons.specs.declared.flaw.Misplaced.{Misplaced}
+use Rattle.reasons.specs.declared.flaw.Misplaced.TheVariants as misplaced
+use Rattle.reasons.specs.Wrong.{IsCertificateLine, IsEventLine, IsHeader, IsHeaderOf, IsWrong}
+use Rattle.reasons.specs.declared.explanation.RefusedLine.{RefusedLine}
+use Rattle.reasons.specs.declared.explanation.Summary.{Summary}
+use Rattle.reasons.specs.declared.named_call.UnfinishedCall.{UnfinishedCall}
 use Rattle.explain.specs.declared.watch.Watch.{Watch}
 use Rattle.explain.specs.Deciding.{IsDecision}
 use Rattle.explain.specs.Told.{IsTold, NamesAt, is_call}
@@ -31,7 +31,7 @@ use Rattle.explain.specs.Before.{IsBefore}
 use Rattle.explain.specs.Late.{IsLateOf}
 use Rattle.explain.specs.Put.{IsPut}
 use Rattle.explain.specs.Unfinished.{AreUnfinished}
-pub use Rattle.told.specs.Verdict.{reason_of, verdict_of}
+pub use Rattle.reasons.specs.Verdict.{reason_of, verdict_of}
 
 -- ---- what stands behind it
 

@@ -14,17 +14,17 @@ use Rattle.rmm_spec.specs.State.{State}
 use Rattle.rmm_spec.specs.Walk as tables
 use Rattle.rmm_spec.specs.Walk.{entry_address, entry_at, entry_ripas, entry_size, entry_state, table_number, walk}
 use Rattle.realm_desc.specs.View.{pending_of}
-use Rattle.conditions.specs.declared.test.RealmTest.{RealmTest}
-use Rattle.conditions.specs.declared.test.RealmTest.TheVariants as of_realm
-use Rattle.conditions.specs.declared.test.RecTest.{RecTest}
-use Rattle.conditions.specs.declared.test.RecTest.TheVariants as of_rec
-use Rattle.conditions.specs.declared.test.Test.{Test}
-use Rattle.conditions.specs.declared.test.Test.TheVariants as test
-use Rattle.conditions.specs.declared.test.WordTest.TheVariants as of_words
-use Rattle.conditions.specs.Tests.{word_passes}
-use Rattle.told.specs.declared.facts.EntryRead.{EntryRead}
-use Rattle.told.specs.declared.facts.Fact.{Fact}
-use Rattle.told.specs.declared.facts.Fact.TheVariants as fact
+use Rattle.reasons.specs.declared.test.RealmTest.{RealmTest}
+use Rattle.reasons.specs.declared.test.RealmTest.TheVariants as of_realm
+use Rattle.reasons.specs.declared.test.RecTest.{RecTest}
+use Rattle.reasons.specs.declared.test.RecTest.TheVariants as of_rec
+use Rattle.reasons.specs.declared.test.Test.{Test}
+use Rattle.reasons.specs.declared.test.Test.TheVariants as test
+use Rattle.reasons.specs.declared.test.WordTest.TheVariants as of_words
+use Rattle.reasons.specs.Tests.{word_passes}
+use Rattle.reasons.specs.declared.facts.EntryRead.{EntryRead}
+use Rattle.reasons.specs.declared.facts.Fact.{Fact}
+use Rattle.reasons.specs.declared.facts.Fact.TheVariants as fact
 
 -- the tag of the granule at the address, or nothing where there is none
 abbrev pub IsFound : State → ℕ → Option Tag → Type 0

@@ -7,13 +7,13 @@ use Rattle.rmm_spec.specs.declared.reply.Reply.{Reply}
 use Rattle.rmm_spec.specs.Linearization.{IsCalled, IsOfItsKind, IsReplyOf, ReturnsBefore, cpu_named, number_named}
 use Rattle.rmm_spec.specs.State.{State}
 use Rattle.rmm_spec.specs.Step.{Step}
-use Rattle.conditions.specs.declared.test.Test.{Test}
-use Rattle.conditions.specs.declared.test.Test.TheVariants as test
-use Rattle.conditions.specs.Tests.{passes, stands}
-use Rattle.told.specs.declared.facts.Fact.{Fact}
-use Rattle.told.specs.declared.facts.Fact.TheVariants as fact
-use Rattle.told.specs.declared.named_call.NamedCall.{NamedCall}
-use Rattle.told.specs.declared.since.LateCommit.{LateCommit}
+use Rattle.reasons.specs.declared.test.Test.{Test}
+use Rattle.reasons.specs.declared.test.Test.TheVariants as test
+use Rattle.reasons.specs.Tests.{passes, stands}
+use Rattle.reasons.specs.declared.facts.Fact.{Fact}
+use Rattle.reasons.specs.declared.facts.Fact.TheVariants as fact
+use Rattle.reasons.specs.declared.named_call.NamedCall.{NamedCall}
+use Rattle.reasons.specs.declared.since.LateCommit.{LateCommit}
 use Rattle.explain.specs.declared.watch.Watch.{Watch}
 use Rattle.explain.specs.declared.watch.Watch.TheVariants as watch
 use Rattle.explain.specs.Told.{IsLineFor, IsTold, Names}

@@ -3,14 +3,14 @@ use Rattle.std.specs.Prelude.{◌≡◌, ℕ, false, List, min}
 use Rattle.rmm_spec.specs.declared.line.Line.{Line}
 use Rattle.rmm_spec.specs.declared.tag.Tag.TheVariants.{Delegated}
 use Rattle.rmm_spec.specs.HistoryText.{History}
-use Rattle.conditions.specs.declared.test.Test.{Test}
-use Rattle.conditions.specs.declared.test.Test.TheVariants as test
-use Rattle.conditions.specs.declared.test.WalkTest.{WalkTest}
-use Rattle.told.specs.declared.explanation.Deciding.{Deciding}
-use Rattle.told.specs.declared.explanation.Deciding.TheVariants as deciding
-use Rattle.told.specs.declared.facts.Fact.TheVariants as fact
-use Rattle.told.specs.declared.named_call.EarlierStep.{EarlierStep}
-use Rattle.told.specs.declared.since.Since.TheVariants as since
+use Rattle.reasons.specs.declared.test.Test.{Test}
+use Rattle.reasons.specs.declared.test.Test.TheVariants as test
+use Rattle.reasons.specs.declared.test.WalkTest.{WalkTest}
+use Rattle.reasons.specs.declared.explanation.Deciding.{Deciding}
+use Rattle.reasons.specs.declared.explanation.Deciding.TheVariants as deciding
+use Rattle.reasons.specs.declared.facts.Fact.TheVariants as fact
+use Rattle.reasons.specs.declared.named_call.EarlierStep.{EarlierStep}
+use Rattle.reasons.specs.declared.since.Since.TheVariants as since
 use Rattle.explain.specs.declared.watch.Watch.TheVariants as watch
 use Rattle.explain.specs.Watch.{IsSince}
 

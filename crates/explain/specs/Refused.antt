@@ -7,7 +7,7 @@ use Rattle.rmm_spec.specs.declared.reply.Reply.{Reply}
 use Rattle.rmm_spec.specs.Call.{call_of}
 use Rattle.rmm_spec.specs.HistoryText.{History}
 use Rattle.rmm_spec.specs.State.{State}
-use Rattle.told.specs.declared.named_call.NamedCall.{NamedCall}
+use Rattle.reasons.specs.declared.named_call.NamedCall.{NamedCall}
 use Rattle.explain.specs.declared.cause.Told.{Told}
 use Rattle.explain.specs.declared.watch.Watch.{Watch}
 use Rattle.explain.specs.Before.{IsBefore}

@@ -2,8 +2,8 @@
 use Rattle.std.specs.Prelude.{ℕ, Bool, true, false, List}
 use Rattle.rmm_spec.specs.HistoryText.{IsHistoryText}
 use Rattle.rmm_spec.specs.CertificateText.{IsCertificateText}
-use Rattle.told.specs.declared.explanation.Explanation.{Explanation}
-use Rattle.told.specs.declared.explanation.Explanation.TheVariants.{HistoryFault, CertificateFault, Yes, No}
+use Rattle.reasons.specs.declared.explanation.Explanation.{Explanation}
+use Rattle.reasons.specs.declared.explanation.Explanation.TheVariants.{HistoryFault, CertificateFault, Yes, No}
 use Rattle.explain.specs.declared.explained_run.Run.{Run}
 
 abbrev pub IsRunOf : List ℕ → List ℕ → Run → Type 0

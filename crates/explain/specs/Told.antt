@@ -9,7 +9,7 @@ use Rattle.rmm_spec.specs.HistoryText.{History}
 use Rattle.rmm_spec.specs.Linearization.{IsCalled, cpu_named, number_named}
 use Rattle.rmm_spec.specs.State.{State}
 use Rattle.history.specs.Calls.{IsCallOf}
-use Rattle.told.specs.declared.named_call.NamedCall.{NamedCall}
+use Rattle.reasons.specs.declared.named_call.NamedCall.{NamedCall}
 
 -- what is told of the call is what the history records
 abbrev pub IsTold : List Event → NamedCall → Type 0

@@ -3,9 +3,9 @@ use Rattle.std.specs.Prelude.{◌≡◌, ◌≢◌, ℕ, ◌+◌, ◌-◌, ◌<�
 use Rattle.rmm_spec.specs.declared.line.Line.{Line}
 use Rattle.rmm_spec.specs.HistoryText.{History}
 use Rattle.rmm_spec.specs.State.{State}
-use Rattle.told.specs.declared.named_call.EarlierStep.{EarlierStep}
-use Rattle.told.specs.declared.since.Since.{Since}
-use Rattle.told.specs.declared.since.Since.TheVariants as since
+use Rattle.reasons.specs.declared.named_call.EarlierStep.{EarlierStep}
+use Rattle.reasons.specs.declared.since.Since.{Since}
+use Rattle.reasons.specs.declared.since.Since.TheVariants as since
 use Rattle.explain.specs.declared.track.Kept.{Kept}
 use Rattle.explain.specs.declared.track.Track.{Track}
 use Rattle.explain.specs.declared.track.Turn.{Turn}

@@ -5,7 +5,7 @@ use Rattle.rmm_spec.specs.declared.event.Event.{Event}
 use Rattle.rmm_spec.specs.declared.line.Line.{Line}
 use Rattle.rmm_spec.specs.Linearization.{IsCalled, IsFinished}
 use Rattle.history.specs.Calls.{line_at}
-use Rattle.told.specs.declared.named_call.UnfinishedCall.{UnfinishedCall}
+use Rattle.reasons.specs.declared.named_call.UnfinishedCall.{UnfinishedCall}
 use Rattle.explain.specs.Told.{HasLine, IsTold, Names, NamesAt}
 
 -- what is told of the call that is made at the place: it never returned, and which line names it, if one does

@@ -8,11 +8,11 @@ use Rattle.rmm_spec.specs.HistoryText.{History}
 use Rattle.rmm_spec.specs.State.{State}
 use Rattle.rmm_spec.specs.Step.{outcome}
 use Rattle.rmm_spec.specs.FirstFault.{Passes}
-use Rattle.conditions.specs.Reading.{read, source_of, stands_for}
-use Rattle.conditions.specs.Tests.{passes, stands}
-use Rattle.told.specs.declared.named_call.EarlierStep.{EarlierStep}
-use Rattle.told.specs.declared.since.Since.{Since}
-use Rattle.told.specs.declared.since.Since.TheVariants as since
+use Rattle.reasons.specs.Reading.{read, source_of, stands_for}
+use Rattle.reasons.specs.Tests.{passes, stands}
+use Rattle.reasons.specs.declared.named_call.EarlierStep.{EarlierStep}
+use Rattle.reasons.specs.declared.since.Since.{Since}
+use Rattle.reasons.specs.declared.since.Since.TheVariants as since
 use Rattle.explain.specs.declared.watch.Watch.{Watch}
 use Rattle.explain.specs.declared.watch.Watch.TheVariants as watch
 use Rattle.explain.specs.Told.{IsTold, NamesAt}

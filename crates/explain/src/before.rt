@@ -5,7 +5,7 @@ ghost use Rattle.rmm_spec.specs.Lookup.{is_granule};
 ghost use Rattle.rmm_spec.specs.Ownership.{IsTied};
 ghost use Rattle.rmm_spec.specs.State.{State};
 ghost use Rattle.rmm_spec.specs.Step.Terms as terms;
-ghost use Rattle.told.specs.Report.{AddsOwners};
+ghost use Rattle.reasons.specs.Report.{AddsOwners};
 ghost use Rattle.spec_machine.specs.View.{state_of};
 ghost use Rattle.explain.specs.Before.{AreGranulesBefore, IsBefore, IsEntryBefore, IsGranuleBefore, IsRealmBefore, IsRealmOf, IsRecBefore, IsRecOf, IsWalkBefore};
 
@@ -13,11 +13,12 @@ use crate::fact::{entry_read, found_tag, owner};
 use arrayvec::ArrayVec;
 use command_rows::Sight;
 use command_words::{Name, Way, named, way_of, words_allow};
-use conditions::rec_inside;
 use memory_map::entry_number;
+use reasons::{
+    EntryRead, GranuleBefore, OwnerRow, RealmBefore, RecBefore, StateBefore, WalkBefore, rec_inside,
+};
 use rmm_spec::Call;
 use spec_machine::Machine;
-use told::{EntryRead, GranuleBefore, OwnerRow, RealmBefore, RecBefore, StateBefore, WalkBefore};
 
 /// What the CPU's command names, in the machine's state.
 pub(crate) fn state_before(

@@ -26,11 +26,11 @@ use crate::steps::{Steps, steps_of};
 use certificate::{Certificate, LineRef};
 use checker::Reason;
 use history::History;
+use reasons::{Cause, Deciding, NamedCall, RefusedLine, StateBefore, owner_report};
 use rmi_view::copied_reply;
 use rmm_spec::{Accepted, Refusal, Reply};
 use spec_machine::Machine;
 use std::alloc::{AllocError, Global};
-use told::{Cause, Deciding, NamedCall, RefusedLine, StateBefore, owner_report};
 
 /// Why the step fails, with the calls that it is about. The machine is as the lines before the step leave it.
 pub(crate) fn cause_of(

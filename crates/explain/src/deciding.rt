@@ -1,7 +1,7 @@
 //! What decides that a line is refused.
 
 ghost use Rattle.std.specs.Prelude.{◌≡◌, ◌≢◌, ◌≤◌, ◌↔◌, [], length, min, slice_get, false, true, Err, Ok, IfOk, IsTrue};
-ghost use Rattle.conditions.specs.declared.source.Source.TheVariants as source;
+ghost use Rattle.reasons.specs.declared.source.Source.TheVariants as source;
 ghost use Rattle.rmm_spec.specs.declared.refusal.Refusal.{Refusal as Refused};
 ghost use Rattle.rmm_spec.specs.declared.reply.Reply.{Reply as Claimed};
 ghost use Rattle.rmm_spec.specs.Call.{call_of};
@@ -9,8 +9,8 @@ ghost use Rattle.rmm_spec.specs.Lookup.{rec_at, rec_inside};
 ghost use Rattle.rmm_spec.specs.State.{State};
 ghost use Rattle.rmm_spec.specs.Step.{Step, outcome};
 ghost use Rattle.spec_machine.specs.View.{state_of};
-ghost use Rattle.told.specs.Report.{AddsOwners};
-ghost use Rattle.conditions.specs.Tests.{passes};
+ghost use Rattle.reasons.specs.Report.{AddsOwners};
+ghost use Rattle.reasons.specs.Tests.{passes};
 ghost use Rattle.explain.specs.Deciding.{IsApart, IsConditionOf, IsDecision, IsFirstWrong, IsWrongWord};
 ghost use Rattle.explain.specs.Deciding.{words_source as spec_source};
 ghost use Rattle.explain.specs.declared.watch.Watch.TheVariants as watch;
@@ -19,14 +19,14 @@ ghost use Rattle.explain.specs.Watch.{is_so};
 use crate::fact::fact_of;
 use crate::watch::Watch;
 use command_rows::Sight;
-use conditions::{
-    Source, Test, conditions_decide, failing_test, is_standing, rec_inside_or_none, words_are_asked,
+use reasons::{
+    Deciding, OwnerRow, Source, Test, WrongWord, conditions_decide, entry_size, failing_test,
+    is_standing, rec_inside_or_none, words_are_asked,
 };
 use rmi_view::CommandRef;
 use rmm_spec::{Accepted, Call, Command, Refusal, Reply, Stretch};
 use spec_machine::Machine;
 use std::alloc::{AllocError, Global};
-use told::{Deciding, OwnerRow, WrongWord, entry_size};
 
 /// What decides, and what is to be watched of the states before.
 #[derive(Drop)]

@@ -9,8 +9,8 @@ ghost use Rattle.rmm_spec.specs.Judgement.{Judges};
 use crate::explaining::explain_run;
 use certificate::Certificate;
 use history::History;
+use reasons::Explanation;
 use std::alloc::{AllocError, Global};
-use told::Explanation;
 
 /// What two texts stand for.
 #[derive(Drop)]

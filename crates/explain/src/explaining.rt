@@ -12,7 +12,7 @@ ghost use Rattle.rmm_spec.specs.CertificateText.{IsCertificateText};
 ghost use Rattle.rmm_spec.specs.FirstFault.{FirstFault, Passes};
 ghost use Rattle.rmm_spec.specs.HistoryText.{History as Recorded, IsHistoryText};
 ghost use Rattle.rmm_spec.specs.Text.{first_lines};
-ghost use Rattle.told.specs.Report.{AddsOwners};
+ghost use Rattle.reasons.specs.Report.{AddsOwners};
 ghost use Rattle.rmm_spec.specs.Judgement.{Judges};
 ghost use Rattle.spec_machine.specs.View.{state_of};
 
@@ -23,10 +23,10 @@ use crate::unfinished::unfinished_calls;
 use certificate::{CertFault, Certificate};
 use checker::{JudgedOrder, Reason, Verdict, judged_order};
 use history::{History, HistoryFault};
+use reasons::{Explanation, Summary, owner_report};
 use rmi_codec::next_line;
 use spec_machine::Machine;
 use std::alloc::{AllocError, Global};
-use told::{Explanation, Summary, owner_report};
 
 /// Explains the verdict on a history's text and a certificate's, and keeps what was read of them. Memory is refused only
 /// behind a header.

@@ -1,34 +1,33 @@
 //! What a test that fails reads of the state: the fact that a report has for it.
 
 ghost use Rattle.std.specs.Prelude.{◌≡◌, ◌≤◌, ◌<◌, ◌/◌, ◌%◌, ◌^◌, [], Some, None, IfNone, IfSome, false, true, is_none, is_some, slice_get};
-ghost use Rattle.conditions.specs.declared.test.Test.TheVariants as test;
-ghost use Rattle.conditions.specs.declared.test.WalkTest.{WalkTest as WalkAsked};
-ghost use Rattle.conditions.specs.Tests as tests;
+ghost use Rattle.reasons.specs.declared.test.Test.TheVariants as test;
+ghost use Rattle.reasons.specs.declared.test.WalkTest.{WalkTest as WalkAsked};
+ghost use Rattle.reasons.specs.Tests as tests;
 ghost use Rattle.rmm_spec.specs.Lookup as look;
 ghost use Rattle.rmm_spec.specs.Lookup.{has_tag, rec_at, realm_at};
 ghost use Rattle.rmm_spec.specs.State.{State};
 ghost use Rattle.rmm_spec.specs.Step.Table.{ripas_left};
 ghost use Rattle.rmm_spec.specs.Walk as tables;
-ghost use Rattle.told.specs.Report.{AddsOwners};
+ghost use Rattle.reasons.specs.Report.{AddsOwners};
 ghost use Rattle.spec_machine.specs.View.{state_of};
 ghost use Rattle.explain.specs.Facts as spec;
 ghost use Rattle.explain.specs.Facts.{IsEntryIn, IsFact, IsFound, IsRealmFact, IsRecFact, entry_seen};
 
 use command_rows::Sight;
-use conditions::{RealmTest, RecTest, Test, WordTest, rec_inside};
 use memory_map::{
     GRANULE_BYTES, entry_address, entry_ripas, entry_size, entry_state, passes, ripas_number,
     table_number,
 };
+use reasons::{EntryRead, Fact, OwnerRow, RealmTest, RecTest, Test, WordTest, rec_inside};
 use rmm_spec::{Entry, EntryTest, Removal, Tag, Version};
 use spec_machine::Machine;
-use told::{EntryRead, Fact, OwnerRow};
 
 /// How many entries a table has.
 const ENTRIES: u64 = 512;
 
 /// The fact that a test which fails reads. Of the state it is told whose each granule is.
-#[tactic(auto, unfolding(conditions::specs::Tests::passes))]
+#[tactic(auto, unfolding(reasons::specs::Tests::passes))]
 pub(crate) fn fact_of(machine: &Machine, owners: &[OwnerRow], test: Test) -> Fact
     requires owners { AddsOwners (state_of machine.now) [] owners.now }
     requires fails { tests.passes (state_of machine.now) test ≡ false }

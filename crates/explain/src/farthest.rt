@@ -2,9 +2,9 @@
 
 use command_rows::Sight;
 use memory_map::{can_be_set, entry_number};
+use reasons::entry_size;
 use rmm_spec::{Accepted, Refusal};
 use spec_machine::Machine;
-use told::entry_size;
 
 /// How many entries a table has.
 const ENTRIES: u64 = 512;

@@ -2,15 +2,17 @@
 
 ghost use Rattle.std.specs.Prelude.{◌≡◌, ◌≢◌};
 ghost use Rattle.explain.specs.Explained.{IsCertificateFlaw, IsFlawOf, IsHistoryFlaw, IsLineIn, IsMisplaced, IsOnFirstLine};
-ghost use Rattle.told.specs.Wrong.{IsCertificateLine, IsEventLine, IsHeader, IsHeaderOf};
+ghost use Rattle.reasons.specs.Wrong.{IsCertificateLine, IsEventLine, IsHeader, IsHeaderOf};
 ghost use Rattle.rmm_spec.specs.CertificateText.{InCertificates};
 ghost use Rattle.rmm_spec.specs.HistoryText.{Config};
 ghost use Rattle.rmm_spec.specs.Text.{IsBadLine, parts_of};
-ghost use Rattle.told.specs.declared.flaw.Misplaced.TheVariants as misplaced;
+ghost use Rattle.reasons.specs.declared.flaw.Misplaced.TheVariants as misplaced;
 
 use crate::explaining::{behind_lines, first_line, line_of};
+use reasons::{
+    BadLine, Flaw, Misplaced, wrong_in_certificate_line, wrong_in_event, wrong_in_header,
+};
 use rmi_codec::next_line;
-use told::{BadLine, Flaw, Misplaced, wrong_in_certificate_line, wrong_in_event, wrong_in_header};
 
 /// How many lines a text may have.
 const MOST_LINES: u64 = 1_000_000;

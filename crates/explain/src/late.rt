@@ -14,11 +14,10 @@ use crate::earlier::called_by;
 use crate::named_call::named_call;
 use crate::replay::claimed_reply;
 use certificate::{Certificate, LineRef};
-use conditions::{Test, is_standing, passes};
 use history::{History, Places};
+use reasons::{Fact, LateCommit, NamedCall, Test, is_standing, passes};
 use spec_machine::Machine;
 use std::alloc::AllocError;
-use told::{Fact, LateCommit, NamedCall};
 
 /// The first line after the index whose call overlaps this one and with which the condition holds, where it is taken after the overlapping
 /// ones before it.

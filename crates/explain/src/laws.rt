@@ -1,7 +1,7 @@
 //! What the words of this crate's clauses mean.
 
 ghost use Rattle.std.specs.Prelude.{◌≡◌, ℕ, List, Ok};
-ghost use Rattle.conditions.specs.Reading.{read};
+ghost use Rattle.reasons.specs.Reading.{read};
 ghost use Rattle.explain.specs.Deciding.{words_source};
 ghost use Rattle.rmm_spec.specs.declared.call.Call.{Call};
 ghost use Rattle.rmm_spec.specs.declared.change.Change.{Change};

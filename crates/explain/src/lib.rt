@@ -28,9 +28,9 @@ mod watch;
 pub use explained_run::{ExplainedRun, Run, explain};
 pub use explaining::explain_run;
 pub use laws::words_are_read;
-pub use reporting::report;
-pub use told::{
+pub use reasons::{
     BadLine, Cause, Deciding, EarlierStep, EntryRead, Explanation, Fact, Flaw, GranuleBefore,
     LateCommit, Misplaced, NamedCall, RealmBefore, RecBefore, RefusedLine, Since, StateBefore,
     Summary, UnfinishedCall, WalkBefore, WrongWord,
 };
+pub use reporting::report;

@@ -5,7 +5,7 @@ ghost use Rattle.explain.specs.Told.{IsTold};
 ghost use Rattle.rmm_spec.specs.Linearization.{IsKnown};
 
 use history::History;
-use told::NamedCall;
+use reasons::NamedCall;
 
 /// The call of that number of a CPU.
 pub(crate) fn named_call(history: &History, cpu: u8, number: u32) -> NamedCall

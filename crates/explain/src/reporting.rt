@@ -5,8 +5,8 @@ ghost use Rattle.explain.specs.Explained.{verdict_of};
 ghost use Rattle.rmm_spec.specs.VerdictText.{verdict_line};
 
 use checker::verdict_text;
+use reasons::Explanation;
 use std::alloc::{AllocError, Global};
-use told::Explanation;
 
 /// Appends a report: the verdict's line, and behind it lines for people. Nothing is appended where memory is refused.
 pub fn report(

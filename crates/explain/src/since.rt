@@ -14,9 +14,9 @@ use crate::track::{Track, no_track, track_with};
 use crate::watch::{Watch, sample_of};
 use certificate::Certificate;
 use history::History;
+use reasons::{EarlierStep, Since};
 use spec_machine::Machine;
 use std::alloc::{AllocError, Global};
-use told::{EarlierStep, Since};
 
 /// Since which step before the index it is so, as it is after all lines before it.
 pub(crate) fn since_of(

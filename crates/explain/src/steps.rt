@@ -14,12 +14,13 @@ use crate::since::since_of;
 use crate::watch::{Watch, sample_of};
 use certificate::Certificate;
 use command_rows::Sight;
-use conditions::{EntryKind, Test, WalkTest};
 use history::History;
+use reasons::{
+    Deciding, EarlierStep, EntryKind, Fact, LateCommit, NamedCall, Since, Test, WalkTest,
+};
 use rmm_spec::Tag;
 use spec_machine::Machine;
 use std::alloc::{AllocError, Global};
-use told::{Deciding, EarlierStep, Fact, LateCommit, NamedCall, Since};
 
 /// Since which step it is so, which step put there what is named, and which later one would change it.
 #[derive(Drop)]

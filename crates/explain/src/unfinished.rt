@@ -9,8 +9,8 @@ use crate::earlier::line_if_any;
 use crate::named_call::named_call;
 use certificate::Certificate;
 use history::History;
+use reasons::UnfinishedCall;
 use std::alloc::{AllocError, Global};
-use told::UnfinishedCall;
 
 /// The calls of a history that never returned, in the order in which they were made, each with the step whose line names it.
 pub(crate) fn unfinished_calls(

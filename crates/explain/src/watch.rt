@@ -6,7 +6,7 @@ ghost use Rattle.explain.specs.Watch as spec;
 ghost use Rattle.explain.specs.Track.{IsSampleOf};
 
 use arrayvec::ArrayVec;
-use conditions::{Source, Test, is_standing, is_there, passes, read, source_of};
+use reasons::{Source, Test, is_standing, is_there, passes, read, source_of};
 use rmm_spec::{Accepted, Command, Refusal};
 use spec_machine::Machine;
 

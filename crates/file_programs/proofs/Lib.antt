@@ -1,1 +1,2 @@
+mod Refused
 mod Lines

@@ -2,8 +2,8 @@
 use Rattle.std.specs.Prelude.{◌≡◌, ◌⊎◌, ℕ, List, [], ◌++◌, codes, string_bytes}
 use Rattle.std.specs.declared.io.ErrorKind.{ErrorKind}
 use Rattle.std.specs.declared.io.ErrorKind.TheVariants.{BrokenPipe}
-use Rattle.file_arguments.specs.declared.parsing.Refusal.{Refusal}
-use Rattle.file_arguments.specs.declared.parsing.Refusal.TheVariants as refusal
+use Rattle.file_programs.specs.declared.parsing.Refusal.{Refusal}
+use Rattle.file_programs.specs.declared.parsing.Refusal.TheVariants as refusal
 use Rattle.file_programs.specs.declared.fault.Fault.{Fault}
 use Rattle.file_programs.specs.declared.fault.Fault.TheVariants as fault
 

@@ -4,9 +4,9 @@ ghost use Rattle.std.specs.Prelude.{◌≡◌, ◌⊎◌, IfErr, IfOk};
 ghost use Rattle.file_programs.specs.Ends.{IsShownAs};
 ghost use Rattle.file_programs.specs.declared.fault.Fault.TheVariants.{Arguments, NoMemory};
 
+use crate::Refusal;
 use crate::fault::Fault;
 use crate::files::print;
-use file_arguments::Refusal;
 use std::io::ErrorKind;
 use std::rt::Env;
 use std::{env, io};

@@ -1,1 +1,2 @@
 mod SideTable
+mod Fits

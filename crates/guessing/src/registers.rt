@@ -2,7 +2,7 @@
 
 use crate::calls::{CPUS, command_at, number_of};
 use history::History;
-use measure::Rem;
+use realm_desc::Rem;
 use rmi_view::{CommandRef, ReplyRef};
 use rmm_spec::FunctionId;
 use std::alloc::{AllocError, Global};

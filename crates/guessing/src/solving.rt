@@ -6,7 +6,7 @@ use crate::registers::{NEVER, Register, Use};
 use crate::tries::Tries;
 use byteorder::{ByteOrder, LittleEndian};
 use history::History;
-use measure::{Rem, extend_bytes, words, words8};
+use realm_desc::{Rem, extend_bytes, words, words8};
 use rmi_view::ReplyRef;
 use rmm_spec::Measurement;
 use std::alloc::{AllocError, Global};

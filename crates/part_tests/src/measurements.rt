@@ -1,7 +1,7 @@
 //! Expected digests were computed by `sha256sum` and `sha512sum` from the bytes that each comment writes out; those of the hashes
 //! alone are the examples of FIPS 180-4.
 
-use measure::{Rem, begin, extend_bytes, extend_words, words, words8};
+use realm_desc::{Rem, begin, extend_bytes, extend_words, words, words8};
 use rmm_spec::Measurement;
 use sha2::{Digest, Sha256, Sha512};
 use std::alloc::{AllocError, Global};

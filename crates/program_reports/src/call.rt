@@ -4,9 +4,9 @@ ghost use Rattle.std.specs.Prelude.{◌≡◌, IfOk, OnOk};
 
 use crate::Object;
 use crate::reply::reply_text;
+use reasons::{EarlierStep, NamedCall};
 use rmm_spec::{Command, FunctionId};
 use std::alloc::{AllocError, Global};
-use told::{EarlierStep, NamedCall};
 
 /// A call with its command, its lines and its reply.
 pub(crate) fn call_of(alloc: Global, named: &NamedCall) -> Result<Object, AllocError>

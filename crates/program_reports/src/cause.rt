@@ -7,8 +7,8 @@ use crate::call::{call_named, call_of, put_hex, step_naming, step_of};
 use crate::fact::fact_of;
 use crate::reply::{reply_text, specified_text};
 use crate::since::{late_of, since_of};
+use reasons::{Cause, Deciding, RefusedLine, WrongWord, condition_name, condition_of, reply_word};
 use std::alloc::{AllocError, Global};
-use told::{Cause, Deciding, RefusedLine, WrongWord, condition_name, condition_of, reply_word};
 
 /// Puts a cause in: the call of the step that fails, and what it is about.
 pub(crate) fn put_cause(alloc: Global, object: &mut Object, cause: &Cause) -> Result<(), AllocError>

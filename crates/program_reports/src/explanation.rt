@@ -8,8 +8,8 @@ use crate::cause::put_cause;
 use crate::lines::Paths;
 use crate::{List, Object};
 use file_programs::VERSION;
+use reasons::{BadLine, Explanation, UnfinishedCall};
 use std::alloc::{AllocError, Global};
-use told::{BadLine, Explanation, UnfinishedCall};
 
 /// The number of the schema of both programs' objects.
 pub(crate) const SCHEMA: u64 = 1;

@@ -5,10 +5,12 @@ ghost use Rattle.std.specs.Prelude.{◌≡◌, IfOk};
 use crate::Object;
 use crate::call::put_hex;
 use realm_desc::RipasRequest;
+use reasons::{
+    AskedText, EntryRead, Fact, PendingText, RipasText, StateText, TagText, command_word,
+};
 use rmm_spec::FunctionId;
 use std::alloc::{AllocError, Global};
 use std::fmt;
-use told::{AskedText, EntryRead, Fact, PendingText, RipasText, StateText, TagText, command_word};
 
 /// A fact of a function's command: its kind, and its values by name.
 pub(crate) fn fact_of(

@@ -3,8 +3,8 @@
 ghost use Rattle.std.specs.Prelude.{◌≡◌, OnErr};
 
 use crate::call::command_name;
+use reasons::{Cause, EarlierStep, Explanation, NamedCall, RefusedLine, Since};
 use std::alloc::{AllocError, Global};
-use told::{Cause, EarlierStep, Explanation, NamedCall, RefusedLine, Since};
 
 /// The paths of both texts.
 #[derive(Clone, Copy)]

@@ -1,9 +1,9 @@
 //! Replies, as the texts have them.
 
+use reasons::entry_size;
 use rmm_spec::{Accepted, Refusal, Reply};
 use std::alloc::{AllocError, Global};
 use text_writers::push_reply;
-use told::entry_size;
 
 /// A reply, such as `ok` or `err 1 0`.
 pub(crate) fn reply_text(alloc: Global, reply: &Reply) -> Result<String, AllocError> {

@@ -5,8 +5,8 @@ ghost use Rattle.std.specs.Prelude.{◌≡◌, IfOk};
 use crate::Object;
 use crate::call::{step_naming, step_of};
 use crate::fact::fact_of;
+use reasons::{LateCommit, Since};
 use std::alloc::{AllocError, Global};
-use told::{LateCommit, Since};
 
 /// The step with which it turned, or those that made and last set what it is about.
 pub(crate) fn since_of(alloc: Global, since: &Since) -> Result<Object, AllocError>

@@ -1,0 +1,2 @@
+mod KnownRims
+pub mod WordBytes

@@ -10,7 +10,7 @@ ghost use Rattle.realm_desc.specs.View.{width_of, level_of, algorithm_number};
 
 use crate::hash_algorithm::HashAlgorithm;
 use crate::space::Space;
-use measure::{Rem, Rim, begin, extend_words};
+use crate::{Rem, Rim, begin, extend_words};
 use memory_map::{GRANULE_BYTES, Pa};
 use rmm_spec::{FunctionId, RealmState};
 use std::marker::Model;

@@ -4,8 +4,8 @@ ghost use Rattle.std.specs.Prelude.{◌≡◌};
 ghost use Rattle.rmm_spec.specs.declared.change.RealmUpdate.TheVariants.{PageMeasured, StretchMeasured};
 ghost use Rattle.rmm_spec.specs.Change.{realm_updated};
 
+use crate::extend_words;
 use crate::realm::Realm;
-use measure::extend_words;
 use rmm_spec::FunctionId;
 
 #[tactic(auto, unfolding(crate::specs::View::realm_record, rmm_spec::specs::Change::realm_updated, rmm_spec::specs::Function::number_of))]

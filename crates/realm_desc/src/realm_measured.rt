@@ -5,9 +5,9 @@ ghost use Rattle.rmm_spec.specs.declared.change.RealmUpdate.TheVariants.{Measure
 ghost use Rattle.rmm_spec.specs.Change.{measurement_at, realm_updated};
 ghost use Rattle.rmm_spec.specs.Measure.{words_bytes};
 
+use crate::extend_bytes;
 use crate::realm::Realm;
 use byteorder::{ByteOrder, LittleEndian};
-use measure::extend_bytes;
 use rmm_spec::Measurement;
 
 #[tactic(auto, unfolding(crate::specs::View::realm_record))]

@@ -8,8 +8,7 @@ ghost use Rattle.rec_steps.specs.Answers.{answer_at, extension_at, IsStep};
 
 use crate::step::RecStep;
 use arrayvec::ArrayVec;
-use measure::{words, words8};
-use realm_desc::Realm;
+use realm_desc::{Realm, words, words8};
 use rmm_spec::{Condition, Measurement, RealmUpdate, Refusal};
 
 #[tactic(auto, unfolding(rmm_spec::specs::Step::RealmCall::measurement_read, rmm_spec::specs::Step::Terms::words_of, rmm_spec::specs::Step::Terms::named))]

@@ -2,8 +2,8 @@
 
 use crate::fault::Fault;
 use crate::judged::push_judged;
+use fixtures::can_open;
 use memory_map::Config;
-use opening_tests::can_open;
 use rmi_codec::read_command;
 use rmm_spec::Command;
 use std::alloc::Global;

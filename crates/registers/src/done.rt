@@ -6,7 +6,7 @@ ghost use Rattle.verdict_laws.specs.Registers.{value_after};
 ghost use Rattle.registers.specs.Leads.{call_done};
 
 use byteorder::{ByteOrder, LittleEndian};
-use measure::{Rem, extend_bytes};
+use realm_desc::{Rem, extend_bytes};
 use std::cmp::min;
 
 /// How many bytes the words of an extension have.

@@ -9,7 +9,7 @@ ghost use Rattle.registers.specs.Leads.{FitsOpen, call_done};
 
 use crate::done::Done;
 use history::History;
-use measure::{Rem, words, words8};
+use realm_desc::{Rem, words, words8};
 use rmi_view::ReplyRef;
 use rmm_spec::Measurement;
 

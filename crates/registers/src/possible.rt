@@ -6,7 +6,7 @@ ghost use Rattle.registers.specs.Leads.{call_done};
 
 use crate::done::{Done, value_after};
 use crate::same::{same_places, same_value};
-use measure::Rem;
+use realm_desc::Rem;
 use std::marker::Model;
 
 /// The CPUs whose open calls stand in it, and the register after it, where its realm is there.

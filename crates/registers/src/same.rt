@@ -2,7 +2,7 @@
 
 ghost use Rattle.std.specs.Prelude.{◌≡◌, IsTrue};
 
-use measure::Rem;
+use realm_desc::Rem;
 use rmm_spec::Measurement;
 
 /// Whether they are of the same CPUs.

@@ -1,3 +1,4 @@
 pub mod Commands
 pub mod Presence
 pub mod Worked
+pub mod Whole

@@ -6,7 +6,7 @@ mod text;
 
 use crate::text::text_of;
 use drawn_scenarios::{Plan, Sharing};
-use file_arguments::rmmdraw::{Asked, Request, Shared, Unasked, request_given};
+use file_programs::rmmdraw::{Asked, Request, Shared, Unasked, request_given};
 use file_programs::{Fault, VERSION, end, print};
 use memory_map::Config;
 use std::alloc::Global;

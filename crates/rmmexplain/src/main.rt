@@ -11,8 +11,10 @@ mod texts;
 
 use crate::run::report_run;
 use crate::texts::{Paths, bytes_at};
-use file_arguments::{Report, report_asked};
-use file_programs::{Fault, Judged, append_judged, arguments_of, end, print, shown, version_text};
+use file_programs::{
+    Fault, Judged, Report, append_judged, arguments_of, end, print, report_asked, shown,
+    version_text,
+};
 use std::io;
 use std::process::ExitCode;
 use std::rt::{Env, Files};

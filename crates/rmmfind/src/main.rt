@@ -11,10 +11,9 @@ use crate::explaining::{append_longest, append_reached};
 use crate::following::Follower;
 use check_command::ends_with;
 use checker::{Verdict, verdict_text};
-use file_arguments::{Search, search_asked};
 use file_programs::{
-    Fault, HistoryRead, Judged, append_judged, arguments_of, end, history_at, judged_name, print,
-    shown, version_text,
+    Fault, HistoryRead, Judged, Search, append_judged, arguments_of, end, history_at, judged_name,
+    print, search_asked, shown, version_text,
 };
 use finding::{Found, Watch, append_found, find_watched, status_of};
 use program_reports::{Answer, append_answer};

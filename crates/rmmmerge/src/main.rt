@@ -7,7 +7,7 @@
 ghost use Rattle.std.specs.Prelude.{◌≡◌, false, IfOk};
 
 use devices::FileSource;
-use file_arguments::rmmmerge::{
+use file_programs::rmmmerge::{
     Asked as Words, Extent as Given, Names, Paths, Request, Unasked, request_given,
 };
 use file_programs::{Fault, VERSION, end, print, write_file};

@@ -6,7 +6,7 @@ use Rattle.std.proofs.lemmas.List.{append-nil, append_assoc, map_push}
 use Rattle.rmm_spec.specs.declared.condition.Condition.{Condition}
 use Rattle.rmm_spec.specs.declared.function_id.FunctionId.{FunctionId}
 use Rattle.lemmas.proofs.Elements.{take-next_at}
-use Rattle.told.specs.Names.{condition_name}
+use Rattle.reasons.specs.Names.{condition_name}
 use Rattle.run_steps.specs.declared.condition_counts.ConditionCounts.{ConditionCounts}
 use Rattle.run_steps.specs.Counts.{counts_at}
 use Rattle.run_steps.specs.CountLines.{AreCountLines, answer_lines, answer_name, count_line, function_lines}

@@ -3,7 +3,7 @@ use Rattle.std.specs.Prelude.{◌≡◌, ℕ, ◌==◌, List, [], ◌∷◌, ◌
 use Rattle.rmm_spec.specs.declared.condition.Condition.{Condition}
 use Rattle.rmm_spec.specs.declared.function_id.FunctionId.{FunctionId}
 use Rattle.rmm_spec.specs.Text.{decimal}
-use Rattle.told.specs.Names.{condition_name}
+use Rattle.reasons.specs.Names.{condition_name}
 use Rattle.run_steps.specs.Counts.{counts_at}
 use Rattle.run_steps.specs.Places.{conditions}
 use Rattle.run_steps.specs.declared.condition_counts.ConditionCounts.{ConditionCounts}

@@ -7,10 +7,10 @@ ghost use Rattle.run_steps.specs.Places.{conditions};
 
 use crate::condition_counts::ConditionCounts;
 use crate::places::CONDITIONS;
+use reasons::condition_name;
 use rmm_spec::FunctionId;
 use std::alloc::AllocError;
 use text_writers::push_decimal;
-use told::condition_name;
 
 /// Appends a line for each count that isn't 0: a function's name, `accepted` or the name of a condition, and the count.
 pub fn append_counts(counts: &ConditionCounts, out: &mut Vec<u8>) -> Result<(), AllocError>

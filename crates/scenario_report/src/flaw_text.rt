@@ -2,8 +2,8 @@
 
 use crate::flaw::Flaw;
 use crate::key::Key;
+use reasons::{Shown, Wanted, wrong_in_command};
 use std::fmt;
-use told::{Shown, Wanted, wrong_in_command};
 
 /// Two lines: what is wrong, and what could stand there.
 impl fmt::Display for Flaw<'_> {

@@ -1,9 +1,9 @@
 //! Where in a scenario's text a flaw seems to stand. It is a hint: the first line that looks like it.
 
 use crate::{Flaw, Key};
+use reasons::Shown;
 use std::alloc::{AllocError, Global};
 use std::fmt;
-use told::Shown;
 
 /// A line of the text, with its number from 1.
 #[derive(Clone, Copy)]

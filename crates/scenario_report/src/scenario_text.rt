@@ -1,9 +1,9 @@
 //! What a scenario would run, in words.
 
+use reasons::CallText;
 use rmm_spec::{Command, Due, Version, Will};
 use scenario::Scenario;
 use std::fmt;
-use told::CallText;
 
 /// A scenario in words: its machine, each CPU's commands by name, and its turns.
 #[derive(Clone, Copy)]

@@ -4,7 +4,7 @@ use Rattle.rmm_spec.specs.declared.change.RecUpdate.{RecUpdate}
 use Rattle.rmm_spec.specs.declared.change.RecUpdate.TheVariants.{Entered, Exited}
 use Rattle.rmm_spec.specs.Cell as spec
 use Rattle.rmm_spec.specs.Shape as shape
-use Rattle.shape_laws.specs.Whole.{places_of_rec}
+use Rattle.rmm_laws.specs.Whole.{places_of_rec}
 
 pub no_rec-places : (places : ℕ → shape.CpuPlace) (address : ℕ) (update : RecUpdate) (c : spec.Cell) → None ≡ spec.rec_in c
     → places ≡ places_of_rec places address update c

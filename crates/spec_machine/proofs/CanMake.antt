@@ -29,14 +29,14 @@ use Rattle.rmm_laws.proofs.Entries.{leaf_there}
 use Rattle.rmm_laws.proofs.Searches.{realm_there, rec_there}
 use Rattle.realm_desc.specs.Updates.{IsRecUpdate}
 use Rattle.rtt_table.specs.Shaped.{IsShaped}
-use Rattle.shape_laws.specs.Whole.{copied_table, width_in}
-use Rattle.shape_laws.proofs.Cells.{cell-table}
-use Rattle.shape_laws.proofs.Finds.{table_granule-holds}
-use Rattle.cell_changes.specs.declared.cell_change.CellChange.TheVariants.{Realm}
+use Rattle.rmm_laws.specs.Whole.{copied_table, width_in}
+use Rattle.rmm_laws.proofs.Cells.{cell-table}
+use Rattle.rmm_laws.proofs.Finds.{table_granule-holds}
+use Rattle.granule_cells.specs.declared.cell_change.CellChange.TheVariants.{Realm}
 use Rattle.rmm_spec.specs.declared.change.RealmUpdate.TheVariants.{RecCounted}
-use Rattle.cell_changes.specs.Changes.{CanPutAll, CanUpdate, FitsCells, fits_entries, is_plain, page_put, table_found}
-use Rattle.cell_changes.specs.OneCell.{FitsCell}
-use Rattle.cell_changes.specs.PlaceLaws.{shaped-below, shaped-whole}
+use Rattle.granule_cells.specs.Changes.{CanPutAll, CanUpdate, FitsCells, fits_entries, is_plain, page_put, table_found}
+use Rattle.granule_cells.specs.OneCell.{FitsCell}
+use Rattle.granule_cells.specs.PlaceLaws.{shaped-below, shaped-whole}
 use Rattle.spec_machine.specs.Whole.{count_of}
 use Rattle.spec_machine.proofs.Found.{sound_in}
 use Rattle.spec_machine.proofs.Tagged.{granule_tagged}

@@ -21,7 +21,7 @@ pub use Rattle.rmm_laws.proofs.Runs.{done_applies, reached_applies}
 pub use Rattle.rmm_laws.proofs.Searches.{rec_there}
 pub use Rattle.rmm_laws.proofs.ChangeWords.{opened}
 pub use Rattle.rmm_laws.proofs.Replays.{is_reached-reached, reached-is_reached}
-pub use Rattle.shape_laws.specs.Whole.{cell_with_realm, entries_changed}
+pub use Rattle.rmm_laws.specs.Whole.{cell_with_realm, entries_changed}
 pub use Rattle.granule_cells.specs.Seen.{cell_of}
 pub use Rattle.granule_places.proofs.PlaceLaws.{place-within}
 pub use Rattle.granule_places.specs.Placed.{place_in}

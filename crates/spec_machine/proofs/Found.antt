@@ -4,7 +4,7 @@ use Rattle.rmm_spec.specs.Walk.{IsWalk}
 use Rattle.rmm_spec.specs.Sound.{IsSound}
 use Rattle.rmm_spec.specs.TableCells.{table_in, with_tables, IsWalkable}
 use Rattle.rmm_spec.specs.Cell.{tables_of}
-use Rattle.shape_laws.proofs.Ties.{well_shaped-is_sound}
+use Rattle.rmm_laws.proofs.ShapeTies.{well_shaped-is_sound}
 use Rattle.spec_machine.specs.Whole.{tables_in}
 use Rattle.spec_machine.specs.WholeLaws.{tables_in-placed}
 use Rattle.spec_machine.specs.Walks.{StartsAt}

@@ -10,7 +10,7 @@ use Rattle.rmm_spec.specs.declared.entry.Entry.TheVariants as entry
 use Rattle.rmm_spec.specs.Lookup.{all_below}
 use Rattle.rmm_spec.specs.Step.Ripas.{can_be_set, is_reached}
 use Rattle.rmm_spec.specs.Walk.{is_live, is_table}
-use Rattle.shape_laws.proofs.Ties.{entry_there}
+use Rattle.rmm_laws.proofs.ShapeTies.{entry_there}
 use Rattle.spec_machine.specs.Searches.{StandsAs, IsTable, IsFree, is_end}
 use Rattle.spec_machine.proofs.HeldEntries.{entry-stands}
 use Rattle.spec_machine.proofs.Stretches.{in_table, reached-all}

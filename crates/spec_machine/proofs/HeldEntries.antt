@@ -15,8 +15,8 @@ use Rattle.rmm_spec.specs.Flat.{table_granule}
 use Rattle.rmm_spec.specs.Shape.{Side, CpuPlace, HoldsTable, IsWellShaped}
 use Rattle.rmm_laws.proofs.Entries.{entry-leaf, entry-link}
 use Rattle.rmm_laws.proofs.Spaces.{space_cases}
-use Rattle.shape_laws.proofs.Finds.{table_granule-holds, holds-found}
-use Rattle.shape_laws.proofs.Ties.{IsTied-shaped, entry_leaf-some, leaf-found, link_or_leaf, entry_there, number-again, at_place, same_table, well_shaped-is_sound}
+use Rattle.rmm_laws.proofs.Finds.{table_granule-holds, holds-found}
+use Rattle.rmm_laws.proofs.ShapeTies.{IsTied-shaped, entry_leaf-some, leaf-found, link_or_leaf, entry_there, number-again, at_place, same_table, well_shaped-is_sound}
 use Rattle.spec_lemmas.proofs.TableSearches.{search-places}
 use Rattle.spec_machine.specs.Searches.{StandsAs, IsTable, has_unlisted}
 use Rattle.spec_machine.specs.Whole.{count_of}

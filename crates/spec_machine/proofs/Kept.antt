@@ -12,7 +12,7 @@ use Rattle.granule_places.proofs.PlaceLaws.{place-apart}
 use Rattle.granule_cells.specs.declared.cpu_place.CpuPlace.{CpuPlace}
 use Rattle.granule_cells.specs.declared.cpu_place.CpuPlace.TheVariants.{Outside}
 use Rattle.granule_cells.specs.Seen.{place_of}
-use Rattle.shape_laws.specs.Whole.{changed_at}
+use Rattle.rmm_laws.specs.Whole.{changed_at}
 use Rattle.spec_machine.specs.Held.{cell_at, changed_in}
 use Rattle.spec_machine.specs.Whole.{cells_in, placed_at, places_in}
 

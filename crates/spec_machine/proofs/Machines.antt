@@ -3,8 +3,8 @@ use Rattle.spec_machine.proofs.Common.{◌%◌, ◌/◌, ◌≡◌, IsSound, Mac
 use Rattle.rmm_spec.specs.declared.entry.Entry.{Entry}
 use Rattle.rmm_spec.specs.Shape.{HoldsTable}
 use Rattle.rmm_spec.specs.Table.{place_number}
-use Rattle.shape_laws.proofs.Finds.{table_granule-holds}
-use Rattle.shape_laws.proofs.Ties.{IsLeafIn, IsTied-shaped, entry_leaf, leaf-found, leaf-parts}
+use Rattle.rmm_laws.proofs.Finds.{table_granule-holds}
+use Rattle.rmm_laws.proofs.ShapeTies.{IsLeafIn, IsTied-shaped, entry_leaf, leaf-found, leaf-parts}
 use Rattle.spec_machine.specs.View.{tables_at}
 use Rattle.spec_machine.specs.Whole.{count_of}
 use Rattle.spec_machine.proofs.Found.{sound_in}

@@ -3,8 +3,8 @@ use Rattle.spec_machine.proofs.Common.{◌∙◌, ◌≡◌, Granules, IsShapedI
 use Rattle.rmm_spec.specs.declared.change.Change.{Change}
 use Rattle.rmm_spec.specs.Applicable.{CanApply}
 use Rattle.rmm_spec.specs.Change.{changed}
-use Rattle.shape_laws.specs.Whole.{IsShaped, whole_changed}
-use Rattle.shape_laws.proofs.Changes.{changes-keep_shape}
+use Rattle.rmm_laws.specs.Whole.{IsShaped, whole_changed}
+use Rattle.rmm_laws.proofs.ShapeChanges.{changes-keep_shape}
 
 pub made : (old new : Granules) (change : Change) → IsShapedIn old → CanApply (state_in old) change → config_of new ≡ config_of old
     → whole_of new ≡ whole_changed (config_of old) (whole_of old) change → IsShapedIn new × (state_in new ≡ changed (state_in old) change)

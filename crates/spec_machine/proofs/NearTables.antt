@@ -4,8 +4,8 @@ use Rattle.rmm_spec.specs.Cell.{tables_of}
 use Rattle.rmm_spec.specs.Table.{entry_index, place_number}
 use Rattle.rmm_spec.specs.Walk.{walk}
 use Rattle.rmm_laws.proofs.Walked.{table_number-entry}
-use Rattle.shape_laws.proofs.Finds.{holds-found}
-use Rattle.shape_laws.proofs.Ties.{IsTied-shaped}
+use Rattle.rmm_laws.proofs.Finds.{holds-found}
+use Rattle.rmm_laws.proofs.ShapeTies.{IsTied-shaped}
 use Rattle.spec_machine.specs.Searches.{StandsAs}
 use Rattle.spec_machine.specs.Whole.{count_of}
 use Rattle.spec_machine.proofs.HeldEntries.{entry-stands}

@@ -12,11 +12,11 @@ use Rattle.rmm_spec.specs.Shape as shape
 use Rattle.rmm_spec.specs.State.{RecRecord}
 use Rattle.rmm_spec.specs.declared.change.Change.{Change}
 use Rattle.rmm_spec.specs.declared.change.Change.TheVariants.{RealmMade, RealmDestroyed, RecMade, RecDestroyed, RecordsChanged, EntriesChanged}
-use Rattle.shape_laws.specs.Whole.{Whole, IsShaped, cells_changed, places_changed, side_changed, side_without_rec, side_without_vmid, whole_changed}
+use Rattle.rmm_laws.specs.Whole.{Whole, IsShaped, cells_changed, places_changed, side_changed, side_without_rec, side_without_vmid, whole_changed}
 use Rattle.spec_lemmas.proofs.Maps.{put-elsewhere, put-same}
 use Rattle.granule_cells.specs.Sides.{with_count}
-use Rattle.cell_changes.specs.Changes.{cells_made, granules_changed, table_at, table_found}
-use Rattle.cell_changes.specs.MadeLaws.{IsApart, cells_made-apart, cells_made-changed}
+use Rattle.granule_cells.specs.Changes.{cells_made, granules_changed, table_at, table_found}
+use Rattle.granule_cells.specs.MadeLaws.{IsApart, cells_made-apart, cells_made-changed}
 use Rattle.spec_machine.specs.Noted.{HasBeside, HasCells, LeadsAsBefore, has_cell, has_count, has_places, has_vmid, is_cell_of}
 use Rattle.spec_machine.specs.Patches.{Standing, patched, put_all, put_in}
 use Rattle.spec_machine.specs.Whole.{places_of}

@@ -2,7 +2,7 @@
 use Rattle.spec_machine.proofs.Common.{◌≡◌, CellList, HeldCells, RealmRecord, Some, ap, cells_of, none-some, place_in, same_Some, sym, ℕ}
 use Rattle.rmm_spec.specs.State.{RecRecord}
 use Rattle.rmm_spec.specs.Cell as spec
-use Rattle.shape_laws.specs.Whole.{changed_at}
+use Rattle.rmm_laws.specs.Whole.{changed_at}
 use Rattle.spec_machine.specs.Held.{cell_at, changed_in}
 use Rattle.spec_machine.specs.Placed.{IsPlace}
 use Rattle.spec_machine.specs.Whole.{cells_in}

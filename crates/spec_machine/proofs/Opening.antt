@@ -5,7 +5,7 @@ use Rattle.rmm_spec.specs.Cell as spec
 use Rattle.rmm_spec.specs.Shape as shape
 use Rattle.rmm_spec.specs.World.{opening_world}
 use Rattle.spec_lemmas.proofs.Opening.{flat_state-opening, IsShapedWorld-opening}
-use Rattle.shape_laws.specs.Whole.{Whole, IsShaped}
+use Rattle.rmm_laws.specs.Whole.{Whole, IsShaped}
 use Rattle.granule_cells.specs.declared.cpu_place.CpuPlace.TheVariants.{Outside}
 use Rattle.granule_cells.specs.Seen.{place_of}
 use Rattle.spec_machine.specs.Whole.{cells_in, placed_at, places_in}

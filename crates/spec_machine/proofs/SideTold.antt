@@ -6,7 +6,7 @@ use Rattle.rmm_spec.specs.Lookup.{any_below, has_vmid, is_vmid_used, is_owned_by
 use Rattle.rmm_spec.specs.Cell.{Cell, Undelegated, realm_in, realms_of, recs_of}
 use Rattle.rmm_spec.specs.Shape.{Side, CpuPlace, Inside, IsWellShaped, count_below}
 use Rattle.rmm_laws.proofs.Searches.{inside_runs}
-use Rattle.shape_laws.proofs.Ties.{well_shaped-is_sound}
+use Rattle.rmm_laws.proofs.ShapeTies.{well_shaped-is_sound}
 use Rattle.spec_lemmas.proofs.Placed.{passing_below, any_below-from, runs_on-running, cell_granule, is_inside-inside}
 
 -- one is found exactly where there is one to count

@@ -15,8 +15,8 @@ use Rattle.spec_lemmas.proofs.WalkLaws.{table_number-suc}
 use Rattle.rmm_laws.proofs.Spaces.{space_cases}
 use Rattle.rmm_laws.proofs.Walked.{table_number-entry}
 use Rattle.spec_lemmas.proofs.FlatTables.{IsAtSpot, found_at_spot, spot_is_found}
-use Rattle.shape_laws.proofs.Finds.{table_granule-holds, holds-found}
-use Rattle.shape_laws.proofs.Ties.{IsTied-shaped}
+use Rattle.rmm_laws.proofs.Finds.{table_granule-holds, holds-found}
+use Rattle.rmm_laws.proofs.ShapeTies.{IsTied-shaped}
 
 -- a root covers every address of its realm
 pub root_number : (r : RealmRecord) → IsTrue (is_space r.width r.start_level) → (ipa : ℕ) → ipa < full r → table_number r.start_level ipa ≡ 0

@@ -3,7 +3,7 @@ use Rattle.std.specs.Prelude.{Bool, true, false}
 use Rattle.rmm_spec.specs.declared.change.Change.{Change}
 use Rattle.rmm_spec.specs.declared.function_id.FunctionId.{FunctionId}
 use Rattle.rmm_spec.specs.declared.function_id.FunctionId.TheVariants.{RealmCreate, RttCreate}
-use Rattle.cell_changes.specs.Rooms as rooms
+use Rattle.granule_cells.specs.Rooms as rooms
 
 -- a table is made
 abbrev pub takes_memory : Change → Bool

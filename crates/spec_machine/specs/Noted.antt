@@ -9,7 +9,7 @@ use Rattle.rmm_spec.specs.Call.{call_of}
 use Rattle.rmm_spec.specs.Cell.{realms_of, recs_of}
 use Rattle.rmm_spec.specs.State.{State}
 use Rattle.rmm_spec.specs.Step.{outcome}
-use Rattle.cell_changes.specs.Changes.{granules_changed}
+use Rattle.granule_cells.specs.Changes.{granules_changed}
 use Rattle.spec_machine.specs.Patches.{Standing, patched}
 use Rattle.spec_machine.specs.declared.patch.Patch.{Patch}
 use Rattle.spec_machine.specs.declared.patch.Replaced.{Replaced}

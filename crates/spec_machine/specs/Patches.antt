@@ -6,7 +6,7 @@ use Rattle.rmm_spec.specs.State.{State}
 use Rattle.rmm_spec.specs.Cell.{put}
 use Rattle.rmm_spec.specs.Flat.{flat_state}
 use Rattle.rmm_spec.specs.Shape.{Side}
-use Rattle.shape_laws.specs.Whole.{IsShaped, Whole}
+use Rattle.rmm_laws.specs.Whole.{IsShaped, Whole}
 use Rattle.granule_cells.specs.Seen.{cell_of}
 use Rattle.granule_cells.specs.Sides.{with_count, with_vmid}
 use Rattle.spec_machine.specs.Whole.{config_of, places_of, whole_of}

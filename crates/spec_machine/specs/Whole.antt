@@ -8,7 +8,7 @@ use Rattle.rmm_spec.specs.TableCells.{TableCell}
 use Rattle.rmm_spec.specs.Cell as spec
 use Rattle.rmm_spec.specs.Flat.{flat_state}
 use Rattle.rmm_spec.specs.Shape as shape
-use Rattle.shape_laws.specs.Whole.{Whole, IsShaped}
+use Rattle.rmm_laws.specs.Whole.{Whole, IsShaped}
 use Rattle.rtt_table.specs.Plain.{cells_from}
 use Rattle.granule_cells.specs.declared.cpu_place.CpuPlace.{CpuPlace}
 use Rattle.granule_cells.specs.declared.cpu_place.CpuPlace.TheVariants.{Outside}

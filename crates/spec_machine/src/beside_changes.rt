@@ -5,7 +5,7 @@ ghost use Rattle.rmm_spec.specs.declared.tag.Tag.TheVariants.{Rd};
 ghost use Rattle.rmm_spec.specs.Applicable.{CanApply};
 ghost use Rattle.rmm_spec.specs.Cell as spec;
 ghost use Rattle.rmm_spec.specs.Lookup.{has_tag};
-ghost use Rattle.shape_laws.specs.Whole as whole;
+ghost use Rattle.rmm_laws.specs.Whole as whole;
 ghost use Rattle.granule_cells.specs.Sides.{side_of, with_count};
 ghost use Rattle.spec_machine.specs.Whole.{cells_of, places_of, state_in, IsShapedIn};
 
@@ -19,7 +19,7 @@ use rmm_spec::{Change, RecChange, RecUpdate};
 
 /// Makes what a change makes of the VMIDs, of the counts and of the CPUs' places, and keeps where a table is made.
 #[inline(always)]
-#[tactic(auto, unfolding(shape_laws::specs::Whole::side_changed, shape_laws::specs::Whole::places_changed))]
+#[tactic(auto, unfolding(rmm_laws::specs::Whole::side_changed, rmm_laws::specs::Whole::places_changed))]
 pub(crate) fn change_beside(granules: &mut Granules, change: &Change)
     requires shaped { IsShapedIn granules.old }
     requires can { CanApply (state_in granules.old) change.now }

@@ -4,8 +4,7 @@ ghost use Rattle.std.specs.Prelude.{◌≡◌, ◌≤◌, length};
 ghost use Rattle.granule_places.specs.Placed.{count_in, room_in};
 
 use crate::slot_list::SlotList;
-use cell_changes::{CellChange, CellStore, CellView};
-use granule_cells::Cell;
+use granule_cells::{Cell, CellChange, CellStore, CellView};
 use granule_places::GranulePlaces;
 use memory_map::{Config, GRANULE_BYTES, Pa};
 use realm_desc::{Realm, Rec};

@@ -2,8 +2,9 @@
 
 use crate::beside_changes::{change_beside, change_places};
 use crate::machine::Machine;
-use cell_changes::{CellStore, TablePlace, change_records, plain_cell, room_for, table_changed};
-use granule_cells::Cell;
+use granule_cells::{
+    Cell, CellStore, TablePlace, change_records, plain_cell, room_for, table_changed,
+};
 use rmm_spec::{Change, RealmChange, RecChange, Tag};
 use std::alloc::AllocError;
 
@@ -12,8 +13,8 @@ impl Machine {
     ghost use Rattle.rmm_spec.specs.Change.{changed};
     ghost use Rattle.rmm_spec.specs.declared.change.Change.TheVariants.{Retagged, RecordsChanged};
     ghost use Rattle.rmm_spec.specs.Applicable.{CanApply, CanRetag};
-    ghost use Rattle.shape_laws.specs.Whole.{whole_changed};
-    ghost use Rattle.cell_changes.specs.Changes.{table_found};
+    ghost use Rattle.rmm_laws.specs.Whole.{whole_changed};
+    ghost use Rattle.granule_cells.specs.Changes.{table_found};
     ghost use Rattle.spec_machine.specs.Memory.{takes_memory};
     ghost use Rattle.spec_machine.specs.View.{state_of};
     ghost use Rattle.spec_machine.specs.Whole.{config_of, whole_of};
@@ -33,7 +34,7 @@ impl Machine {
         };
         let at = self.table_for(change);
         change_beside(&mut self.granules, change);
-        cell_changes::apply(&mut self.granules.list, change, at, room);
+        granule_cells::apply(&mut self.granules.list, change, at, room);
         Ok(())
     }
 

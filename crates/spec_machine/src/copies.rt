@@ -2,7 +2,7 @@
 
 ghost use Rattle.std.specs.Prelude.{◌≡◌, ◌≤◌, length, IfOk, vec_capacity};
 ghost use Rattle.granule_cells.specs.Seen.{cell_of};
-ghost use Rattle.cell_changes.specs.OneCell.{cell_seen};
+ghost use Rattle.granule_cells.specs.OneCell.{cell_seen};
 
 use crate::cell_list::CellList;
 use crate::granules::Granules;
@@ -11,8 +11,7 @@ use crate::near::Near;
 use crate::places::{CPUS, Places};
 use crate::slot::{HousedRec, Slot};
 use crate::slot_list::SlotList;
-use cell_changes::CellView;
-use granule_cells::{Cell, CpuPlace, Descriptor};
+use granule_cells::{Cell, CellView, CpuPlace, Descriptor};
 use std::alloc::{AllocError, Global};
 
 impl Machine {

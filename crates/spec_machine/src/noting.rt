@@ -1,14 +1,14 @@
 //! What a change is about to replace, noted before it, so that it can be taken back.
 
 ghost use Rattle.std.specs.Prelude.{◌≡◌, flat_map};
-ghost use Rattle.cell_changes.specs.Changes as spec;
-ghost use Rattle.cell_changes.specs.Changes.{table_at};
+ghost use Rattle.granule_cells.specs.Changes as spec;
+ghost use Rattle.granule_cells.specs.Changes.{table_at};
 ghost use Rattle.spec_machine.specs.Noted as noted;
 
 use crate::copies::copied_view;
 use crate::machine::Machine;
 use crate::patch::{Patch, Replaced};
-use cell_changes::CellStore;
+use granule_cells::CellStore;
 use memory_map::Pa;
 use rmm_spec::Change;
 use std::alloc::AllocError;
@@ -16,7 +16,7 @@ use std::alloc::AllocError;
 impl Machine {
     ghost use Rattle.std.specs.Prelude.{◌≡◌, flat_map, IfSome, IsTrue, OnOk};
     ghost use Rattle.rmm_spec.specs.Cell.{realms_of, recs_of};
-    ghost use Rattle.cell_changes.specs.Changes.{table_at};
+    ghost use Rattle.granule_cells.specs.Changes.{table_at};
     ghost use Rattle.spec_machine.specs.Noted.{has_cell, has_count, has_places, has_vmid, HasBeside, HasCells, IsNoted, LeadsAsBefore};
     ghost use Rattle.spec_machine.specs.Patches.{standing_of};
     ghost use Rattle.spec_machine.specs.Whole.{cells_of};

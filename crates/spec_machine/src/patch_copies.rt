@@ -2,7 +2,7 @@
 
 use crate::copies::copied_view;
 use crate::patch::{Patch, Replaced};
-use cell_changes::CellView;
+use granule_cells::CellView;
 use std::alloc::{AllocError, Global};
 
 impl Patch {

@@ -1,20 +1,19 @@
 //! Whether two patches lead to one state.
 
 ghost use Rattle.std.specs.Prelude.{◌≡◌, IsTrue};
-ghost use Rattle.cell_changes.specs.OneCell.{cell_seen};
+ghost use Rattle.granule_cells.specs.OneCell.{cell_seen};
 ghost use Rattle.spec_machine.specs.PatchKeys.{compared};
 
 use crate::machine::Machine;
 use crate::patch::{Patch, Replaced};
 use crate::same::same_cell;
 use crate::unmeasured::like_cells;
-use cell_changes::{CellStore, CellView};
-use granule_cells::Cell;
+use granule_cells::{Cell, CellStore, CellView};
 use memory_map::granule_at;
 
 impl Machine {
     ghost use Rattle.std.specs.Prelude.{◌≡◌, ℕ, All, IsTrue, true, false};
-    ghost use Rattle.cell_changes.specs.OneCell.{cell_seen};
+    ghost use Rattle.granule_cells.specs.OneCell.{cell_seen};
     ghost use Rattle.spec_machine.specs.Patches.{patched, standing_of, state_at};
     ghost use Rattle.spec_machine.specs.PatchKeys.{cell_after, AreAlikeAt, AreAlikeIn};
     ghost use Rattle.spec_machine.specs.Unmeasured.{unmeasured};

@@ -8,8 +8,7 @@ ghost use Rattle.spec_machine.specs.declared.patch.Replaced.TheVariants.{RecCoun
 use crate::granules::Granules;
 use crate::machine::Machine;
 use crate::patch::{Patch, Replaced};
-use cell_changes::CellStore;
-use granule_cells::Side;
+use granule_cells::{CellStore, Side};
 use memory_map::{Pa, granule_at};
 use std::mem::{swap, take};
 

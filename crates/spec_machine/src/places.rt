@@ -19,7 +19,7 @@ impl Places {
     ghost use Rattle.std.specs.Prelude.{◌≡◌, IfOk};
     ghost use Rattle.rmm_spec.specs.Cell.{put};
     ghost use Rattle.rmm_spec.specs.Shape as shape;
-    ghost use Rattle.shape_laws.specs.Whole.{places_left};
+    ghost use Rattle.rmm_laws.specs.Whole.{places_left};
     ghost use Rattle.granule_cells.specs.Seen.{place_of};
     ghost use Rattle.spec_machine.specs.Whole.{places_of};
 

@@ -1,15 +1,13 @@
 //! Whether a cell is the same as another.
 
 ghost use Rattle.std.specs.Prelude.{◌≡◌, IsTrue};
-ghost use Rattle.cell_changes.specs.OneCell.{cell_seen};
+ghost use Rattle.granule_cells.specs.OneCell.{cell_seen};
 ghost use Rattle.spec_machine.specs.Unmeasured.{unmeasured_realm};
 
 use crate::slot_list::SlotList;
-use cell_changes::CellView;
-use granule_cells::Cell;
-use measure::Rem;
+use granule_cells::{Cell, CellView};
 use memory_map::Config;
-use realm_desc::{HashAlgorithm, PendingExit, Realm, Rec, RipasRequest, Space};
+use realm_desc::{HashAlgorithm, PendingExit, Realm, Rec, Rem, RipasRequest, Space};
 use rmm_spec::{Measurement, Version};
 
 /// Whether two machines have the same size and rules.

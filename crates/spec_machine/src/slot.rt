@@ -3,8 +3,7 @@
 ghost use Rattle.std.specs.Prelude.{◌≡◌, List};
 ghost use Rattle.rmm_spec.specs.Cell.{tag_of};
 
-use cell_changes::{CellChange, CellView, change_table, update_realm};
-use granule_cells::{Cell, Descriptor};
+use granule_cells::{Cell, CellChange, CellView, Descriptor, change_table, update_realm};
 use realm_desc::Rec;
 use rmm_spec::Tag;
 use rtt_table::Table;
@@ -35,7 +34,7 @@ impl Slot {
     ghost use Rattle.std.specs.Prelude.{◌<◌, ℕ, [], length, IfErr, IfOk};
     ghost use Rattle.rmm_spec.specs.Cell as spec;
     ghost use Rattle.granule_cells.specs.Seen.{cell_of};
-    ghost use Rattle.cell_changes.specs.OneCell.{cell_changed, cell_seen, FitsCell};
+    ghost use Rattle.granule_cells.specs.OneCell.{cell_changed, cell_seen, FitsCell};
     ghost use Rattle.spec_machine.specs.declared.slot.HousedRec.{HousedRec};
     ghost use Rattle.spec_machine.specs.declared.slot.Slot.TheVariants as kind;
     ghost use Rattle.spec_machine.specs.Held.{number_of, seen};
@@ -135,7 +134,7 @@ impl Slot {
 impl HousedRec {
     ghost use Rattle.std.specs.Prelude.{◌≡◌};
     ghost use Rattle.rmm_spec.specs.Cell as spec;
-    ghost use Rattle.cell_changes.specs.OneCell.{cell_changed, FitsCell};
+    ghost use Rattle.granule_cells.specs.OneCell.{cell_changed, FitsCell};
 
     /// Changes the REC, where a REC is meant.
     #[inline(always)]

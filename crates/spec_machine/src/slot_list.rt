@@ -5,8 +5,7 @@ ghost use Rattle.rmm_spec.specs.Cell as spec;
 ghost use Rattle.spec_machine.specs.declared.slot.Slot.TheVariants.{Undelegated};
 
 use crate::slot::{HousedRec, Slot};
-use cell_changes::{CellChange, CellView};
-use granule_cells::Cell;
+use granule_cells::{Cell, CellChange, CellView};
 use realm_desc::{Realm, Rec};
 use rmm_spec::Tag;
 use rtt_table::Table;
@@ -40,7 +39,7 @@ impl SlotList {
     ghost use Rattle.std.specs.Prelude.{◌≡◌, ◌+◌, ◌<◌, ◌≤◌, ◌++◌, length, replicate, is_some, option_copied, IfOk, IsTrue, None};
     ghost use Rattle.rmm_spec.specs.Cell.{rec_in, realm_in, table_in, tag_of};
     ghost use Rattle.granule_cells.specs.Seen.{cell_of};
-    ghost use Rattle.cell_changes.specs.OneCell.{cell_changed, cell_seen, FitsCell};
+    ghost use Rattle.granule_cells.specs.OneCell.{cell_changed, cell_seen, FitsCell};
     ghost use Rattle.spec_machine.specs.Held.{cell_at, changed_in, with_cell};
 
     /// So many places of granules that are all the host's, and room for further ones.

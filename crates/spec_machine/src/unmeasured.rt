@@ -1,11 +1,11 @@
 //! Whether two cells are the same, but for what was measured.
 
 ghost use Rattle.std.specs.Prelude.{◌≡◌, IsTrue};
-ghost use Rattle.cell_changes.specs.OneCell.{cell_seen};
+ghost use Rattle.granule_cells.specs.OneCell.{cell_seen};
 ghost use Rattle.spec_machine.specs.Unmeasured.{unmeasured_cell};
 
 use crate::same::{same_but_measurements, same_cell};
-use cell_changes::CellView;
+use granule_cells::CellView;
 
 /// Whether two cells are the same but for what was measured.
 pub(crate) fn like_cells(one: CellView<'_>, other: CellView<'_>) -> bool

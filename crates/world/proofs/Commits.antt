@@ -15,7 +15,7 @@ use Rattle.rmm_spec.specs.World.{Commitment, hold_of}
 use Rattle.world_laws.proofs.Recorded.{IsAccounted-opening, IsAccounted-HappenAll}
 use Rattle.world_laws.proofs.Turned.{moves_of_turns}
 use Rattle.world_laws.proofs.Accepted.{local-accepts}
-use Rattle.shape_laws.specs.Whole.{side_changed}
+use Rattle.rmm_laws.specs.Whole.{side_changed}
 use Rattle.command_core.specs.Changed.{hold_changed, given_of, new_cells, new_place}
 use Rattle.command_core.specs.Foreseen.{change_of}
 use Rattle.world.specs.Kept.{IsKept}

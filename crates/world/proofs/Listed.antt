@@ -5,7 +5,7 @@ use Rattle.std.proofs.lemmas.Bool.{and_parts, ltb-true}
 use Rattle.std.proofs.lemmas.List.{get_or_default, get_or-set_same, get_or-set_other}
 use Rattle.rmm_spec.specs.Lookup.{is_granule}
 use Rattle.lemmas.proofs.Tests.{both_ways, keys_apart}
-use Rattle.shape_laws.proofs.Slices.{slice_get-set_same, slice_get-set_other}
+use Rattle.rmm_laws.proofs.Slices.{slice_get-set_same, slice_get-set_other}
 use Rattle.world.specs.Granules.{item_at}
 use Rattle.world.specs.Cpus.{told, of_each}
 

@@ -15,9 +15,9 @@ use Rattle.rmm_spec.specs.Local.{put_all, LocalStep}
 use Rattle.world_laws.specs.Replaced.{held_at}
 use Rattle.world_laws.proofs.Locals.{agrees-at}
 use Rattle.spec_lemmas.proofs.Members.{Contains-nil, Contains-other, Contains-from_slice_get, slice_get-from_Contains, cells_at, cell_held, granules_held-cells_at}
-use Rattle.shape_laws.specs.Whole.{Whole, IsShaped, cells_changed, side_changed, places_changed, whole_changed}
-use Rattle.shape_laws.proofs.Accepted.{done-keeps_shape}
-use Rattle.shape_laws.proofs.Finds.{granule-number}
+use Rattle.rmm_laws.specs.Whole.{Whole, IsShaped, cells_changed, side_changed, places_changed, whole_changed}
+use Rattle.rmm_laws.proofs.Accepted.{done-keeps_shape}
+use Rattle.rmm_laws.proofs.Finds.{granule-number}
 use Rattle.world_laws.specs.Strays.{granules_below, hold_all}
 use Rattle.world_laws.proofs.Serving.{Contains-last}
 use Rattle.lemmas.proofs.Elements.{slice_get-append}

@@ -15,7 +15,7 @@ use Rattle.rmm_spec.specs.Step.Terms.{Terms, OfWalk, terms_of, names_in, walk_in
 use Rattle.spec_lemmas.proofs.WalkLaws.{table_number-suc, reach-covers, reach-deepest}
 use Rattle.rmm_laws.proofs.Cases.{nothing_there}
 use Rattle.rmm_laws.proofs.Entries.{entry-link, link_there}
-use Rattle.shape_laws.proofs.Finds.{table_granule-holds}
+use Rattle.rmm_laws.proofs.Finds.{table_granule-holds}
 use Rattle.world_laws.specs.SeenState.{is_of_realm, entry_in, entry_held, link_of, linked_or, table_seen}
 use Rattle.world_laws.specs.Walking.{keeps_realm, part_below, end_entry, is_part_held, is_told, are_told, is_refused_early, seen_answer, is_way_settled, is_walk_settled, is_kept}
 use Rattle.world_laws.proofs.Found.{placed-holds, behind-some}

@@ -26,8 +26,8 @@ use Rattle.rmm_spec.specs.Cell.{Cell, Undelegated, Delegated, Data, Rtt, put}
 use Rattle.rmm_spec.specs.Flat.{flat_state, table_granule, leaf_in_tables}
 use Rattle.rmm_spec.specs.Shape.{Outside, IsWellShaped}
 use Rattle.rmm_spec.specs.World.{opening_world}
-use Rattle.shape_laws.specs.Whole.{Whole, IsShaped, cells_changed, side_changed, places_changed, whole_changed}
-use Rattle.shape_laws.proofs.Accepted.{done-keeps_shape}
+use Rattle.rmm_laws.specs.Whole.{Whole, IsShaped, cells_changed, side_changed, places_changed, whole_changed}
+use Rattle.rmm_laws.proofs.Accepted.{done-keeps_shape}
 use Rattle.spec_lemmas.proofs.Opening.{IsShapedWorld-opening}
 use Rattle.world_laws.specs.SmallWholes.{eight_granules, lent, one_realm, one_vmid, realm_with_root, table_at, beginning, linked_root, linked_middle, bare_table, one_page, two_realms, two_vmids, one_rec, the_rec, one_owned}
 

@@ -13,7 +13,7 @@ use Rattle.rmm_spec.specs.Cell.{Undelegated, Delegated, Rd, Rec, RecAux, Data, R
 use Rattle.rmm_spec.specs.Local.{granules_held}
 use Rattle.spec_lemmas.proofs.Members.{passing_member}
 use Rattle.spec_lemmas.proofs.Placed.{cell_is_granule}
-use Rattle.shape_laws.proofs.Cells.{cell-table}
+use Rattle.rmm_laws.proofs.Cells.{cell-table}
 use Rattle.world_laws.specs.Held.{cell_in}
 use Rattle.world_laws.specs.Misfits.{is_place, is_other_table, is_other_page, is_misfit_part, is_misfit_table, is_misfit_root, is_misfit_walk}
 use Rattle.world_laws.proofs.Wholes.{Whole, whole_cell, whole_table}

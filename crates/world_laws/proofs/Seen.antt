@@ -21,8 +21,8 @@ use Rattle.rmm_spec.specs.Flat.{is_table_of}
 use Rattle.rmm_laws.proofs.Entries.{value_there}
 use Rattle.rmm_laws.proofs.Spaces.{space_cases}
 use Rattle.spec_lemmas.proofs.Placed.{cell_is_granule}
-use Rattle.shape_laws.proofs.Cells.{cell-realm}
-use Rattle.shape_laws.proofs.Finds.{holds-is_table_of}
+use Rattle.rmm_laws.proofs.Cells.{cell-realm}
+use Rattle.rmm_laws.proofs.Finds.{holds-is_table_of}
 use Rattle.world_laws.specs.Held.{cell_in}
 use Rattle.world_laws.specs.Same.{SameSpace, SameWalk}
 use Rattle.world_laws.specs.SeenState.{is_of_realm, start_of, blank_realm, realm_of_width, realm_behind, cell_or, cell_seen}

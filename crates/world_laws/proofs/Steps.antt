@@ -34,9 +34,9 @@ use Rattle.rmm_laws.proofs.Runs.{done_applies, reached_applies}
 use Rattle.world_laws.specs.Replaced.{held_at}
 use Rattle.spec_lemmas.proofs.Maps.{put-other, put-same}
 use Rattle.world_laws.proofs.Locals.{step-is_local}
-use Rattle.shape_laws.specs.Whole.{cell_with_tag, cell_with_realm, cell_with_rec, cell_with_entries, width_in, copied_table, cells_with_entries, cells_with_table, table_changed, entries_changed, cells_with_tag_change, cells_with_realm_change, cells_with_rec_change, cells_changed, side_changed, places_changed, places_of_rec, places_with_rec_change, whole_changed, IsShaped}
-use Rattle.shape_laws.proofs.Accepted.{done-keeps_shape, reached-keeps_shape}
-use Rattle.shape_laws.proofs.Cells.{tag-cell, cell-table}
+use Rattle.rmm_laws.specs.Whole.{cell_with_tag, cell_with_realm, cell_with_rec, cell_with_entries, width_in, copied_table, cells_with_entries, cells_with_table, table_changed, entries_changed, cells_with_tag_change, cells_with_realm_change, cells_with_rec_change, cells_changed, side_changed, places_changed, places_of_rec, places_with_rec_change, whole_changed, IsShaped}
+use Rattle.rmm_laws.proofs.Accepted.{done-keeps_shape, reached-keeps_shape}
+use Rattle.rmm_laws.proofs.Cells.{tag-cell, cell-table}
 use Rattle.world_laws.specs.Held.{known_cell}
 use Rattle.world_laws.specs.TableCells.{tag_cells, realm_cells, rec_cells, entry_cells, made_cells, table_cells, tables_changed, holds_page, holds_realm, is_moved, holds_rec, holds_change}
 use Rattle.world_laws.proofs.Found.{placed-holds}

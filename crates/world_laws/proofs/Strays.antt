@@ -28,8 +28,8 @@ use Rattle.rmm_spec.specs.Locks.{names_part, depth}
 use Rattle.world_laws.specs.Replaced.{held_at}
 use Rattle.spec_lemmas.proofs.Members.{Contains-nil, Contains-head, Contains-tail, each_of_one, each_of_two}
 use Rattle.spec_lemmas.proofs.Opening.{IsShapedWorld-opening}
-use Rattle.shape_laws.specs.Whole.{Whole, IsShaped, cells_changed, side_changed, places_changed, whole_changed}
-use Rattle.shape_laws.proofs.Accepted.{done-keeps_shape}
+use Rattle.rmm_laws.specs.Whole.{Whole, IsShaped, cells_changed, side_changed, places_changed, whole_changed}
+use Rattle.rmm_laws.proofs.Accepted.{done-keeps_shape}
 use Rattle.world_laws.specs.SmallWorlds.{HappenBy, WaitForEachOther, IsUnguardedTake, IsUnguarded, served_by}
 use Rattle.world_laws.specs.Strays.{Accepted, granules_below, hold_all, all_accepted, untouched, nine_granules, two_recs_made, destroys, each_destroys, strays_taken}
 use Rattle.world_laws.proofs.Serving.{HappenAll-from_by, HappenBy-append, MayTakeAll, can_take, serve}

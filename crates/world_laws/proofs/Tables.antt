@@ -12,8 +12,8 @@ use Rattle.rmm_spec.specs.Sound.{IsSound}
 use Rattle.rmm_spec.specs.Flat.{table_granule}
 use Rattle.spec_lemmas.proofs.WalkLaws.{table_number-suc, reach-covers}
 use Rattle.rmm_laws.proofs.Entries.{value_there, entry-leaf, entry-link}
-use Rattle.shape_laws.proofs.Finds.{holds-found}
-use Rattle.shape_laws.proofs.Ties.{entry_leaf-some, leaf-found, link_or_leaf, entry_there, number-again, at_place, IsTied-shaped}
+use Rattle.rmm_laws.proofs.Finds.{holds-found}
+use Rattle.rmm_laws.proofs.ShapeTies.{entry_leaf-some, leaf-found, link_or_leaf, entry_there, number-again, at_place, IsTied-shaped}
 use Rattle.world_laws.specs.SeenState.{entry_in, entry_held, link_of, table_seen, leaf_seen}
 use Rattle.world_laws.proofs.Found.{placed-holds}
 use Rattle.world_laws.proofs.Wholes.{Whole, state, sound, whole_table}

@@ -15,7 +15,7 @@ use Rattle.rmm_spec.specs.Step.{answer_of}
 use Rattle.rmm_spec.specs.Step.Terms.{needed, Terms, OfWalk, terms_of, names_in, walk_in}
 use Rattle.spec_lemmas.proofs.WalkLaws.{table_number-suc}
 use Rattle.rmm_laws.proofs.Entries.{link_there}
-use Rattle.shape_laws.proofs.Finds.{table_granule-holds}
+use Rattle.rmm_laws.proofs.Finds.{table_granule-holds}
 use Rattle.world_laws.specs.Walking.{way, keeps_realm, part_below, end_entry, is_part_held, is_told, are_told, is_table_error, is_way_settled}
 use Rattle.world_laws.proofs.Looks.{SameRec, SameNamed, SameFront, SameUse, FrontsAlike, LooksAlike, answer-same, refused-same}
 use Rattle.world_laws.proofs.Seen.{WalkEnd, realm-same, rec-same, told-tag, told-space, walk-end, held-placed, left-same}

@@ -9,7 +9,7 @@ use Rattle.rmm_spec.specs.Cell.{Undelegated, table_in}
 use Rattle.rmm_spec.specs.Shape.{CpuPlace, IsWellShaped}
 use Rattle.rmm_spec.specs.Local.{granules_held, Agrees}
 use Rattle.spec_lemmas.proofs.Members.{Contains-head, Contains-tail}
-use Rattle.shape_laws.proofs.Ties.{well_shaped-is_sound}
+use Rattle.rmm_laws.proofs.ShapeTies.{well_shaped-is_sound}
 use Rattle.world_laws.specs.Held.{cell_in, known_cell}
 
 pub record Whole (config : Config) (side : Side) (held : List HeldCell) : Type 0 where

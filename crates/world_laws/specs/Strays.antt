@@ -14,7 +14,7 @@ use Rattle.rmm_spec.specs.Local.{Hold}
 use Rattle.rmm_spec.specs.World.{Move}
 use Rattle.rmm_spec.specs.World as move
 use Rattle.world_laws.specs.Replaced.{held_at}
-use Rattle.shape_laws.specs.Whole.{Whole, whole_changed}
+use Rattle.rmm_laws.specs.Whole.{Whole, whole_changed}
 use Rattle.world_laws.specs.SmallWorlds.{command_of, delegate, served_by}
 
 -- a command that is answered ok with no words, and what it changes

@@ -13,7 +13,7 @@ use Rattle.rmm_spec.specs.declared.entry.Entry.TheVariants as entry_kind
 use Rattle.rmm_spec.specs.Cell.{Delegated, Rtt}
 use Rattle.rmm_spec.specs.Local.{HeldCell, Hold}
 use Rattle.world_laws.specs.Replaced.{held_at, replaced_all}
-use Rattle.shape_laws.specs.Whole.{cell_with_tag, cell_with_realm, cell_with_rec, cell_with_entries, width_in, copied_table, table_changed, entries_changed}
+use Rattle.rmm_laws.specs.Whole.{cell_with_tag, cell_with_realm, cell_with_rec, cell_with_entries, width_in, copied_table, table_changed, entries_changed}
 use Rattle.world_laws.specs.Held.{is_held, known_cell}
 use Rattle.world_laws.specs.SeenState.{table_placed}
 

@@ -19,7 +19,7 @@ ghost use Rattle.rmm_spec.specs.Cell.{Cell};
 ghost use Rattle.rmm_spec.specs.Flat.{flat_state};
 ghost use Rattle.rmm_spec.specs.Shape.{Side, CpuPlace, Outside, IsWellShaped};
 ghost use Rattle.rmm_spec.specs.Local.{HeldCell, Hold, Agrees, put_all};
-ghost use Rattle.shape_laws.specs.Whole.{cells_changed};
+ghost use Rattle.rmm_laws.specs.Whole.{cells_changed};
 ghost use Rattle.world_laws.specs.Held.{is_held};
 ghost use Rattle.world_laws.specs.SeenState.{table_behind, seen_state};
 ghost use Rattle.world_laws.specs.Walking.{Way, way, way_of, part_below, is_walk_held, is_part_held, is_refused_early, seen_answer, is_walk_settled, is_kept};

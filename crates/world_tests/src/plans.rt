@@ -5,6 +5,7 @@ ghost use Rattle.std.specs.Prelude.{◌≡◌, ◌==◌, false};
 
 use crate::tables;
 use command_core::{Cell, CpuPlace, Descriptor, HeldPairs, Next, next_lock};
+use fixtures::is_shaped;
 use memory_map::{Config, Pa};
 use realm_desc::{HashAlgorithm, Realm, Rec, Space};
 use rmi_codec::read_command;
@@ -14,7 +15,6 @@ use std::alloc::{AllocError, Global};
 use std::fmt::Write;
 use std::process::Abort;
 use std::test::Fail;
-use walk_tests::is_shaped;
 
 const NAMED: &str = "\
 c4000151 f000 -> take f000, ready

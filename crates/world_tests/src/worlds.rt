@@ -3,8 +3,8 @@
 //! returned, `g` gave up or `s` stopped, as it was told, `i` that it idled, or the number of the granule by which it was
 //! blocked. With a number behind it, the CPU goes on until it has reported that so often.
 
+use fixtures::can_open;
 use memory_map::Config;
-use opening_tests::can_open;
 use rmi_codec::read_command;
 use rmm_spec::Command;
 use std::alloc::Global;

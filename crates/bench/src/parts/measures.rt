@@ -1,7 +1,7 @@
 //! One measurement, extended again and again.
 
 use anyhow::{Result, bail};
-use measure::{Rem, Rim, begin, extend_bytes, extend_words, words};
+use realm_desc::{Rem, Rim, begin, extend_bytes, extend_words, words};
 use rmm_spec::Measurement;
 
 /// Prints the last measurement as four words. Each extension hashes 96 bytes: the 32 of the measurement, and 64 bytes or eight words.

@@ -7,10 +7,10 @@ ghost use Rattle.rmm_spec.specs.TableCells.{IsWalkable};
 ghost use Rattle.rtt_table.specs.Plain.{cells_from};
 
 use anyhow::{Context, Result, bail};
+use fixtures::{PlainCells, is_shaped, is_walkable};
 use memory_map::{Config, GRANULE_BYTES, Ipa, Pa};
 use rtt_table::{Entry, Place, Ripas, Table, walk};
 use std::alloc::Global;
-use walk_tests::{PlainCells, is_shaped, is_walkable};
 
 const ROOT: u64 = 1;
 

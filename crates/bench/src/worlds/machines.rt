@@ -6,8 +6,8 @@ use anyhow::{Context, Result, bail};
 use drawn_scenarios::{DeepLife, Dice, Granules, Sharing, drafted_command, edged_command};
 use flat_machine::{Stepped, TwoMachines};
 use memory_map::Config;
+use reasons::owner_report;
 use std::alloc::Global;
-use told::owner_report;
 
 /// How many steps a run has.
 const STEPS: u64 = 160;

@@ -1,8 +1,8 @@
 //! Worlds, opened and turned.
 
 use anyhow::{Result, bail};
+use fixtures::can_open;
 use memory_map::Config;
-use opening_tests::can_open;
 use rmm_spec::Command;
 use scenario::{Scenario, copied_programs};
 use std::alloc::Global;

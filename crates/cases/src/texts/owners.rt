@@ -2,12 +2,12 @@
 
 use anyhow::{Result, bail};
 use history::History;
+use reasons::{OwnerRow, owner_report};
 use rmm_spec::{Event, Tag};
 use spec_machine::Machine;
 use std::alloc::Global;
 use std::fmt;
 use std::fmt::Write;
-use told::{OwnerRow, owner_report};
 
 /// A line for each granule of the machine on which the history's calls were made, each answered before the next.
 pub(crate) fn owners(alloc: Global, history: &str) -> Result<String> {

@@ -2,11 +2,11 @@
 
 use crate::texts::functions::name_of;
 use anyhow::Result;
+use reasons::{WrongPart, wrong_in_certificate_line, wrong_in_event, wrong_in_header};
 use rmi_codec::{Command, Reply, read_command, read_reply};
 use std::alloc::{AllocError, Global};
 use std::fmt::Write;
 use text_writers::{write_command, write_reply};
-use told::{WrongPart, wrong_in_certificate_line, wrong_in_event, wrong_in_header};
 
 /// A function's name and its words, or why there is none.
 pub(crate) fn command_read(alloc: Global, text: &str) -> Result<String> {

@@ -2,7 +2,7 @@ use Rattle.command_core.proofs.Common.{Option, subst, sym, table_held, ◌∙◌
 use Rattle.std.specs.Prelude.{IfSome}
 use Rattle.rmm_spec.specs.Table.{TableRecord}
 use Rattle.rtt_table.specs.Shaped.{IsShaped}
-use Rattle.cell_changes.specs.Changes.{FitsCells, cells_made}
+use Rattle.granule_cells.specs.Changes.{FitsCells, cells_made}
 use Rattle.command_core.specs.Pairs.{pair_cells, pairs-distinct}
 use Rattle.command_core.specs.Seen.{known_cell}
 use Rattle.command_core.proofs.Stored.{can-put, fits-known, made-held}

@@ -1,7 +1,7 @@
 -- Those of the names so far.
 use Rattle.explain.proofs.Common.{◌≡◌, State, [], take}
 use Rattle.arrayvec.specs.ArrayVec.{array_vec_len}
-use Rattle.told.specs.Report.{AddsOwners}
+use Rattle.reasons.specs.Report.{AddsOwners}
 use Rattle.explain.specs.Before.{AreGranulesBefore}
 use Rattle.explain.proofs.before.granules_before.Given as goal
 

@@ -1,8 +1,8 @@
 -- The first that fails is that for which it is refused.
 use Rattle.explain.proofs.Common.{state_of}
 use Rattle.rmm_spec.specs.Lookup.{rec_inside}
-use Rattle.conditions.specs.Law.{IsOfWords}
-use Rattle.conditions.proofs.First.{fails-first, first-has, none_found}
+use Rattle.reasons.specs.Law.{IsOfWords}
+use Rattle.reasons.proofs.First.{fails-first, first-has, none_found}
 use Rattle.explain.proofs.Decisions.{IsDecision-condition, IsFailing-first, is_so-condition, refused-none, some_found}
 use Rattle.explain.proofs.deciding.failing_condition.Goals as goal
 

@@ -1,5 +1,5 @@
 -- Each kind of test has its fact.
-use Rattle.conditions.specs.Tests.{passes}
+use Rattle.reasons.specs.Tests.{passes}
 use Rattle.explain.proofs.fact.fact_of.Goals as goal
 
 pub tag_fact-requires-clause-fails : goal.tag_fact-requires-clause-fails

@@ -1,5 +1,5 @@
 use Rattle.spec_machine.proofs.Common.{◌∙◌, ap, cells_of, places_of, sym}
-use Rattle.shape_laws.specs.Whole.{places_of_rec}
+use Rattle.rmm_laws.specs.Whole.{places_of_rec}
 use Rattle.spec_machine.proofs.BesideChanged.{no_rec-places}
 use Rattle.spec_machine.proofs.OneChanged.{rec_cell}
 use Rattle.spec_machine.proofs.beside_changes.change_places.Goals as goal

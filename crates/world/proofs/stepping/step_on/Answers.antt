@@ -1,6 +1,6 @@
 use Rattle.world.proofs.Common.{◌∙◌, ap, place_of, side_of, sym}
 use Rattle.rmm_spec.specs.Ownership.{is_accepted}
-use Rattle.shape_laws.specs.Whole.{side_changed}
+use Rattle.rmm_laws.specs.Whole.{side_changed}
 use Rattle.command_core.specs.Changed.{hold_of, hold_changed}
 use Rattle.command_core.specs.Decided.{answer_on}
 use Rattle.command_core.specs.Seen.{known_cell}

@@ -1,5 +1,5 @@
 use Rattle.std.proofs.Common.{◌∙◌, subst, sym}
-use Rattle.cell_changes.specs.OneCell.{FitsCell}
+use Rattle.granule_cells.specs.OneCell.{FitsCell}
 use Rattle.command_core.specs.Pairs.{pair_cells}
 use Rattle.command_core.proofs.InPlace.{none-changed, place-changed, place-kept, place-known}
 use Rattle.command_core.proofs.held_store.HeldPairsCellStore.change.Goals as goal

@@ -1,5 +1,5 @@
 use Rattle.spec_machine.proofs.Common.{cells_of, subst, sym}
-use Rattle.cell_changes.specs.OneCell.{FitsCell, cell_changed}
+use Rattle.granule_cells.specs.OneCell.{FitsCell, cell_changed}
 use Rattle.spec_machine.proofs.OneChanged.{place-cell, place-changed}
 use Rattle.spec_machine.proofs.cell_list.CellListCellStore.change.Goals as goal
 

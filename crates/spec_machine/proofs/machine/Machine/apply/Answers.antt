@@ -1,10 +1,10 @@
 use Rattle.spec_machine.proofs.Common.{CellList, Option, ap, cells_of, config_of, flat_state, places_of, state_in, subst, subst₂, sym, whole_of, ℕ, ◌∙◌, ◌≡◌}
-use Rattle.cell_changes.specs.Changes.{CanPutAll, FitsCells, cells_made}
-use Rattle.cell_changes.specs.MadeLaws.{cells_made-changed}
+use Rattle.granule_cells.specs.Changes.{CanPutAll, FitsCells, cells_made}
+use Rattle.granule_cells.specs.MadeLaws.{cells_made-changed}
 use Rattle.granule_cells.specs.Sides.{side_of}
 use Rattle.rmm_spec.specs.Applicable.{CanApply}
 use Rattle.rmm_spec.specs.Lookup.{is_granule}
-use Rattle.shape_laws.specs.Whole.{places_changed, side_changed, whole_changed}
+use Rattle.rmm_laws.specs.Whole.{places_changed, side_changed, whole_changed}
 use Rattle.spec_machine.proofs.CanMake.{change-fits, granules-put}
 use Rattle.spec_machine.proofs.Made.{made}
 use Rattle.spec_machine.proofs.machine.Machine.apply.Goals as goal

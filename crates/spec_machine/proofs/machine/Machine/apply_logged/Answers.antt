@@ -1,9 +1,9 @@
 use Rattle.spec_machine.proofs.Common.{◌∙◌, ◌≡◌, CanApply, CellList, ap, cells_of, changed, config_of, flat_state, places_of, state_in, subst, subst₂, sym, whole_of}
-use Rattle.cell_changes.specs.Changes.{table_found}
+use Rattle.granule_cells.specs.Changes.{table_found}
 use Rattle.granule_cells.specs.Sides.{side_of}
 use Rattle.rmm_spec.specs.Cell.{tables_of}
 use Rattle.rmm_spec.specs.Flat.{table_granule}
-use Rattle.shape_laws.specs.Whole.{IsShaped, whole_changed}
+use Rattle.rmm_laws.specs.Whole.{IsShaped, whole_changed}
 use Rattle.spec_machine.proofs.Noted.{changed-back}
 use Rattle.spec_machine.specs.Patches.{patched, standing_of}
 use Rattle.spec_machine.proofs.machine.Machine.apply_logged.Goals as goal

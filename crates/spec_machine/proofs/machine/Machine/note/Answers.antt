@@ -1,5 +1,5 @@
 use Rattle.spec_machine.proofs.Common.{subst, List, ℕ}
-use Rattle.cell_changes.specs.Changes.{granules_changed}
+use Rattle.granule_cells.specs.Changes.{granules_changed}
 use Rattle.spec_machine.proofs.Noted.{kept-cells, leads-on}
 use Rattle.spec_machine.specs.Noted.{HasCells}
 use Rattle.spec_machine.specs.Patches.{standing_of}

@@ -1,6 +1,6 @@
 use Rattle.spec_machine.proofs.Common.{◌∙◌, put, whole_of}
 use Rattle.rmm_spec.specs.declared.change.Change.TheVariants.{Retagged}
-use Rattle.shape_laws.specs.Whole.{cells_changed, places_changed, side_changed}
+use Rattle.rmm_laws.specs.Whole.{cells_changed, places_changed, side_changed}
 use Rattle.spec_machine.proofs.CanMake.{change-fits, granules-put}
 use Rattle.spec_machine.proofs.Made.{made}
 use Rattle.spec_machine.proofs.Tagged.{lent-bare}

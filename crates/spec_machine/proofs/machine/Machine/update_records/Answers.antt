@@ -1,6 +1,6 @@
 use Rattle.spec_machine.proofs.Common.{whole_of}
 use Rattle.rmm_spec.specs.declared.change.Change.TheVariants.{RecordsChanged}
-use Rattle.shape_laws.specs.Whole.{cells_changed, places_changed, side_changed}
+use Rattle.rmm_laws.specs.Whole.{cells_changed, places_changed, side_changed}
 use Rattle.spec_machine.proofs.CanMake.{change-fits}
 use Rattle.spec_machine.proofs.Made.{made}
 use Rattle.spec_machine.proofs.machine.Machine.update_records.Goals as goal

@@ -1,6 +1,6 @@
 use Rattle.spec_machine.proofs.Common.{◌∙◌, ◌≡◌, HousedRec, Slot, [], ap, arith, seen, subst, sym, vec_capacity}
 use Rattle.rmm_spec.specs.Cell as spec
-use Rattle.cell_changes.specs.OneCell.{FitsCell, cell_changed}
+use Rattle.granule_cells.specs.OneCell.{FitsCell, cell_changed}
 use Rattle.spec_machine.specs.Held.{number_of}
 use Rattle.spec_machine.proofs.Slots.{held-rec, held-set, housed-changed, in_slots, kept-set, not_rec-number, rec-below, rec-number, rec-read, seen-plain, slot-cell, slot-number, IsOpened}
 use Rattle.spec_machine.proofs.slot_list.SlotList.change.Goals as goal

@@ -1,5 +1,0 @@
-use Rattle.cell_changes.specs.PlaceLaws.{shaped-root}
-use Rattle.cell_changes.proofs.applying.root_place.Goals as goal
-
-pub returns-clause-shaped : goal.returns-clause-shaped
-returns-clause-shaped c = shaped-root c.args.rd c.args.width c.args.level c.requires

@@ -1,6 +1,0 @@
--- By the rows of each command.
-use Rattle.conditions.proofs.Rows.{refused_for-outcome}
-use Rattle.conditions.proofs.laws.conditions_decide.Goals as goal
-
-pub returns : goal.returns
-returns c = refused_for-outcome

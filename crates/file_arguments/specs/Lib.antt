@@ -1,4 +1,0 @@
-pub mod Arguments
-pub mod Outputs
-pub mod Reports
-pub mod Searches

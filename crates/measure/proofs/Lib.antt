@@ -1,2 +1,0 @@
-mod KnownRims
-pub mod WordBytes

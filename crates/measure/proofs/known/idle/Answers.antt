@@ -1,9 +1,0 @@
-use Rattle.std.proofs.Common.{sym}
-use Rattle.measure.proofs.KnownRims.{idle_rec_of_39_bits, idle_rec_of_48_bits}
-use Rattle.measure.proofs.known.idle.Goals as goal
-
-pub returns-then-is_rim : goal.returns-then-is_rim
-returns-then-is_rim c = rw (c.is_rim.ensures c.if-is_rim.true) (sym idle_rec_of_39_bits)
-
-pub returns-then-is_rim-2 : goal.returns-then-is_rim-2
-returns-then-is_rim-2 c = rw (c.is_rim-2.ensures c.if-is_rim-2.true) (sym idle_rec_of_48_bits)

@@ -1,0 +1,11 @@
+pub mod Exiting
+pub mod First
+pub mod Rows
+pub mod Words
+pub mod WordsAsked
+pub mod Common
+pub mod PlainParts
+pub mod GoingOn
+pub mod Grammars
+pub mod OwnerRows
+pub mod Owners

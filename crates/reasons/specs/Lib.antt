@@ -1,0 +1,10 @@
+pub mod Tests
+pub mod Lists
+pub mod Law
+pub mod Reading
+pub mod Verdict
+pub mod Names
+pub mod Wanted
+pub mod Wrong
+pub mod Report
+pub mod Owners

@@ -1,5 +1,0 @@
-use Rattle.shape_laws.proofs.Ties.{well_shaped-is_sound}
-use Rattle.shape_laws.proofs.laws.well_shaped_is_sound.Goals as goal
-
-pub returns : goal.returns
-returns c = λ config w shaped. well_shaped-is_sound config w.side w.places w.cells shaped
