@@ -14,6 +14,7 @@ pub mod NextLines
 pub mod OnlyLaws
 pub mod Rounds
 pub mod Finds
+pub mod Gone
 pub mod GroupLaws
 pub mod UnreadLaws
 pub mod SettledLaws

@@ -1,14 +1,17 @@
 -- Orders that are taken into a round.
 use Rattle.finding.proofs.Common.{◌++◌, ◌∙◌, ◌∷◌, ◌≡◌, AllLost, History, IsRound, IsTrue, List, None, Option, RoundLost, Some, [], arith, length, subst, sym}
 use Rattle.std.proofs.lemmas.List.Elements.{All-pop, All-push}
-use Rattle.std.proofs.Common.{false}
+use Rattle.std.proofs.Common.{◌≤◌, ℕ, false}
 use Rattle.std.specs.Option.{IfSome}
 use Rattle.std.proofs.lemmas.Bool.{false≢true}
 use Rattle.verdict_laws.specs.Unread.{ReadsNothing}
 use Rattle.spec_machine.specs.Patches.{Standing, patched, standing_of}
 use Rattle.spec_machine.specs.declared.machine.Machine.{Machine}
 use Rattle.finding.specs.Begun.{AllShelved, AreOrders, Covers, IsLost, IsShelved, IsShelvedLost, OrdersLost, base_of}
+use Rattle.finding.specs.Survey.{IsFurther}
 use Rattle.finding.specs.declared.begun.Begun.{Begun}
+use Rattle.finding.specs.declared.forward.Further.{Further}
+use Rattle.finding.specs.declared.forward.Further.TheVariants.{Kept, Lost, Undecided}
 use Rattle.finding.specs.declared.round.Round.{Round}
 use Rattle.finding.specs.declared.scope.Scope.{Scope}
 use Rattle.finding.specs.declared.shelved.Orders.{Orders}
@@ -136,3 +139,11 @@ AreOrders-sorted history kept ahead round machine (Some next) same are sorted fu
   shelved = further.shelved;
   covers = λ lost. are.covers (sorted (subst (λ (b : Standing). RoundLost history b round) same (further.covers lost)));
 }
+
+-- what is found of orders that are further than others is found of those
+pub IsFurther-before : (history : History) (kept ahead : Orders) (bound until : ℕ) → AreOrders history ahead (OrdersLost history kept) → bound ≤ until
+    → (found : Further) → IsFurther history ahead bound found → IsFurther history kept until found
+IsFurther-before history kept ahead bound until are below (Lost place) is = are.covers is
+IsFurther-before history kept ahead bound until are below (Kept orders place) is =
+    let within = is.2 in (AreOrders-next history ahead orders (OrdersLost history kept) are is.0, is.1, omega (arith, within, below))
+IsFurther-before history kept ahead bound until are below (Undecided place) is = tt

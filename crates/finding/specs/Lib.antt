@@ -17,3 +17,4 @@ pub mod Judged
 pub mod Naming
 pub mod Next
 pub mod MayPass
+pub mod Going

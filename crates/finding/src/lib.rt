@@ -21,6 +21,7 @@ mod finding;
 mod first_part;
 mod forward;
 mod front;
+mod going;
 mod group;
 mod group_lines;
 mod guessed;

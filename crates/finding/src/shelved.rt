@@ -5,8 +5,8 @@ ghost use Rattle.std.specs.Prelude.{◌≡◌};
 use crate::begun::Begun;
 use crate::claims::Claims;
 use crate::front::{Front, is_up_to};
+use crate::going::{Reach, Went};
 use crate::offers::Offers;
-use crate::scope::Scope;
 use crate::trail::Trail;
 use history::History;
 use spec_machine::{Machine, Patch};
@@ -77,12 +77,20 @@ pub(crate) struct Orders {
     pub(crate) machine: Machine,
 }
 
+/// Orders, and how far they went on.
+#[derive(Drop)]
+pub(crate) struct Ahead {
+    pub(crate) orders: Orders,
+    pub(crate) went: Went,
+}
+
 impl Orders {
-    ghost use Rattle.std.specs.Prelude.{◌≡◌, ◌+◌, [], IfOk, IsTrue};
+    ghost use Rattle.std.specs.Prelude.{◌≡◌, ◌+◌, ◌<◌, ◌≤◌, [], length, IfOk, IsTrue};
     ghost use Rattle.verdict_laws.specs.Order.{LeadsNowhere};
     ghost use Rattle.verdict_laws.specs.Unread.{ReadsNothing};
     ghost use Rattle.spec_machine.specs.Patches.{standing_of};
     ghost use Rattle.finding.specs.Begun.{AllReturned, AllShelved, AreOrders, OrdersLost};
+    ghost use Rattle.finding.specs.Going.{IsAhead, IsWithin};
 
     /// The order in which no call stands yet.
     pub(crate) fn opening(alloc: Global, history: &History) -> Result<Orders, AllocError>
@@ -110,14 +118,22 @@ impl Orders {
         alloc: Global,
         offers: &mut Offers,
         history: &History,
-        scope: Scope,
-    ) -> Result<Orders, AllocError>
+        reach: Reach,
+    ) -> Result<Ahead, AllocError>
         requires shelved { AllShelved history.now.recorded (standing_of self.machine) self.begun.items }
-        requires unread { IsTrue scope.unread → ReadsNothing history.now.recorded.events }
-        ensures { IfOk result (λ orders. AreOrders history.now.recorded orders (OrdersLost history.now.recorded self)) }
+        requires unread { IsTrue reach.unread → ReadsNothing history.now.recorded.events }
+        requires returned { AllReturned history.now.recorded self.begun.items reach.from }
+        requires order { reach.from < reach.until }
+        requires until { reach.until ≤ length history.now.recorded.events }
+        ensures orders { IfOk result (λ ahead. AreOrders history.now.recorded ahead.orders (OrdersLost history.now.recorded self)) }
+        ensures ahead { IfOk result (λ ahead. IsAhead history.now.recorded ahead.orders ahead.went) }
+        ensures within { IfOk result (λ ahead. IsWithin reach.until ahead.went) }
     {
         if self.begun.len() != 1 {
-            return Ok(self);
+            return Ok(Ahead {
+                orders: self,
+                went: Went::Short(reach.from),
+            });
         }
         let Orders {
             mut begun,
@@ -129,7 +145,7 @@ impl Orders {
             unreachable!()
         };
         let mut order = order.at_hand(machine);
-        let given = order.go_on(offers, history, scope, &mut trail)?;
+        let went = order.go_far(offers, history, reach, &mut trail)?;
         let Begun {
             front,
             machine,
@@ -137,26 +153,22 @@ impl Orders {
             claims,
             ..
         } = order;
-        if !given {
-            return Ok(Orders {
-                begun,
-                complete,
-                trail,
-                machine,
-            });
+        let mut orders = Orders {
+            begun,
+            complete,
+            trail,
+            machine,
+        };
+        if let Went::Lost(_) = went {
+            return Ok(Ahead { orders, went });
         }
-        begun.push(Shelved {
+        orders.begun.push(Shelved {
             front,
             last,
             claims,
             patch: Patch::none(alloc),
         })?;
-        Ok(Orders {
-            begun,
-            complete,
-            trail,
-            machine,
-        })
+        Ok(Ahead { orders, went })
     }
 
     /// Whether none lacks a call that returned up to the place.

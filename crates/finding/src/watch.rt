@@ -3,7 +3,7 @@
 ghost use Rattle.std.specs.Prelude.{◌≡◌, false};
 
 /// How many offers are made before a watch is asked again.
-const STEPS: u64 = 1024;
+pub(crate) const STEPS: u64 = 1024;
 
 /// How far a search is.
 #[derive(Clone, Copy)]
