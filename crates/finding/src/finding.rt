@@ -8,8 +8,9 @@ use crate::guessed::guessed;
 use crate::judging::Judged;
 use crate::naming::{Beginning, beginning_up_to, named_before, named_place};
 use crate::offers::Offers;
+use crate::slices::{Sliced, look_at_slices};
 use crate::survey::{Answer, FIRST, answer_of};
-use crate::suspecting::{Suspect, first_unguessed};
+use crate::suspecting::Suspect;
 use crate::unread::reads_nothing;
 use crate::watch::{Unwatched, Watch};
 use certificate::Certificate;
@@ -57,12 +58,19 @@ pub fn find_watched<W: Watch>(
     let mut offers = Offers::none();
     let mut suspected = None;
     if limit > 0 && watch.goes_on(FIRST) {
-        match guessed(alloc, &mut offers, history, limit, watch)? {
+        let guess = guessed(alloc, &mut offers, history, limit, watch)?;
+        let is_first = guess.explains_before;
+        match guess.judged {
             Judged::Linearization(order) => return Ok(Found::Order(order)),
-            Judged::Fails(Some(place)) => {
-                suspected = first_unguessed(alloc, &mut offers, history, place)?;
-            }
+            Judged::Fails(Some(place)) => suspected = Some(Suspect { place, is_first }),
             Judged::Fails(None) => {}
+        }
+    }
+    if let Some(first) = suspected {
+        let bounds = bounds_at_first(history, limit);
+        match look_at_slices(alloc, &mut offers, history, bounds, first, watch)? {
+            Sliced::Lost(place) => return Ok(none_up_to(history, place)),
+            Sliced::Open(later) => suspected = later,
         }
     }
     find_wider(alloc, offers, history, limit, suspected, watch)
@@ -149,8 +157,27 @@ fn found_none_up_to<W: Watch>(
     requires { HasNoneUpTo history.now.recorded suspect.place }
     ensures { IfOk result (λ found. IfSome found (IsDecided history.now.recorded)) }
 {
+    let named = named_before(alloc, offers, history, bounds, place, suspect, watch)?;
+    let found = none_up_to(history, named);
+    Ok(Some(found))
+}
+
+/// There is none, since the events up to the place have none.
+fn none_up_to(history: &History, place: u32) -> Found
+    requires { HasNoneUpTo history.now.recorded place }
+    ensures { IsDecided history.now.recorded result }
+{
     let _fact = history.well_formed();
     let _law = first_parts_have_orders();
-    let named = named_before(alloc, offers, history, bounds, place, suspect, watch)?;
-    Ok(Some(Found::None(Some(named))))
+    Found::None(Some(place))
+}
+
+/// How far is looked at first.
+fn bounds_at_first(history: &History, limit: u64) -> Bounds {
+    Bounds {
+        until: history.len(),
+        most: FIRST_MOST,
+        limit,
+        readings: FIRST_READINGS,
+    }
 }

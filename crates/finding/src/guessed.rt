@@ -20,10 +20,13 @@ pub(crate) const SOON: u64 = 1 << 14;
 /// How many are tried where no register is known to have no order.
 const LATER: u64 = 1 << 18;
 
-/// A guess, judged, and whether each of its calls on measurements reads what it read.
+/// A guess, judged.
 #[derive(Drop)]
-struct JudgedGuess {
-    judged: Judged,
+pub(crate) struct JudgedGuess {
+    pub(crate) judged: Judged,
+    /// Whether it explains each return before the place at which it fails.
+    pub(crate) explains_before: bool,
+    /// Whether each of its calls on measurements reads what it read.
     reads_all: bool,
 }
 
@@ -35,20 +38,20 @@ pub(crate) fn guessed<W: Watch>(
     history: &History,
     limit: u64,
     watch: &mut W,
-) -> Result<Judged, AllocError>
-    ensures { IfOk result (IsJudged history.now.recorded) }
+) -> Result<JudgedGuess, AllocError>
+    ensures { IfOk result (λ guess. IsJudged history.now.recorded guess.judged) }
 {
     let soon = guessed_soon(alloc, offers, history)?;
     if soon.reads_all {
-        return Ok(soon.judged);
+        return Ok(soon);
     }
     let lost = lost_register(alloc, history, &mut 0)?;
     if lost.is_some() {
-        return Ok(soon.judged);
+        return Ok(soon);
     }
     let later = min(LATER, limit.saturating_sub(offers.count()));
     let mut tries = Allowed::new(watch, later);
-    Ok(judged_guess(alloc, offers, history, &mut tries)?.judged)
+    judged_guess(alloc, offers, history, &mut tries)
 }
 
 /// Whether a guess soon is a linearization.
@@ -94,6 +97,7 @@ fn judged_guess<W: Watch>(
     if reads_all && unexplained.is_some() {
         return Ok(JudgedGuess {
             judged: Judged::Fails(unexplained),
+            explains_before: true,
             reads_all,
         });
     }
@@ -102,7 +106,11 @@ fn judged_guess<W: Watch>(
         Judged::Fails(place) => Judged::Fails(earlier(place, unexplained)),
         order => order,
     };
-    Ok(JudgedGuess { judged, reads_all })
+    Ok(JudgedGuess {
+        judged,
+        explains_before: false,
+        reads_all,
+    })
 }
 
 /// The earlier of two places, where there are two.

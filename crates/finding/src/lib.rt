@@ -43,6 +43,7 @@ mod scope;
 mod separate;
 mod settled;
 mod shelved;
+mod slices;
 mod survey;
 mod survivors;
 mod suspecting;

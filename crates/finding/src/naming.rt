@@ -50,7 +50,11 @@ pub(crate) fn named_place<W: Watch>(
 {
     let bounds = bounds_for(offers, bounds);
     let place = unread_place(alloc, offers, history, bounds, place, watch)?;
-    if let Some(first) = first_unguessed(alloc, offers, history, place)? {
+    let suspect = Suspect {
+        place,
+        is_first: false,
+    };
+    if let Some(first) = first_unguessed(alloc, offers, history, suspect)? {
         if is_lost_up_to(alloc, offers, history, bounds, first.place, watch)? {
             let named = named_before(alloc, offers, history, bounds, place, first, watch)?;
             return Ok(Some(named));

@@ -29,19 +29,16 @@ struct Open {
     related: [Option<u32>; 8],
 }
 
-/// The first place up to which no order is guessed, from one on up to the last return of a call that is open there: a guess may fail since
-/// that call returns with another reply than it is needed for. None where an order is guessed up to there.
+/// The first place up to which no order is guessed, from that of a suspect on up to the last return of a call that is open there: a guess may
+/// fail since that call returns with another reply than it is needed for. None where an order is guessed up to there.
 pub(crate) fn first_unguessed(
     alloc: Global,
     offers: &mut Offers,
     history: &History,
-    place: u32,
+    first: Suspect,
 ) -> Result<Option<Suspect>, AllocError> {
+    let place = first.place;
     let open = open_at(history, place);
-    let first = Suspect {
-        place,
-        is_first: false,
-    };
     if next_after(&open.related, place).is_none() {
         return Ok(Some(first));
     }

@@ -136,12 +136,12 @@ behind_waiting s cpu (call.RttInitRipas rd base top) makes = λ end g. refl
 behind_waiting s cpu _ makes = both_ways makes refl
 
 -- no realm has the VMID, if one is meant
-abbrev IsFree : State → Option ℕ → Type 0
+abbrev pub IsFree : State → Option ℕ → Type 0
 IsFree s None = Unit {0}
 IsFree s (Some vmid) = is_vmid_used s vmid ≡ false
 
 -- so it is with the VMID that a call takes whose rows hold
-taken_free : (s : State) (cpu : ℕ) (c : Call) → AllHold (behind s cpu c).0 → IsFree s (taken_vmid c)
+pub taken_free : (s : State) (cpu : ℕ) (c : Call) → AllHold (behind s cpu c).0 → IsFree s (taken_vmid c)
 unfolding taken_vmid behind
 taken_free s cpu (call.RealmCreate rd root width level vmid algo) rows = not-true (is_vmid_used s vmid) rows.1.0
 taken_free s cpu _ rows = tt

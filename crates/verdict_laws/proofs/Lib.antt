@@ -59,3 +59,16 @@ pub mod RegisterReturns
 pub mod RegisterStages
 pub mod RegisterOrders
 pub mod Checked
+pub mod SliceTerms
+pub mod Masks
+pub mod MaskedCalls
+pub mod Touched
+pub mod SliceOwners
+pub mod Entered
+pub mod SliceSteps
+pub mod SliceRuns
+pub mod SliceEvents
+pub mod SliceLines
+pub mod SliceFits
+pub mod SliceLendings
+pub mod SliceOrders

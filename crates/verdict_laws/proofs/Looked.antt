@@ -29,7 +29,8 @@ kept_all old new kept = λ i. record {
 }
 
 -- a step of a command that only looks changes nothing
-looks-keep : (old new : State) (cpu : ℕ) (command : Command) (given : Reply) → is_looking command ≡ true → Step old cpu command given new → new ≡ old
+pub looks-keep : (old new : State) (cpu : ℕ) (command : Command) (given : Reply) → is_looking command ≡ true → Step old cpu command given new
+    → new ≡ old
 unfolding changed_parts
 looks-keep old new cpu command given looking step = by command.function looking (step-keeps old new cpu command given step)
   where

@@ -9,3 +9,4 @@ pub mod Separate
 pub mod Beside
 pub mod Making
 pub mod Ending
+pub mod Slices

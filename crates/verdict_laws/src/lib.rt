@@ -13,6 +13,7 @@ mod exchanges;
 mod making;
 mod registers;
 mod separate;
+mod slices;
 mod unread;
 mod verdicts;
 
@@ -42,5 +43,6 @@ pub use registers::{
     register_at_first, register_runs,
 };
 pub use separate::{separate_calls_exchange, separate_calls_pass};
+pub use slices::nowhere_in_a_slice;
 pub use unread::{nowhere_after_an_extension, nowhere_but_for_measurements, nowhere_unread};
 pub use verdicts::{a_verdict_exists, one_verdict};

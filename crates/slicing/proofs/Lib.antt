@@ -1,0 +1,8 @@
+mod FirstEvents
+mod EarlyLaws
+mod EnteredLaws
+mod Named
+mod CallLaws
+mod PlanLaws
+mod Cutting
+mod EventLaws

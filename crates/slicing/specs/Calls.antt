@@ -1,0 +1,47 @@
+-- What is looked at of a call.
+use Rattle.std.specs.Prelude.{◌≡◌, ℕ, true, false, List, MatchOption, Option, Some, None, IfSome, take}
+use Rattle.rmi_view.specs.Seen.{reply_seen}
+use Rattle.rmm_spec.specs.declared.command.Command.{Command}
+use Rattle.rmm_spec.specs.declared.event.Event.{Event}
+use Rattle.rmm_spec.specs.Call.{call_of}
+use Rattle.rmm_spec.specs.Linearization.{IsCalled, IsFinished, IsReturned}
+use Rattle.rmm_spec.specs.Ownership.{is_accepted}
+use Rattle.verdict_laws.specs.Slices.{shows_names}
+use Rattle.slicing.specs.declared.call_at.Answer.{Answer}
+use Rattle.slicing.specs.declared.call_at.CallAt.{CallAt}
+
+-- the first events, so many
+abbrev pub events_to : ℕ → List Event → List Event
+events_to count events = take count events
+
+-- the call returned so, or not at all
+abbrev pub HasAnswer : List Event → ℕ → ℕ → Option Answer → Type 0
+HasAnswer events cpu number answer =
+    MatchOption answer (¬ IsFinished events cpu number) (λ a. IsReturned events a.place cpu number (reply_seen a.reply))
+
+-- What is said of the call is so.
+pub record IsCall (events : List Event) (command : Command) (c : CallAt) : Type 0 where
+  pub is_called : IsCalled events c.place c.cpu c.number command
+  pub function : c.function ≡ command.function
+  pub call : c.call ≡ call_of command
+  pub answer : HasAnswer events c.cpu c.number c.answer
+
+-- a call is made at the place, and what is said of it is so
+abbrev pub IsCallAt : List Event → ℕ → CallAt → Type 0
+IsCallAt events place c = (c.place ≡ place) × ((command : Command) × IsCall events command c)
+
+-- the place of its return, or one after each of a history
+abbrev pub place_back : Option Answer → ℕ
+place_back None = 1000000
+place_back (Some answer) = answer.place
+
+abbrev pub back_of : CallAt → ℕ
+back_of c = place_back c.answer
+
+-- its reply, if it returned, shows what it names
+abbrev pub ShowsNames : CallAt → Type 0
+ShowsNames c = IfSome c.answer (λ a. shows_names (reply_seen a.reply) ≡ true)
+
+-- it was refused
+abbrev pub IsRefused : CallAt → Type 0
+IsRefused c = (a : Answer) × (c.answer ≡ Some a) × (is_accepted (reply_seen a.reply) ≡ false)

@@ -1,0 +1,344 @@
+//! Which calls a slice keeps: the one that returns last, and those on which it depends.
+//! A granule that the first of them needs as an unused one is taken for unused up to there, whatever was done with it before.
+
+use crate::call_at::CallAt;
+use crate::kinds::{changeable, is_hosts};
+use crate::links::number_of;
+use crate::numbering::numbered;
+use crate::plan::{NEVER, Plan};
+use crate::window::Window;
+use command_words::{Name, named};
+use history::History;
+use rmm_spec::{Call, Event, Reply, Tag};
+use std::alloc::{AllocError, Global};
+use std::cmp::min;
+
+/// How often calls are added, since others change the same granules at the same time as the first of those that are kept.
+const ROUNDS: u32 = 256;
+
+/// How many calls on a granule are looked at that were made before the first that is kept, and may return after that one was made.
+const OVERLAPS: u32 = 8;
+
+/// How many calls a slice keeps at most.
+const MOST: usize = 1 << 12;
+
+/// How a slice comes to know what its last call names.
+#[derive(Clone, Copy)]
+pub enum Depth {
+    /// By the call's reply, where that shows it.
+    Shown,
+    /// By earlier calls that made it so.
+    Made,
+}
+
+/// A plan that is being made.
+#[derive(Drop)]
+pub(crate) struct Keeping<'h> {
+    pub(crate) history: &'h History,
+    pub(crate) count: u32,
+    pub(crate) window: Window<'h>,
+    pub(crate) plan: Plan,
+    /// The place of the call that returns last.
+    last: u32,
+    depth: Depth,
+    /// The places of the kept calls, and whether one at a place is, counted back from the last event.
+    kept: Vec<u32>,
+    pub(crate) keeps: Vec<bool>,
+    /// The places of calls that are to be kept.
+    pending: Vec<u32>,
+    /// The granules that kept calls may change.
+    pub(crate) granules: Vec<u64>,
+    /// Whether a call was to be kept that can't be.
+    fails: bool,
+}
+
+/// The plan for the last of the first events, so many, where there is one.
+pub(crate) fn plan_for(
+    alloc: Global,
+    history: &History,
+    count: u32,
+    depth: Depth,
+) -> Result<Option<Plan>, AllocError> {
+    let Some(last) = last_call(history, count, depth) else {
+        return Ok(None);
+    };
+    let mut keeping = Keeping::new(alloc, history, count, last, depth)?;
+    'rounds: for _round in 0..ROUNDS {
+        keeping.keep_pending()?;
+        if keeping.fails || keeping.kept.len() > MOST {
+            return Ok(None);
+        }
+        keeping.add_unknown()?;
+        if keeping.pending.is_empty() {
+            return numbered(keeping);
+        }
+    }
+    Ok(None)
+}
+
+/// The place of the call that returns last of the first events, if the last is a return, and its reply is of use.
+fn last_call(history: &History, count: u32, depth: Depth) -> Option<u32> {
+    let last = count.checked_sub(1)?;
+    if last as usize >= history.len() {
+        return None;
+    }
+    let Event::Returned { cpu, number, reply } = history.event(last as usize) else {
+        return None;
+    };
+    match depth {
+        Depth::Shown if !shows_more(&reply) => None,
+        _ => Some(history.places_of(cpu, number)?.called),
+    }
+}
+
+/// Whether the reply shows what the call names, and something else.
+fn shows_more(reply: &Reply) -> bool {
+    match reply {
+        Reply::Ok(words) => !words.is_empty(),
+        Reply::Err(status, _) => *status != 1,
+        Reply::Misplaced => false,
+    }
+}
+
+impl<'h> Keeping<'h> {
+    fn new(
+        alloc: Global,
+        history: &'h History,
+        count: u32,
+        last: u32,
+        depth: Depth,
+    ) -> Result<Keeping<'h>, AllocError> {
+        let mut pending = Vec::new(alloc);
+        pending.push(last)?;
+        Ok(Keeping {
+            history,
+            count,
+            window: Window::new(alloc, history, count)?,
+            plan: Plan::new(alloc, history.config().granules())?,
+            last,
+            depth,
+            kept: Vec::new(alloc),
+            keeps: Vec::new(alloc),
+            pending,
+            granules: Vec::new(alloc),
+            fails: false,
+        })
+    }
+
+    // Keeps the calls that are to be kept, and those that must be then.
+    fn keep_pending(&mut self) -> Result<(), AllocError> {
+        'pending: for _event in 0..self.history.len() {
+            let Some(place) = self.pending.pop() else {
+                return Ok(());
+            };
+            self.keep(place)?;
+        }
+        Ok(())
+    }
+
+    // Keeps the call that is made at a place.
+    fn keep(&mut self, place: u32) -> Result<(), AllocError> {
+        self.window.cover(place)?;
+        let Some(call) = self.window.call(place) else {
+            return Ok(());
+        };
+        if self.is_marked(place)? {
+            return Ok(());
+        }
+        self.plan.first = min(self.plan.first, place);
+        self.kept.push(place)?;
+        'names: for name in changeable(&call.call).as_slice() {
+            self.change(&call, name)?;
+        }
+        self.look_before(&call)
+    }
+
+    // Whether the call at a place is kept already. Now it is.
+    fn is_marked(&mut self, place: u32) -> Result<bool, AllocError> {
+        let back = self.back_to(place);
+        'events: for _event in self.keeps.len()..back.saturating_add(1) {
+            self.keeps.push(false)?;
+        }
+        let Some(keeps) = self.keeps.get_mut(back) else {
+            return Ok(true);
+        };
+        let was = *keeps;
+        *keeps = true;
+        Ok(was)
+    }
+
+    /// How far a place is back from the last event.
+    pub(crate) fn back_to(&self, place: u32) -> usize {
+        self.count.saturating_sub(place) as usize
+    }
+
+    // A kept call may change a granule: those that did so at the same time or after it are to be kept.
+    fn change(&mut self, call: &CallAt<'_>, name: &Name) -> Result<(), AllocError> {
+        let known = self.earlier(self.plan.mark_of(name.granule).known, call);
+        let Some(mark) = self.plan.marks.get_mut(number_of(name.granule)) else {
+            return Ok(());
+        };
+        let old = mark.first;
+        mark.known = known;
+        if old <= call.place {
+            return Ok(());
+        }
+        mark.first = call.place;
+        mark.lending = match name.tag {
+            Tag::Delegated => Some(0),
+            _ => None,
+        };
+        if old == NEVER {
+            self.granules.push(name.granule)?;
+        }
+        self.reach(name.granule, call.place)?;
+        self.overlap(name.granule, call.place)
+    }
+
+    // The one of two kept calls that returns first, by the places at which they were made.
+    fn earlier(&self, known: Option<u32>, call: &CallAt<'_>) -> Option<u32> {
+        match known {
+            Some(place) if self.back_at(place) <= call.back() => Some(place),
+            _ => Some(call.place),
+        }
+    }
+
+    // The place at which the call returns that is made at a place, or one after each of a history.
+    fn back_at(&self, place: u32) -> u32 {
+        match self.window.call(place) {
+            Some(call) => call.back(),
+            None => NEVER,
+        }
+    }
+
+    // The granule's calls that were made from a place on are to be kept.
+    fn reach(&mut self, granule: u64, place: u32) -> Result<(), AllocError> {
+        'links: for _event in 0..self.history.len() {
+            let Some(link) = self.window.links.link(self.window.links.latest(granule)) else {
+                return Ok(());
+            };
+            if link.place < place {
+                return Ok(());
+            }
+            self.pending.push(link.place)?;
+            self.window.links.go_past(granule, link);
+        }
+        Ok(())
+    }
+
+    // So are those that were made before it, and return after it if at all.
+    fn overlap(&mut self, granule: u64, place: u32) -> Result<(), AllocError> {
+        let mut number = self.window.links.latest(granule);
+        'links: for _link in 0..OVERLAPS {
+            let Some(link) = self.window.links.link(number) else {
+                return Ok(());
+            };
+            if self.back_at(link.place) >= place {
+                self.pending.push(link.place)?;
+            }
+            number = link.before;
+        }
+        Ok(())
+    }
+
+    // A granule that the call needs in use was made so before, and what the last call names may be to be known. A call inside of a REC follows one
+    // that entered it.
+    fn look_before(&mut self, call: &CallAt<'_>) -> Result<(), AllocError> {
+        let is_known_before = matches!(self.depth, Depth::Made) && call.place == self.last;
+        'names: for name in named(&call.call).as_slice() {
+            let in_use = !matches!(name.tag, Tag::Delegated | Tag::Undelegated);
+            if in_use || is_known_before {
+                self.add_before(name.granule, call.place)?;
+            }
+        }
+        if !is_hosts(&call.call) {
+            self.add_previous(call)?;
+        }
+        self.add_inside(call)
+    }
+
+    // The latest call that was made before a place and may have changed the granule is to be kept, if there is one.
+    fn add_before(&mut self, granule: u64, place: u32) -> Result<bool, AllocError> {
+        match self.window.before(granule, place)? {
+            Some(before) => {
+                self.pending.push(before)?;
+                Ok(true)
+            }
+            None => Ok(false),
+        }
+    }
+
+    // The call of the CPU before one is to be kept.
+    fn add_previous(&mut self, call: &CallAt<'_>) -> Result<(), AllocError> {
+        let Some(last) = call.number.checked_sub(1) else {
+            return Ok(());
+        };
+        if let Some(places) = self.history.places_of(call.cpu, last) {
+            self.pending.push(places.called)?;
+        }
+        Ok(())
+    }
+
+    // After a call that enters a REC, or is made inside of it, the next is to be kept too.
+    fn add_inside(&mut self, call: &CallAt<'_>) -> Result<(), AllocError> {
+        let stays = match &call.call {
+            Call::RecEnter { .. } => call.is_done(),
+            Call::Exit => false,
+            other => !is_hosts(other),
+        };
+        if !stays {
+            return Ok(());
+        }
+        if let Some(places) = self
+            .history
+            .places_of(call.cpu, call.number.saturating_add(1))
+        {
+            if places.called < self.count {
+                self.pending.push(places.called)?;
+            }
+        }
+        Ok(())
+    }
+
+    // Where a kept call doesn't know a granule that it names, an earlier one on that granule is to be kept.
+    fn add_unknown(&mut self) -> Result<(), AllocError> {
+        'kept: for index in 0..self.kept.len() {
+            let Some(place) = self.kept.get(index).copied() else {
+                return Ok(());
+            };
+            if let Some(call) = self.window.call(place) {
+                self.add_for(&call)?;
+            }
+        }
+        Ok(())
+    }
+
+    // The same for one call.
+    fn add_for(&mut self, call: &CallAt<'_>) -> Result<(), AllocError> {
+        'names: for name in named(&call.call).as_slice() {
+            if self.knows(call, name) {
+                continue 'names;
+            }
+            let added = self.add_before(name.granule, call.place)?;
+            self.fails = self.fails || !added;
+        }
+        Ok(())
+    }
+
+    // Whether the call knows a granule that it names, as far as can be said before granules are lent.
+    fn knows(&self, call: &CallAt<'_>, name: &Name) -> bool {
+        let is_lent = self.plan.mark_of(name.granule).lending.is_some();
+        let is_unused = match name.tag {
+            Tag::Delegated => is_lent,
+            Tag::Undelegated => !is_lent,
+            _ => false,
+        };
+        if is_unused && call.shows_names() {
+            return true;
+        }
+        match self.plan.mark_of(name.granule).known {
+            Some(known) => self.back_at(known) < call.place,
+            None => false,
+        }
+    }
+}
