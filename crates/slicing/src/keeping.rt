@@ -2,7 +2,7 @@
 //! A granule that the first of them needs as an unused one is taken for unused up to there, whatever was done with it before.
 
 use crate::call_at::CallAt;
-use crate::kinds::{changeable, is_hosts};
+use crate::kinds::{changeable, is_hosts, is_looking};
 use crate::links::number_of;
 use crate::numbering::numbered;
 use crate::plan::{NEVER, Plan};
@@ -14,10 +14,13 @@ use std::alloc::{AllocError, Global};
 use std::cmp::min;
 
 /// How often calls are added, since others change the same granules at the same time as the first of those that are kept.
-const ROUNDS: u32 = 256;
+const ROUNDS: u32 = 64;
 
 /// How many calls on a granule are looked at that were made before the first that is kept, and may return after that one was made.
 const OVERLAPS: u32 = 8;
+
+/// How many calls of a CPU are looked at for one that was carried out inside of a REC.
+const NEAR: u32 = 1 << 8;
 
 /// How many calls a slice keeps at most.
 const MOST: usize = 1 << 12;
@@ -36,13 +39,14 @@ pub enum Depth {
 pub(crate) struct Keeping<'h> {
     pub(crate) history: &'h History,
     pub(crate) count: u32,
-    pub(crate) window: Window<'h>,
+    window: Window<'h>,
     pub(crate) plan: Plan,
     /// The place of the call that returns last.
     last: u32,
     depth: Depth,
-    /// The places of the kept calls, and whether one at a place is, counted back from the last event.
-    kept: Vec<u32>,
+    /// The places of the kept calls.
+    pub(crate) kept: Vec<u32>,
+    /// Whether the call that is made at a place is kept, by how far the place is back from the last event.
     pub(crate) keeps: Vec<bool>,
     /// The places of calls that are to be kept.
     pending: Vec<u32>,
@@ -128,6 +132,9 @@ impl<'h> Keeping<'h> {
     // Keeps the calls that are to be kept, and those that must be then.
     fn keep_pending(&mut self) -> Result<(), AllocError> {
         'pending: for _event in 0..self.history.len() {
+            if self.kept.len() > MOST {
+                return Ok(());
+            }
             let Some(place) = self.pending.pop() else {
                 return Ok(());
             };
@@ -167,8 +174,8 @@ impl<'h> Keeping<'h> {
         Ok(was)
     }
 
-    /// How far a place is back from the last event.
-    pub(crate) fn back_to(&self, place: u32) -> usize {
+    // How far a place is back from the last event.
+    fn back_to(&self, place: u32) -> usize {
         self.count.saturating_sub(place) as usize
     }
 
@@ -268,17 +275,6 @@ impl<'h> Keeping<'h> {
         }
     }
 
-    // The call of the CPU before one is to be kept.
-    fn add_previous(&mut self, call: &CallAt<'_>) -> Result<(), AllocError> {
-        let Some(last) = call.number.checked_sub(1) else {
-            return Ok(());
-        };
-        if let Some(places) = self.history.places_of(call.cpu, last) {
-            self.pending.push(places.called)?;
-        }
-        Ok(())
-    }
-
     // After a call that enters a REC, or is made inside of it, the next is to be kept too.
     fn add_inside(&mut self, call: &CallAt<'_>) -> Result<(), AllocError> {
         let stays = match &call.call {
@@ -286,18 +282,49 @@ impl<'h> Keeping<'h> {
             Call::Exit => false,
             other => !is_hosts(other),
         };
-        if !stays {
-            return Ok(());
+        if stays {
+            self.add_next(call)?;
         }
-        if let Some(places) = self
-            .history
-            .places_of(call.cpu, call.number.saturating_add(1))
-        {
-            if places.called < self.count {
-                self.pending.push(places.called)?;
+        Ok(())
+    }
+
+    // The CPU's call before one is to be kept, but for those that were refused or only look.
+    fn add_previous(&mut self, call: &CallAt<'_>) -> Result<(), AllocError> {
+        for back in 1..NEAR {
+            let Some(number) = call.number.checked_sub(back) else {
+                return Ok(());
+            };
+            if self.adds(call.cpu, number)? {
+                return Ok(());
             }
         }
         Ok(())
+    }
+
+    // So is that after one.
+    fn add_next(&mut self, call: &CallAt<'_>) -> Result<(), AllocError> {
+        for further in 1..NEAR {
+            let number = call.number.saturating_add(further);
+            if self.adds(call.cpu, number)? {
+                return Ok(());
+            }
+        }
+        Ok(())
+    }
+
+    // Whether there is no such call of the CPU, or it is to be kept now, since it wasn't refused and doesn't only look.
+    fn adds(&mut self, cpu: u8, number: u32) -> Result<bool, AllocError> {
+        let Some(places) = self.history.places_of(cpu, number) else {
+            return Ok(true);
+        };
+        let Some(call) = self.window.call(places.called) else {
+            return Ok(true);
+        };
+        if call.is_refused() || is_looking(call.function) {
+            return Ok(false);
+        }
+        self.pending.push(places.called)?;
+        Ok(true)
     }
 
     // Where a kept call doesn't know a granule that it names, an earlier one on that granule is to be kept.

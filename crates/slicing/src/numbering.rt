@@ -1,21 +1,21 @@
 //! The numbers of kept calls in a slice.
 
-use crate::call_at::call_at;
+use crate::call_at::{CallAt, call_at};
 use crate::entered::is_entered_after;
 use crate::keeping::Keeping;
 use crate::links::number_of;
 use crate::plan::Plan;
 use history::History;
-use rmm_spec::Event;
 use std::alloc::AllocError;
+
+/// How far back calls are looked for that are open where the first kept call is made.
+const FAR: u32 = 1 << 12;
 
 /// What is counted of each CPU.
 #[derive(Clone, Copy)]
 struct Count {
     /// The number of its next call in the slice.
     next: u32,
-    /// The number of its last call there, if that is kept.
-    last: Option<u32>,
     /// Whether it is inside of a REC there.
     inside: bool,
 }
@@ -25,37 +25,61 @@ pub(crate) fn numbered(keeping: Keeping<'_>) -> Result<Option<Plan>, AllocError>
     let Keeping {
         history,
         count,
-        window,
         plan,
+        kept,
         keeps,
         granules,
         ..
     } = keeping;
     let mut plan = plan;
-    plan.from = window.from;
     plan.lend_all(&granules)?;
+    let first = plan.first;
+    plan.start(start_before(history, first), count)?;
     let Ok(lent) = u32::try_from(plan.lent.len()) else {
         return Ok(None);
     };
-    let none = Count {
+    let mut counts = [Count {
         next: 0,
-        last: None,
         inside: false,
-    };
-    let mut counts = [none; 8];
+    }; 8];
     counts[0].next = lent;
-    'places: for place in plan.from..count {
-        if place as usize >= history.len() {
+    let mut kept = kept;
+    kept.sort_unstable();
+    'kept: for place in &kept {
+        if count as usize > history.len() || *place >= count {
             return Ok(None);
         }
-        let is_kept = keeps
-            .get(count.saturating_sub(place) as usize)
-            .copied()
-            .unwrap_or(false);
-        let event = history.event(place as usize);
-        plan.note(history, count, &mut counts, &event, is_kept)?;
+        if let Some(call) = call_at(history, count, *place) {
+            plan.number(&mut counts, &call);
+            plan.enter(history, count, &keeps, &counts, &call);
+        }
     }
     Ok(Some(plan))
+}
+
+/// A place from which on those calls were made that are open at a place, if not too far back.
+fn start_before(history: &History, place: u32) -> u32 {
+    let mut is_seen = [false; 8];
+    let mut left = history.config().cpus();
+    let mut start = place;
+    'events: for back in 1..FAR {
+        let at = place.saturating_sub(back);
+        if left == 0 || at as usize >= history.len() {
+            break;
+        }
+        start = at;
+        let Some((cpu, _number)) = history.called_at(at as usize) else {
+            continue 'events;
+        };
+        let Some(is_seen) = is_seen.get_mut(usize::from(cpu)) else {
+            continue 'events;
+        };
+        if !*is_seen {
+            left = left.saturating_sub(1);
+        }
+        *is_seen = true;
+    }
+    start
 }
 
 impl Plan {
@@ -74,50 +98,73 @@ impl Plan {
         Ok(())
     }
 
-    // Notes the next event: a call with whether it is kept, or a return.
-    fn note(
-        &mut self,
-        history: &History,
-        count: u32,
-        counts: &mut [Count; 8],
-        event: &Event,
-        is_kept: bool,
-    ) -> Result<(), AllocError> {
-        match event {
-            Event::Called { cpu, .. } => {
-                let Some(of_cpu) = counts.get_mut(usize::from(*cpu)) else {
-                    return Ok(());
-                };
-                of_cpu.last = is_kept.then_some(of_cpu.next);
-                of_cpu.next = of_cpu.next.saturating_add(u32::from(is_kept));
-                self.numbers.push(of_cpu.last)?;
-                self.entered.push(of_cpu.inside)?;
-            }
-            Event::Returned { cpu, number, .. } => {
-                let Some(of_cpu) = counts.get_mut(usize::from(*cpu)) else {
-                    return Ok(());
-                };
-                self.numbers.push(of_cpu.last)?;
-                self.entered.push(false)?;
-                if of_cpu.last.is_some() {
-                    of_cpu.inside = self.is_inside_after_call(history, count, *cpu, *number);
-                }
-            }
+    // No event from a place on has a number, up to so many.
+    fn start(&mut self, from: u32, count: u32) -> Result<(), AllocError> {
+        self.from = from;
+        'places: for _place in from..count {
+            self.numbers.push(None)?;
+            self.entered.push(false)?;
         }
         Ok(())
     }
 
-    // Whether the CPU is inside of a REC after its call of the number.
-    fn is_inside_after_call(&self, history: &History, count: u32, cpu: u8, number: u32) -> bool {
-        let Some(places) = history.places_of(cpu, number) else {
-            return false;
+    // Gives the next kept call its number, by the places of its events.
+    fn number(&mut self, counts: &mut [Count; 8], call: &CallAt<'_>) {
+        let Some(of_cpu) = counts.get_mut(usize::from(call.cpu)) else {
+            return;
         };
-        if count as usize > history.len() || places.called >= count {
-            return false;
+        let number = Some(of_cpu.next);
+        of_cpu.next = of_cpu.next.saturating_add(1);
+        let at = self.index_of(call.place);
+        if let Some(entered) = self.entered.get_mut(at) {
+            *entered = of_cpu.inside;
         }
-        match call_at(history, count, places.called) {
-            Some(call) => is_entered_after(self, &call),
-            None => false,
+        if let Some(called) = self.numbers.get_mut(at) {
+            *called = number;
+        }
+        let back = self.index_of(call.back());
+        if let Some(returned) = self.numbers.get_mut(back) {
+            *returned = number;
+        }
+        of_cpu.inside = is_entered_after(self, call);
+    }
+
+    // After a call that leaves its CPU inside of a REC, the CPU's calls up to the next that is kept are made there.
+    fn enter(
+        &mut self,
+        history: &History,
+        count: u32,
+        keeps: &[bool],
+        counts: &[Count; 8],
+        call: &CallAt<'_>,
+    ) {
+        if !counts
+            .get(usize::from(call.cpu))
+            .is_some_and(|of_cpu| of_cpu.inside)
+        {
+            return;
+        }
+        for further in 1..count {
+            let number = call.number.saturating_add(further);
+            let Some(places) = history.places_of(call.cpu, number) else {
+                return;
+            };
+            let at = self.index_of(places.called);
+            if let Some(entered) = self.entered.get_mut(at) {
+                *entered = true;
+            }
+            let back = count.saturating_sub(places.called) as usize;
+            if places.called >= count || keeps.get(back).copied().unwrap_or(true) {
+                return;
+            }
+        }
+    }
+
+    // How far a place is from the first.
+    fn index_of(&self, place: u32) -> usize {
+        match place.checked_sub(self.from) {
+            Some(index) => index as usize,
+            None => usize::MAX,
         }
     }
 }

@@ -15,7 +15,7 @@ const FAR: u32 = 1 << 16;
 pub(crate) struct Window<'h> {
     history: &'h History,
     count: u32,
-    pub(crate) from: u32,
+    from: u32,
     pub(crate) links: Links,
     /// The earliest call of each CPU, by its place.
     called: [Option<u32>; 8],
