@@ -58,12 +58,9 @@ pub fn find_watched<W: Watch>(
     let mut offers = Offers::none();
     let mut suspected = None;
     if limit > 0 && watch.goes_on(FIRST) {
-        let guess = guessed(alloc, &mut offers, history, limit, watch)?;
-        let is_first = guess.explains_before;
-        match guess.judged {
+        match guessed(alloc, &mut offers, history, limit, watch)? {
             Judged::Linearization(order) => return Ok(Found::Order(order)),
-            Judged::Fails(Some(place)) => suspected = Some(Suspect { place, is_first }),
-            Judged::Fails(None) => {}
+            Judged::Fails(failing) => suspected = failing,
         }
     }
     if let Some(first) = suspected {

@@ -7,6 +7,7 @@ use crate::allowed::Allowed;
 use crate::judging::{Judged, judgement_of};
 use crate::lines::certificate_of;
 use crate::offers::Offers;
+use crate::suspecting::Suspect;
 use crate::watch::{Unwatched, Watch};
 use guessing::{GuessedOrder, guess};
 use history::History;
@@ -20,13 +21,10 @@ pub(crate) const SOON: u64 = 1 << 14;
 /// How many are tried where no register is known to have no order.
 const LATER: u64 = 1 << 18;
 
-/// A guess, judged.
+/// A guess, judged, and whether each of its calls on measurements reads what it read.
 #[derive(Drop)]
-pub(crate) struct JudgedGuess {
-    pub(crate) judged: Judged,
-    /// Whether it explains each return before the place at which it fails.
-    pub(crate) explains_before: bool,
-    /// Whether each of its calls on measurements reads what it read.
+struct JudgedGuess {
+    judged: Judged,
     reads_all: bool,
 }
 
@@ -38,20 +36,20 @@ pub(crate) fn guessed<W: Watch>(
     history: &History,
     limit: u64,
     watch: &mut W,
-) -> Result<JudgedGuess, AllocError>
-    ensures { IfOk result (λ guess. IsJudged history.now.recorded guess.judged) }
+) -> Result<Judged, AllocError>
+    ensures { IfOk result (IsJudged history.now.recorded) }
 {
     let soon = guessed_soon(alloc, offers, history)?;
     if soon.reads_all {
-        return Ok(soon);
+        return Ok(soon.judged);
     }
     let lost = lost_register(alloc, history, &mut 0)?;
     if lost.is_some() {
-        return Ok(soon);
+        return Ok(soon.judged);
     }
     let later = min(LATER, limit.saturating_sub(offers.count()));
     let mut tries = Allowed::new(watch, later);
-    judged_guess(alloc, offers, history, &mut tries)
+    Ok(judged_guess(alloc, offers, history, &mut tries)?.judged)
 }
 
 /// Whether a guess soon is a linearization.
@@ -94,30 +92,29 @@ fn judged_guess<W: Watch>(
         reads_all,
     } = guess(alloc, history, tries)?;
     tries.count(offers);
+    let unexplained = unexplained.map(|place| Suspect {
+        place,
+        is_first: true,
+    });
     if reads_all && unexplained.is_some() {
         return Ok(JudgedGuess {
             judged: Judged::Fails(unexplained),
-            explains_before: true,
             reads_all,
         });
     }
     let order = certificate_of(alloc, history, cpus.as_slice(), &[])?;
     let judged = match judgement_of(alloc, offers, history, order)? {
-        Judged::Fails(place) => Judged::Fails(earlier(place, unexplained)),
+        Judged::Fails(failing) => Judged::Fails(earlier(failing, unexplained)),
         order => order,
     };
-    Ok(JudgedGuess {
-        judged,
-        explains_before: false,
-        reads_all,
-    })
+    Ok(JudgedGuess { judged, reads_all })
 }
 
-/// The earlier of two places, where there are two.
-fn earlier(one: Option<u32>, other: Option<u32>) -> Option<u32> {
+/// The earlier of two returns, where there are two.
+fn earlier(one: Option<Suspect>, other: Option<Suspect>) -> Option<Suspect> {
     match (one, other) {
-        (Some(one), Some(other)) => Some(min(one, other)),
-        (Some(place), None) | (None, Some(place)) => Some(place),
-        (None, None) => None,
+        (Some(one), Some(other)) if other.place < one.place => Some(other),
+        (None, other) => other,
+        (one, _) => one,
     }
 }

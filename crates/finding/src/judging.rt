@@ -7,6 +7,7 @@ ghost use Rattle.rmm_spec.specs.State.{State};
 ghost use Rattle.finding.specs.Judged.{IsJudged};
 
 use crate::offers::Offers;
+use crate::suspecting::Suspect;
 use certificate::{Certificate, LineRef};
 use checker::{Verdict, judged_order};
 use history::History;
@@ -20,8 +21,8 @@ use std::cmp::min;
 pub(crate) enum Judged {
     /// It is a linearization.
     Linearization(Certificate),
-    /// It is none. The call of the line that fails returned at the place, where a line does and its call returned.
-    Fails(Option<u32>),
+    /// It is none, by the return of the call of the line that fails, where a line does and its call returned.
+    Fails(Option<Suspect>),
 }
 
 /// Judges an order. Each line that is judged counts as a step.
@@ -38,21 +39,46 @@ pub(crate) fn judgement_of(
     offers.add(judged.machine.offers());
     match judged.verdict {
         Verdict::Yes(_) => Ok(Judged::Linearization(order)),
-        Verdict::No { step, .. } => Ok(Judged::Fails(return_at(history, &order, step))),
+        Verdict::No { step, .. } => Ok(Judged::Fails(failing(history, &order, step))),
         _ => Ok(Judged::Fails(None)),
     }
 }
 
-/// The place at which the call of the line at a step returned, where there is one.
-fn return_at(history: &History, order: &Certificate, step: u64) -> Option<u32> {
+/// The return of the call of the line at a step, where there is one.
+fn failing(history: &History, order: &Certificate, step: u64) -> Option<Suspect> {
     let index = step.checked_sub(1)?;
     if index >= order.len() as u64 {
         return None;
     }
-    match order.line(index as usize) {
-        LineRef::Keep { cpu, number } => history.places_of(cpu, number)?.returned,
-        LineRef::Unfinished { .. } => None,
+    let LineRef::Keep { cpu, number } = order.line(index as usize) else {
+        return None;
+    };
+    let place = history.places_of(cpu, number)?.returned?;
+    Some(Suspect {
+        place,
+        is_first: has_all_before(history, order, index as usize, place),
+    })
+}
+
+/// Whether the lines up to one, of an order that keeps real time, have all calls that returned before a place.
+fn has_all_before(history: &History, order: &Certificate, index: usize, place: u32) -> bool {
+    for i in index..order.len() {
+        let LineRef::Keep { cpu, number } = order.line(i) else {
+            continue;
+        };
+        let Some(places) = history.places_of(cpu, number) else {
+            return false;
+        };
+        if places.called > place {
+            return true;
+        }
+        if let Some(returned) = places.returned {
+            if returned < place {
+                return false;
+            }
+        }
     }
+    true
 }
 
 /// The lines of the order before the first that fails: they pass.

@@ -1,9 +1,9 @@
 //! Finds an order of a history's calls that is a linearization, from the history alone, or that there is none.
 //! It promises that the order found is a linearization, and that where none is told no certificate at all is one, nor of the events up to the
-//! place that is told. It takes a guess first, and else looks return by return, up to the return that the guess doesn't explain and then at all: at
-//! each measurement's own calls, then at the orders that are possible still, with no measurement read and as they are. It keeps few of them at
-//! first, and more where it left some out. It gives up only where it has tried as many steps as it may, or whoever follows it said so. The program
-//! `rmmfind` depends on it.
+//! place that is told. It takes a guess first, then slices up to the return that the guess doesn't explain, and else looks return by return, up to
+//! there and then at all: at each measurement's own calls, then at the orders that are possible still, with no measurement read and as they are. It
+//! keeps few of them at first, and more where it left some out. It gives up only where it has tried as many steps as it may, or whoever follows it
+//! said so. The program `rmmfind` depends on it.
 #![tactic(auto)]
 
 mod alike;

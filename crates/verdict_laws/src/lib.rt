@@ -2,7 +2,7 @@
 //! It promises that some verdict is right of any two texts and no two are, so `Judges` leaves a checker nothing to choose; of an order that is
 //! begun, where it leads nowhere and where it is a linearization (`begun`, line by line); for a search through a history's events, where a
 //! kept order leads nowhere, and which calls pass others (`apart`, `beside`, `ending`, `making`, `separate`); that no order is lost where each
-//! reading of a measurement extends one, and that a register's own calls are a run of it. The search for an order stands on these.
+//! reading of a measurement extends one, nor in a slice (`slices`), and that a register's own calls are a run of it. The search stands on these.
 #![tactic(auto)]
 
 mod apart;
