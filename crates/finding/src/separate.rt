@@ -1,6 +1,6 @@
 //! Calls of different realms, or on different granules, which may as well come the other way round.
 
-ghost use Rattle.std.specs.Prelude.{◌≡◌, ◌==◌, ◌||◌, ℕ, true, false, IsTrue, IfNone, IfSome, Some};
+ghost use Rattle.std.specs.Prelude.{◌≡◌, ◌==◌, ◌||◌, ℕ, true, false, IsTrue, IfSome, Some};
 ghost use Rattle.rmm_spec.specs.declared.reply.Reply.{Reply};
 ghost use Rattle.rmm_spec.specs.Locks.{is_named};
 ghost use Rattle.rmm_spec.specs.Step.Terms.{named};
@@ -14,6 +14,7 @@ use crate::apart::{lent, names, names_any};
 use crate::next_call::NextCall;
 use rmi_view::ReplyRef;
 use rmm_spec::Call;
+use slicing::freed;
 
 /// Whether two calls make something, work on a realm's tables or lend a granule, of different realms if of any, and with no granule of both.
 pub(crate) fn are_separate(one: &NextCall<'_>, two: &NextCall<'_>) -> bool
@@ -152,30 +153,6 @@ fn differ(one: Option<u64>, two: Option<u64>) -> bool
     match (one, two) {
         (Some(number), Some(other)) => number != other,
         _ => true,
-    }
-}
-
-/// The granule that a call gives back without naming it, as its reply tells, where it does.
-#[tactic(auto, unfolding(verdict_laws::specs::Separate::is_freed))]
-fn freed(call: &Call, reply: ReplyRef<'_>) -> Option<u64>
-    ensures some { IfSome result (λ granule. (g : ℕ) → spec.is_freed call.now (reply_seen reply.entry) g ≡ (granule == g)) }
-    ensures none { IfNone result ((g : ℕ) → spec.is_freed call.now (reply_seen reply.entry) g ≡ false) }
-{
-    match call {
-        Call::DataDestroy { .. } | Call::RttRemove { .. } => told_granule(reply),
-        _ => None,
-    }
-}
-
-/// The granule of which a reply tells.
-fn told_granule(reply: ReplyRef<'_>) -> Option<u64>
-    ensures some { IfSome result (λ granule. (g : ℕ) → spec.tells_granule (reply_seen reply.entry) g ≡ (granule == g)) }
-    ensures none { IfNone result ((g : ℕ) → spec.tells_granule (reply_seen reply.entry) g ≡ false) }
-{
-    match reply {
-        ReplyRef::Ok([]) => Some(0),
-        ReplyRef::Ok(words) => Some(words[0]),
-        ReplyRef::Err(_, _) | ReplyRef::Misplaced => None,
     }
 }
 

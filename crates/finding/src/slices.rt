@@ -1,6 +1,6 @@
 //! Returns that no order of a slice survives.
 
-ghost use Rattle.std.specs.Prelude.{◌≤◌, [], length, IfOk, IsTrue};
+ghost use Rattle.std.specs.Prelude.{[], IfOk, IsTrue};
 ghost use Rattle.verdict_laws.specs.Order.{LeadsNowhere};
 ghost use Rattle.verdict_laws.specs.Parts.{first_part};
 ghost use Rattle.finding.specs.Found.{HasNoneUpTo};
@@ -12,7 +12,7 @@ use crate::survey::{Answer, answer_of};
 use crate::suspecting::{Suspect, first_unguessed};
 use crate::watch::Watch;
 use history::History;
-use slicing::{Depth, slice_of};
+use slicing::{Depth, is_out_of_place, slice_of};
 use std::alloc::{AllocError, Global};
 
 /// What slices show where a guess fails.
@@ -50,7 +50,7 @@ pub(crate) fn look_at_slices<W: Watch>(
     Ok(Sliced::Open(Some(suspect)))
 }
 
-/// Whether a slice shows that the events up to the place have no order: one by what the last reply shows, or else one by what was made before.
+/// Whether the events up to the place are shown to have no order.
 fn is_lost_in_slice<W: Watch>(
     alloc: Global,
     offers: &mut Offers,
@@ -65,12 +65,32 @@ fn is_lost_in_slice<W: Watch>(
         return Ok(false);
     }
     let _fact = history.well_formed();
-    let count = place + 1;
+    let lost = are_lost(alloc, offers, history, bounds, place + 1, watch)?;
+    Ok(lost)
+}
+
+/// Whether the first events, so many, are shown to have no order: by where the last reply's CPU is, or by a slice, of what that reply shows, of what
+/// calls left unused before, or of all that was made before.
+fn are_lost<W: Watch>(
+    alloc: Global,
+    offers: &mut Offers,
+    history: &History,
+    bounds: Bounds,
+    count: u32,
+    watch: &mut W,
+) -> Result<bool, AllocError>
+    ensures { IfOk result (λ lost. IsTrue lost → LeadsNowhere (first_part count history.now.recorded) []) }
+{
+    if is_out_of_place(history, count) {
+        return Ok(true);
+    }
     if is_lost_at(alloc, offers, history, bounds, count, Depth::Shown, watch)? {
         return Ok(true);
     }
-    let lost = is_lost_at(alloc, offers, history, bounds, count, Depth::Made, watch)?;
-    Ok(lost)
+    if is_lost_at(alloc, offers, history, bounds, count, Depth::Left, watch)? {
+        return Ok(true);
+    }
+    is_lost_at(alloc, offers, history, bounds, count, Depth::Made, watch)
 }
 
 /// Whether the slice of the first events, so many, has no order.
@@ -83,7 +103,6 @@ fn is_lost_at<W: Watch>(
     depth: Depth,
     watch: &mut W,
 ) -> Result<bool, AllocError>
-    requires { count ≤ length history.now.recorded.events }
     ensures { IfOk result (λ lost. IsTrue lost → LeadsNowhere (first_part count history.now.recorded) []) }
 {
     let Some(slice) = slice_of(alloc, history, count, depth)? else {

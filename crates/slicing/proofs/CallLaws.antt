@@ -32,7 +32,7 @@ HasOnePlaces-history history is_history = record {
 }
 
 -- the call that is found at a place is made there
-made_at : (events : List Event) (place : ℕ) (c : CallAt) (at : IsCallAt events place c) → IsCalled events place c.cpu c.number at.1.0
+pub made_at : (events : List Event) (place : ℕ) (c : CallAt) (at : IsCallAt events place c) → IsCalled events place c.cpu c.number at.1.0
 made_at events place c at = subst (λ (p : ℕ). IsCalled events p c.cpu c.number at.1.0) at.0 at.1.1.is_called
 
 -- a call that is back before a place, and returned, returned before it

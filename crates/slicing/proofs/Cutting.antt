@@ -22,7 +22,7 @@ use Rattle.slicing.specs.declared.call_at.CallAt.{CallAt}
 use Rattle.slicing.specs.declared.plan.Mark.{Mark}
 use Rattle.slicing.specs.declared.plan.Plan.{Plan}
 use Rattle.slicing.specs.Calls.{HasAnswer, IsCall}
-use Rattle.slicing.specs.Cuts.{AreEarly, EventFits, FitsNumber, IsEnteredAt, IsFreshTo, IsKeptAt, IsLeftAt}
+use Rattle.slicing.specs.Cuts.{AreEarly, EventFits, FitsNumber, IsEnteredAt, IsKeptAt, IsLeftAt, KnowsOf}
 use Rattle.slicing.specs.Plans.{AreNoted, entered_at, mark_of, number_at}
 use Rattle.slicing.proofs.CallLaws.{HasOnePlaces-history, IsBack-before, each_given}
 use Rattle.slicing.proofs.PlanLaws.{entered_at-before, from-kept, number_at-before}
@@ -144,6 +144,7 @@ module _ (history : History) (is_history : IsHistory history) (plan : Plan)
   -- a kept call has a reply that is kept, knows what it names, and is made inside of a REC unless a host gives it
   kept_call : (place cpu number : ℕ) (command : Command) → IsCalled events place cpu number command → IsSome (numbers place)
       → slices.IsKeptCall events numbers lent entered place cpu number command
+  unfolding KnowsOf
   kept_call place cpu number command is_called kept =
       let found = found_at place cpu number command (from-kept plan place kept) is_called in
       let c = found.call in
@@ -159,13 +160,16 @@ module _ (history : History) (is_history : IsHistory history) (plan : Plan)
       }
     where
       ways : (c : CallAt) → c.place ≡ place → HasAnswer events cpu number c.answer → (n : Needed)
-          → slices.IsKnownAt events numbers c.place n.granule ⊎ IsFreshTo plan c n
+          → KnowsOf events plan c n
           → slices.IsKnownAt events numbers place n.granule
-          ⊎ ((n.tag ≡ slices.unused_tag (slices.is_lent lent n.granule)) × slices.ShowsNamesIfBack events cpu number)
+          ⊎ (((n.tag ≡ slices.unused_tag (slices.is_lent lent n.granule)) × slices.ShowsNamesIfBack events cpu number)
+          ⊎ slices.IsUnusedAt events numbers place n.granule (slices.is_lent lent n.granule))
       ways c at answer n (inl known) = inl (subst (λ (p : ℕ). slices.IsKnownAt events numbers p n.granule) at known)
-      ways c at answer n (inr fresh) =
+      ways c at answer n (inr (inl fresh)) =
           let shown = fresh noted in
-          inr (shown.0, each_given events one cpu number (λ given. slices.shows_names given ≡ true) c.answer answer shown.1)
+          inr (inl (shown.0, each_given events one cpu number (λ given. slices.shows_names given ≡ true) c.answer answer shown.1))
+      ways c at answer n (inr (inr unused)) =
+          inr (inr (subst (λ (p : ℕ). slices.IsUnusedAt events numbers p n.granule (slices.is_lent lent n.granule)) at (unused noted early)))
 
   -- another only looks, was refused, or returned before what it may change is known to a kept call
   left_call : (place cpu number : ℕ) (command : Command) → IsCalled events place cpu number command → numbers place ≡ None
@@ -173,30 +177,30 @@ module _ (history : History) (is_history : IsHistory history) (plan : Plan)
   left_call place cpu number command is_called left = elim (cases_lt place plan.from) [
     | inl before ↦
         let back = early place cpu number command is_called before in
-        inr (inr (
+        inr (
           λ granule changes later other other_number more is_later kept its.
               let first = (kept_later later other other_number granule more is_later kept its).0 in
               let behind = back.3 in
               (back.0, back.1, back.2, omega (arith, first, behind)),
           entered_at-before plan place before,
-        ))
+        )
     | inr behind ↦
         let found = found_at place cpu number command behind is_called in
         ways found (subst (λ (n : Option ℕ). FitsNumber events plan n found.call) left found.fit)
   ]
     where
       ways : (found : Found place cpu number command) → IsLeftAt plan found.call → slices.IsLeftCall events numbers entered place cpu number command
-      ways found (inl looks) = inl (subst (λ function. is_looking_function function ≡ true) found.is_call.function looks)
-      ways found (inr (inl (a, answered, refused))) =
-          inr (inl (a.place, reply_seen a.reply, subst (HasAnswer events cpu number) answered (answer_at place cpu number command found), refused))
-      ways found (inr (inr (before, outside))) = inr (inr (
+      ways found (inl (inl looks)) = inl (inl (subst (λ function. is_looking_function function ≡ true) found.is_call.function looks))
+      ways found (inl (inr (a, answered, refused))) =
+          inl (inr (a.place, reply_seen a.reply, subst (HasAnswer events cpu number) answered (answer_at place cpu number command found), refused))
+      ways found (inr (before, outside)) = inr (
         λ granule changes later other other_number more is_later kept its.
             IsBack-before events is_history.lines cpu number found.call.answer (answer_at place cpu number command found)
             (mark_of marks granule).first later (slice_get_within events later (Called other other_number more) is_later)
             (before granule (subst (λ call. slices.may_change call granule ≡ true) (sym found.is_call.call) changes))
             (kept_later later other other_number granule more is_later kept its).1,
         ap entered (sym found.at) ∙ outside,
-      ))
+      )
 
   -- so where the granules that are lent are the machine's, the plan cuts a slice out of the history
   pub IsCut-from_fits : slices.AreLent history.config.granules plan.lent.items

@@ -3,6 +3,7 @@ mod EarlyLaws
 mod EnteredLaws
 mod Named
 mod CallLaws
+mod UnusedLaws
 mod PlanLaws
 mod Cutting
 mod EventLaws

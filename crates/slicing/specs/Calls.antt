@@ -1,11 +1,12 @@
 -- What is looked at of a call.
-use Rattle.std.specs.Prelude.{◌≡◌, ℕ, true, false, List, MatchOption, Option, Some, None, IfSome, take}
+use Rattle.std.specs.Prelude.{◌≡◌, ℕ, ◌⊎◌, true, false, List, MatchOption, Option, Some, None, IfSome, take}
 use Rattle.rmi_view.specs.Seen.{reply_seen}
 use Rattle.rmm_spec.specs.declared.command.Command.{Command}
 use Rattle.rmm_spec.specs.declared.event.Event.{Event}
 use Rattle.rmm_spec.specs.Call.{call_of}
 use Rattle.rmm_spec.specs.Linearization.{IsCalled, IsFinished, IsReturned}
 use Rattle.rmm_spec.specs.Ownership.{is_accepted}
+use Rattle.verdict_laws.specs.Looking.{is_looking_function}
 use Rattle.verdict_laws.specs.Slices.{shows_names}
 use Rattle.slicing.specs.declared.call_at.Answer.{Answer}
 use Rattle.slicing.specs.declared.call_at.CallAt.{CallAt}
@@ -45,3 +46,7 @@ ShowsNames c = IfSome c.answer (λ a. shows_names (reply_seen a.reply) ≡ true)
 -- it was refused
 abbrev pub IsRefused : CallAt → Type 0
 IsRefused c = (a : Answer) × (c.answer ≡ Some a) × (is_accepted (reply_seen a.reply) ≡ false)
+
+-- it only looks, or was refused
+abbrev pub ChangesNothing : CallAt → Type 0
+ChangesNothing c = (is_looking_function c.function ≡ true) ⊎ IsRefused c

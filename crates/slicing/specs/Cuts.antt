@@ -8,11 +8,10 @@ use Rattle.rmm_spec.specs.Call.{call_of}
 use Rattle.rmm_spec.specs.Linearization.{IsCalled, IsReturned}
 use Rattle.rmm_spec.specs.Rows.{Needed}
 use Rattle.rmm_spec.specs.Step.Terms.{named}
-use Rattle.verdict_laws.specs.Looking.{is_looking_function}
 use Rattle.verdict_laws.specs.Slices as slices
 use Rattle.slicing.specs.declared.call_at.CallAt.{CallAt}
 use Rattle.slicing.specs.declared.plan.Plan.{Plan}
-use Rattle.slicing.specs.Calls.{IsCall, IsRefused, ShowsNames, back_of}
+use Rattle.slicing.specs.Calls.{ChangesNothing, IsCall, ShowsNames, back_of}
 use Rattle.slicing.specs.Plans.{AreNoted, entered_at, mark_of, number_at}
 
 -- ---- kept calls
@@ -29,10 +28,25 @@ ChangesLater plan c = (granule : ℕ) → slices.may_change c.call granule ≡ t
 abbrev pub IsFreshTo : Plan → CallAt → Needed → Type 0
 IsFreshTo plan c n = AreNoted plan → (n.tag ≡ slices.unused_tag (slices.is_lent plan.lent.items n.granule)) × ShowsNames c
 
--- so it does of each granule that it names, or a kept call that may change it returned before
+-- each call that was made before the plan's first place returned before each kept call was made, and what it stands on
+abbrev pub AreEarly : List Event → Plan → Type 0
+AreEarly events plan = (place cpu number : ℕ) (command : Command) → IsCalled events place cpu number command → place < plan.from
+    → slices.IsBack events cpu number plan.first
+
+-- at the place of the call the granule is unused as the plan has it, unless a kept call has changed it
+abbrev pub IsUnusedTo : List Event → Plan → CallAt → ℕ → Type 0
+IsUnusedTo events plan c granule =
+    AreNoted plan → AreEarly events plan
+    → slices.IsUnusedAt events (number_at plan) c.place granule (slices.is_lent plan.lent.items granule)
+
+-- so it does, or a kept call that may change the granule returned before, or the granule is unused without one
+unfoldable pub KnowsOf : List Event → Plan → CallAt → Needed → Type 0
+KnowsOf events plan c n =
+    slices.IsKnownAt events (number_at plan) c.place n.granule ⊎ (IsFreshTo plan c n ⊎ IsUnusedTo events plan c n.granule)
+
+-- so it is of each granule that it names
 abbrev pub KnowsAt : List Event → Plan → CallAt → Type 0
-KnowsAt events plan c =
-    (n : Needed) → Contains (named c.call) n → slices.IsKnownAt events (number_at plan) c.place n.granule ⊎ IsFreshTo plan c n
+KnowsAt events plan c = (n : Needed) → Contains (named c.call) n → KnowsOf events plan c n
 
 -- The call may be kept.
 pub record IsKeptAt (events : List Event) (plan : Plan) (c : CallAt) : Type 0 where
@@ -47,10 +61,9 @@ pub record IsKeptAt (events : List Event) (plan : Plan) (c : CallAt) : Type 0 wh
 -- it only looks, was refused, or is made outside of RECs and returned before each kept call was made that may change what it may change
 abbrev pub IsLeftAt : Plan → CallAt → Type 0
 IsLeftAt plan c =
-    (is_looking_function c.function ≡ true)
-    ⊎ (IsRefused c
+    ChangesNothing c
     ⊎ (((granule : ℕ) → slices.may_change c.call granule ≡ true → back_of c < (mark_of plan.marks.items granule).first)
-    × (entered_at plan c.place ≡ false)))
+    × (entered_at plan c.place ≡ false))
 
 -- ---- all events
 
@@ -80,8 +93,3 @@ ReturnFits events plan returned = (place cpu number : ℕ) (command : Command) (
 -- so of both
 abbrev pub EventFits : List Event → Plan → ℕ → Type 0
 EventFits events plan place = CallFits events plan place × ReturnFits events plan place
-
--- each call that was made before the plan's first place returned before each kept call was made
-abbrev pub AreEarly : List Event → Plan → Type 0
-AreEarly events plan = (place cpu number : ℕ) (command : Command) → IsCalled events place cpu number command → place < plan.from
-    → slices.IsBack events cpu number plan.first

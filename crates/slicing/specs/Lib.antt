@@ -1,3 +1,4 @@
 pub mod Plans
 pub mod Calls
 pub mod Cuts
+pub mod Unused

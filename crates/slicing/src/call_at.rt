@@ -6,6 +6,7 @@ ghost use Rattle.rmm_spec.specs.declared.command.Command.{Command};
 ghost use Rattle.rmm_spec.specs.Linearization.{IsCalled};
 ghost use Rattle.slicing.specs.Calls.{HasAnswer, IsCallAt, events_to};
 
+use crate::kinds::is_looking;
 use crate::plan::AFTER_ALL;
 use history::{History, Places};
 use rmi_view::ReplyRef;
@@ -33,7 +34,7 @@ impl<'a> CallAt<'a> {
     ghost use Rattle.std.specs.Prelude.{◌≡◌, false, IsTrue, MatchOption};
     ghost use Rattle.rmi_view.specs.Seen.{reply_seen};
     ghost use Rattle.rmm_spec.specs.Ownership.{is_accepted};
-    ghost use Rattle.slicing.specs.Calls.{IsRefused, ShowsNames, back_of};
+    ghost use Rattle.slicing.specs.Calls.{ChangesNothing, IsRefused, ShowsNames, back_of};
 
     /// The place of its return, or one after each of a history.
     pub(crate) fn back(&self) -> u32
@@ -67,6 +68,13 @@ impl<'a> CallAt<'a> {
             Some(answer) => !matches!(answer.reply, ReplyRef::Ok(_)),
             None => false,
         }
+    }
+
+    /// Whether it only looks, or was refused.
+    pub(crate) fn changes_nothing(&self) -> bool
+        ensures { IsTrue result → ChangesNothing self.now }
+    {
+        is_looking(self.function) || self.is_refused()
     }
 
     /// Whether it was carried out.

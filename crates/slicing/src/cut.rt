@@ -4,14 +4,15 @@ ghost use Rattle.std.specs.Prelude.{◌≡◌, ◌<◌, ◌≤◌, ℕ, true, le
 ghost use Rattle.rmm_spec.specs.Lookup.{is_granule};
 ghost use Rattle.verdict_laws.specs.Slices as laws;
 ghost use Rattle.slicing.specs.Calls.{back_of, events_to};
-ghost use Rattle.slicing.specs.Cuts.{CallFits, ChangesLater, EventFits, FitsNumber, IsFreshTo, IsKeptAt, IsLeftAt, IsUsable, KnowsAt, ReturnFits};
+ghost use Rattle.slicing.specs.Cuts.{CallFits, ChangesLater, EventFits, FitsNumber, IsFreshTo, IsKeptAt, IsLeftAt, IsUsable, KnowsAt, KnowsOf, ReturnFits};
 ghost use Rattle.slicing.specs.Plans.{AreNoted, entered_at, mark_of, number_at};
 
 use crate::call_at::{CallAt, call_at};
 use crate::early::are_early;
 use crate::entered::is_entered;
-use crate::kinds::{changeable, changes, goes_by_names, is_hosts, is_looking};
+use crate::kinds::{changeable, changes, goes_by_names, is_hosts};
 use crate::plan::Plan;
+use crate::unused::is_unused;
 use command_words::{Name, named};
 use history::History;
 use memory_map::granule_at;
@@ -126,14 +127,29 @@ fn changes_later(plan: &Plan, call: &CallAt<'_>) -> bool
         .all(|name| plan.mark_of(name.granule).first <= call.place)
 }
 
-/// Whether it knows each granule that it names.
+/// Whether it knows each granule that it names, or finds it unused.
 fn knows_all(history: &History, count: u32, plan: &Plan, call: &CallAt<'_>) -> bool
     requires { count ≤ length history.now.recorded.events }
     ensures { IsTrue result → KnowsAt (events_to count history.now.recorded.events) plan.now call.now }
 {
-    named(&call.call).as_slice().iter().all(|name| {
-        is_fresh(plan, call, name) || is_known(history, count, plan, call, name.granule)
-    })
+    named(&call.call)
+        .as_slice()
+        .iter()
+        .all(|name| knows(history, count, plan, call, name))
+}
+
+/// Whether it knows a granule that it names, or finds it unused.
+fn knows(history: &History, count: u32, plan: &Plan, call: &CallAt<'_>, name: &Name) -> bool
+    requires { count ≤ length history.now.recorded.events }
+    ensures { IsTrue result → KnowsOf (events_to count history.now.recorded.events) plan.now call.now name.now }
+{
+    if is_fresh(plan, call, name) {
+        return true;
+    }
+    if is_known(history, count, plan, call, name.granule) {
+        return true;
+    }
+    is_unused(history, count, plan, call, name.granule)
 }
 
 /// Whether it needs the granule as an unused one, and its reply, if it returned, shows that.
@@ -177,10 +193,7 @@ pub(crate) fn is_known(
 fn is_left(plan: &Plan, call: &CallAt<'_>) -> bool
     ensures { IsTrue result → IsLeftAt plan.now call.now }
 {
-    if is_looking(call.function) || call.is_refused() {
-        return true;
-    }
-    !plan.entered_at(call.place) && is_back_before(plan, call)
+    call.changes_nothing() || !plan.entered_at(call.place) && is_back_before(plan, call)
 }
 
 /// Whether it returned before each kept call was made that may change what it may change.

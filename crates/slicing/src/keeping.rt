@@ -2,14 +2,14 @@
 //! A granule that the first of them needs as an unused one is taken for unused up to there, whatever was done with it before.
 
 use crate::call_at::CallAt;
-use crate::kinds::{changeable, is_hosts, is_looking};
+use crate::kinds::changeable;
 use crate::links::number_of;
 use crate::numbering::numbered;
 use crate::plan::{NEVER, Plan};
 use crate::window::Window;
-use command_words::{Name, named};
+use command_words::Name;
 use history::History;
-use rmm_spec::{Call, Event, Reply, Tag};
+use rmm_spec::{Event, Reply, Tag};
 use std::alloc::{AllocError, Global};
 use std::cmp::min;
 
@@ -19,9 +19,6 @@ const ROUNDS: u32 = 64;
 /// How many calls on a granule are looked at that were made before the first that is kept, and may return after that one was made.
 const OVERLAPS: u32 = 8;
 
-/// How many calls of a CPU are looked at for one that was carried out inside of a REC.
-const NEAR: u32 = 1 << 8;
-
 /// How many calls a slice keeps at most.
 const MOST: usize = 1 << 12;
 
@@ -30,7 +27,9 @@ const MOST: usize = 1 << 12;
 pub enum Depth {
     /// By the call's reply, where that shows it.
     Shown,
-    /// By earlier calls that made it so.
+    /// By earlier calls: those that made it so are kept, but for what others left unused.
+    Left,
+    /// By earlier calls that made it so, which are kept.
     Made,
 }
 
@@ -39,21 +38,21 @@ pub enum Depth {
 pub(crate) struct Keeping<'h> {
     pub(crate) history: &'h History,
     pub(crate) count: u32,
-    window: Window<'h>,
+    pub(crate) window: Window<'h>,
     pub(crate) plan: Plan,
     /// The place of the call that returns last.
-    last: u32,
-    depth: Depth,
+    pub(crate) last: u32,
+    pub(crate) depth: Depth,
     /// The places of the kept calls.
     pub(crate) kept: Vec<u32>,
     /// Whether the call that is made at a place is kept, by how far the place is back from the last event.
     pub(crate) keeps: Vec<bool>,
     /// The places of calls that are to be kept.
-    pending: Vec<u32>,
+    pub(crate) pending: Vec<u32>,
     /// The granules that kept calls may change.
     pub(crate) granules: Vec<u64>,
     /// Whether a call was to be kept that can't be.
-    fails: bool,
+    pub(crate) fails: bool,
 }
 
 /// The plan for the last of the first events, so many, where there is one.
@@ -211,7 +210,7 @@ impl<'h> Keeping<'h> {
     }
 
     // The place at which the call returns that is made at a place, or one after each of a history.
-    fn back_at(&self, place: u32) -> u32 {
+    pub(crate) fn back_at(&self, place: u32) -> u32 {
         match self.window.call(place) {
             Some(call) => call.back(),
             None => NEVER,
@@ -246,126 +245,5 @@ impl<'h> Keeping<'h> {
             number = link.before;
         }
         Ok(())
-    }
-
-    // A granule that the call needs in use was made so before, and what the last call names may be to be known. A call inside of a REC follows one
-    // that entered it.
-    fn look_before(&mut self, call: &CallAt<'_>) -> Result<(), AllocError> {
-        let is_known_before = matches!(self.depth, Depth::Made) && call.place == self.last;
-        'names: for name in named(&call.call).as_slice() {
-            let in_use = !matches!(name.tag, Tag::Delegated | Tag::Undelegated);
-            if in_use || is_known_before {
-                self.add_before(name.granule, call.place)?;
-            }
-        }
-        if !is_hosts(&call.call) {
-            self.add_previous(call)?;
-        }
-        self.add_inside(call)
-    }
-
-    // The latest call that was made before a place and may have changed the granule is to be kept, if there is one.
-    fn add_before(&mut self, granule: u64, place: u32) -> Result<bool, AllocError> {
-        match self.window.before(granule, place)? {
-            Some(before) => {
-                self.pending.push(before)?;
-                Ok(true)
-            }
-            None => Ok(false),
-        }
-    }
-
-    // After a call that enters a REC, or is made inside of it, the next is to be kept too.
-    fn add_inside(&mut self, call: &CallAt<'_>) -> Result<(), AllocError> {
-        let stays = match &call.call {
-            Call::RecEnter { .. } => call.is_done(),
-            Call::Exit => false,
-            other => !is_hosts(other),
-        };
-        if stays {
-            self.add_next(call)?;
-        }
-        Ok(())
-    }
-
-    // The CPU's call before one is to be kept, but for those that were refused or only look.
-    fn add_previous(&mut self, call: &CallAt<'_>) -> Result<(), AllocError> {
-        for back in 1..NEAR {
-            let Some(number) = call.number.checked_sub(back) else {
-                return Ok(());
-            };
-            if self.adds(call.cpu, number)? {
-                return Ok(());
-            }
-        }
-        Ok(())
-    }
-
-    // So is that after one.
-    fn add_next(&mut self, call: &CallAt<'_>) -> Result<(), AllocError> {
-        for further in 1..NEAR {
-            let number = call.number.saturating_add(further);
-            if self.adds(call.cpu, number)? {
-                return Ok(());
-            }
-        }
-        Ok(())
-    }
-
-    // Whether there is no such call of the CPU, or it is to be kept now, since it wasn't refused and doesn't only look.
-    fn adds(&mut self, cpu: u8, number: u32) -> Result<bool, AllocError> {
-        let Some(places) = self.history.places_of(cpu, number) else {
-            return Ok(true);
-        };
-        let Some(call) = self.window.call(places.called) else {
-            return Ok(true);
-        };
-        if call.is_refused() || is_looking(call.function) {
-            return Ok(false);
-        }
-        self.pending.push(places.called)?;
-        Ok(true)
-    }
-
-    // Where a kept call doesn't know a granule that it names, an earlier one on that granule is to be kept.
-    fn add_unknown(&mut self) -> Result<(), AllocError> {
-        'kept: for index in 0..self.kept.len() {
-            let Some(place) = self.kept.get(index).copied() else {
-                return Ok(());
-            };
-            if let Some(call) = self.window.call(place) {
-                self.add_for(&call)?;
-            }
-        }
-        Ok(())
-    }
-
-    // The same for one call.
-    fn add_for(&mut self, call: &CallAt<'_>) -> Result<(), AllocError> {
-        'names: for name in named(&call.call).as_slice() {
-            if self.knows(call, name) {
-                continue 'names;
-            }
-            let added = self.add_before(name.granule, call.place)?;
-            self.fails = self.fails || !added;
-        }
-        Ok(())
-    }
-
-    // Whether the call knows a granule that it names, as far as can be said before granules are lent.
-    fn knows(&self, call: &CallAt<'_>, name: &Name) -> bool {
-        let is_lent = self.plan.mark_of(name.granule).lending.is_some();
-        let is_unused = match name.tag {
-            Tag::Delegated => is_lent,
-            Tag::Undelegated => !is_lent,
-            _ => false,
-        };
-        if is_unused && call.shows_names() {
-            return true;
-        }
-        match self.plan.mark_of(name.granule).known {
-            Some(known) => self.back_at(known) < call.place,
-            None => false,
-        }
     }
 }

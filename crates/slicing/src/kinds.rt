@@ -1,8 +1,7 @@
 //! What a call is by its words alone.
 
-ghost use Rattle.std.specs.Prelude.{◌≡◌, false, IsTrue, None};
+ghost use Rattle.std.specs.Prelude.{◌≡◌, IsTrue, None};
 ghost use Rattle.command_words.specs.Names.{names_of};
-ghost use Rattle.verdict_laws.specs.Ending.{frees_vmid};
 ghost use Rattle.verdict_laws.specs.Looking as looking;
 ghost use Rattle.verdict_laws.specs.Making.{taken_vmid};
 ghost use Rattle.verdict_laws.specs.Slices as spec;
@@ -40,13 +39,12 @@ pub(crate) fn changes(call: &Call, granule: u64) -> bool
         .any(|name| name.granule == granule)
 }
 
-/// Whether the call may be kept where it is refused for what it names: neither a VMID nor a realm's RECs decide on it.
-#[tactic(auto, unfolding(verdict_laws::specs::Making::taken_vmid, verdict_laws::specs::Ending::frees_vmid))]
+/// Whether the call may be kept where it is refused for what it names: no VMID decides on it.
+#[tactic(auto, unfolding(verdict_laws::specs::Making::taken_vmid))]
 pub(crate) fn goes_by_names(call: &Call) -> bool
-    ensures taken { IsTrue result → taken_vmid call.now ≡ None }
-    ensures freed { IsTrue result → frees_vmid call.now ≡ false }
+    ensures { IsTrue result → taken_vmid call.now ≡ None }
 {
-    !matches!(call, Call::RealmCreate { .. } | Call::RealmDestroy { .. })
+    !matches!(call, Call::RealmCreate { .. })
 }
 
 /// Whether a command only looks at the state.

@@ -1,7 +1,7 @@
 //! Slices of a history: the calls on which one of its returns depends.
-//! It promises that the events up to the return have no order where the slice has none.
+//! It promises that the events up to the return have no order where the slice has none, nor where its reply isn't given where its CPU is.
 //! Which calls are kept is chosen without a promise, backwards from the return (`keeping`), and then checked call by call (`cut`).
-//! Where a granule's first kept call needs it unused, whatever was done with it before is left out; it is lent first if need be.
+//! Where a granule's first kept call needs it unused, or calls that aren't kept left it so (`unused`), what was done with it before is left out.
 //! The search for an order looks at slices first, so that it needn't go through all that came before.
 #![tactic(auto)]
 
@@ -9,14 +9,21 @@ mod call_at;
 mod cut;
 mod early;
 mod entered;
+mod given_back;
 mod keeping;
 mod kinds;
 mod links;
+mod needing;
 mod numbering;
+mod placing;
 mod plan;
 mod slice;
+mod sources;
+mod unused;
 mod window;
 
+pub use given_back::freed;
 pub use history::History;
 pub use keeping::Depth;
+pub use placing::is_out_of_place;
 pub use slice::slice_of;

@@ -22,6 +22,35 @@ pub(crate) struct Mark {
     pub(crate) lending: Option<u32>,
 }
 
+/// Why a granule is unused where a kept call names it, if no kept call has changed it. Places are those at which calls were made.
+#[derive(Clone, Copy)]
+pub(crate) enum Unused {
+    /// No call has changed it.
+    Untouched,
+    /// The call left it so.
+    GivenUp { giver: u32 },
+    /// It was a part of what the one call made and the other ended.
+    PartBack { maker: u32, ender: u32 },
+}
+
+impl Unused {
+    /// The place of the first call that is looked at for it.
+    pub(crate) fn begins(self) -> u32 {
+        match self {
+            Unused::Untouched => 0,
+            Unused::GivenUp { giver } => giver,
+            Unused::PartBack { maker, .. } => maker,
+        }
+    }
+}
+
+/// A granule that is unused without a kept call before.
+#[derive(Clone, Copy)]
+pub(crate) struct Source {
+    pub(crate) granule: u64,
+    pub(crate) unused: Unused,
+}
+
 /// A choice of calls.
 #[derive(Drop)]
 pub(crate) struct Plan {
@@ -35,7 +64,9 @@ pub(crate) struct Plan {
     pub(crate) marks: Vec<Mark>,
     /// The granules that are lent first, by their addresses in bytes.
     pub(crate) lent: Vec<u64>,
-    /// A place up to which no kept call was made.
+    /// Why granules are unused that calls which aren't kept left so.
+    pub(crate) sources: Vec<Source>,
+    /// A place up to which no kept call was made, nor one of those that left granules unused.
     pub(crate) first: u32,
 }
 
@@ -57,6 +88,7 @@ impl Plan {
             entered: Vec::new(alloc),
             marks: vec![in alloc; unmarked; granules as usize]?,
             lent: Vec::new(alloc),
+            sources: Vec::new(alloc),
             first: NEVER,
         })
     }
@@ -116,5 +148,15 @@ impl Plan {
             Some(index) => self.lent.get(index as usize).copied() == Some(granule),
             None => false,
         }
+    }
+
+    /// Why a granule is unused where no kept call has changed it, if that was found.
+    pub(crate) fn unused_of(&self, granule: u64) -> Option<Unused> {
+        for source in &self.sources {
+            if source.granule == granule {
+                return Some(source.unused);
+            }
+        }
+        None
     }
 }

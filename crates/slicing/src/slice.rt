@@ -16,19 +16,21 @@ use rmm_spec::{Command, Event, FunctionId, Reply};
 use std::alloc::{AllocError, Global};
 use verdict_laws::nowhere_in_a_slice;
 
-/// The slice on which the last of the first events depends, so many. None where no calls were found that make one.
+/// The slice on which the last of the first events depends, so many. None where no calls were found that make one, or there are fewer events.
 pub fn slice_of(
     alloc: Global,
     history: &History,
     count: u32,
     depth: Depth,
 ) -> Result<Option<History>, AllocError>
-    requires { count ≤ length history.now.recorded.events }
     ensures { IfOk result (λ slice. IfSome slice (λ s.
         LeadsNowhere s.recorded [] → LeadsNowhere (first_part count history.now.recorded) [])) }
 {
     let _fact = history.well_formed();
     let _law = nowhere_in_a_slice();
+    if count as usize > history.len() {
+        return Ok(None);
+    }
     let Some(plan) = plan_for(alloc, history, count, depth)? else {
         return Ok(None);
     };

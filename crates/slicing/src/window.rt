@@ -1,7 +1,7 @@
 //! The calls from a place on, which goes back as far as it must.
 
 use crate::call_at::{CallAt, call_at};
-use crate::kinds::{changeable, is_looking};
+use crate::kinds::changeable;
 use crate::links::{Link, Links};
 use history::History;
 use std::alloc::{AllocError, Global};
@@ -47,7 +47,7 @@ impl<'h> Window<'h> {
         }
     }
 
-    /// Goes back to a place before which each CPU made a call that isn't gone back to, if it made one.
+    /// Goes back until each CPU's latest call before a place is gone back to, or as far as it may.
     pub(crate) fn cover(&mut self, place: u32) -> Result<(), AllocError> {
         for _event in 0..self.from {
             if self.covers(place) || !self.go_back()? {
@@ -110,7 +110,7 @@ impl<'h> Window<'h> {
         if let Some(called) = self.called.get_mut(usize::from(call.cpu)) {
             *called = Some(call.place);
         }
-        if is_looking(call.function) || call.is_refused() {
+        if call.changes_nothing() {
             return Ok(());
         }
         'names: for name in changeable(&call.call).as_slice() {

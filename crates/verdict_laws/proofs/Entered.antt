@@ -70,10 +70,10 @@ RunAsEntered-stays live entered s cpu after stays runs g rec k there on = runs g
 -- ---- where CPUs are
 
 -- a CPU that doesn't count as inside is outside behind the mask
-pub outside_masked : (live lent entered : ℕ → Bool) (s : State) (cpu : ℕ) → IsSound s → RunAsEntered live entered s → entered cpu ≡ false
+pub outside_masked : (live lent entered : ℕ → Bool) (s : State) (cpu : ℕ) → RunAsEntered live entered s → entered cpu ≡ false
     → is_inside (masked live lent s) cpu ≡ false
 unfolding is_inside
-outside_masked live lent entered s cpu sound runs is =
+outside_masked live lent entered s cpu runs is =
     let t = masked live lent s in
     false_from_ne_true (is_inside t cpu) (λ any.
     let at = passing_below s.config.granules (λ k. runs_on cpu (t.rec (k * 4096))) any in
@@ -100,10 +100,10 @@ inside_is s cpu inside =
     )
 
 -- where the CPU doesn't count as inside, the REC in which it is isn't live, nor is its realm
-pub inside_outside : (live entered : ℕ → Bool) (s : State) (cpu : ℕ) → IsSound s → RunAsEntered live entered s → HaveLiveRecs live s
+pub inside_outside : (live entered : ℕ → Bool) (s : State) (cpu : ℕ) → RunAsEntered live entered s → HaveLiveRecs live s
     → entered cpu ≡ false → is_inside s cpu ≡ true → (g : ℕ)
     → (rec_inside s cpu == g || (rec_at s (rec_inside s cpu)).owner == g) ≡ true → live g ≡ false
-inside_outside live entered s cpu sound runs have is inside g here =
+inside_outside live entered s cpu runs have is inside g here =
     let at = rec_inside s cpu in
     let it = inside_is s cpu inside in
     let dead : live at ≡ false = runs at it.0 cpu it.1 it.2 ∙ is in
@@ -113,9 +113,9 @@ inside_outside live entered s cpu sound runs have is inside g here =
     ]
 
 -- and where the CPU counts as inside, that REC is live
-pub inside_live : (live entered : ℕ → Bool) (s : State) (cpu : ℕ) → IsSound s → RunAsEntered live entered s → entered cpu ≡ true
+pub inside_live : (live entered : ℕ → Bool) (s : State) (cpu : ℕ) → RunAsEntered live entered s → entered cpu ≡ true
     → is_inside s cpu ≡ true → live (rec_inside s cpu) ≡ true
-inside_live live entered s cpu sound runs is inside = let it = inside_is s cpu inside in runs (rec_inside s cpu) it.0 cpu it.1 it.2 ∙ is
+inside_live live entered s cpu runs is inside = let it = inside_is s cpu inside in runs (rec_inside s cpu) it.0 cpu it.1 it.2 ∙ is
 
 -- the realm of a live REC is live, where what is behind the mask is sound
 owner_live : (live lent : ℕ → Bool) (s : State) (g : ℕ) (rec : RecRecord) → IsSound (masked live lent s) → s.rec g ≡ Some rec → live g ≡ true

@@ -66,9 +66,12 @@ pub mod Touched
 pub mod SliceOwners
 pub mod Entered
 pub mod SliceSteps
+pub mod LeftUnused
 pub mod SliceRuns
 pub mod SliceEvents
 pub mod SliceLines
+pub mod SliceUnused
 pub mod SliceFits
 pub mod SliceLendings
 pub mod SliceOrders
+pub mod Placed

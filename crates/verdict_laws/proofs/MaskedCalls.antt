@@ -33,15 +33,15 @@ use Rattle.rmm_laws.proofs.Applies.{inside_running}
 use Rattle.rmm_laws.proofs.RowLaws.{front-rest, outcome-leads}
 use Rattle.rmm_laws.proofs.Searches.{inside_runs, none_runs, rec_there}
 use Rattle.verdict_laws.specs.Apart.{lent}
-use Rattle.verdict_laws.specs.Ending.{frees_vmid, is_ending}
+use Rattle.verdict_laws.specs.Ending.{is_ending}
 use Rattle.verdict_laws.specs.Making.{is_making, own_realm, taken_vmid}
 use Rattle.verdict_laws.specs.Separate.{is_local, table_realm}
-use Rattle.verdict_laws.specs.Slices.{is_by_host, is_hosts, unused_tag}
+use Rattle.verdict_laws.specs.Slices.{changeable, is_by_host, is_hosts, may_change, unused_tag}
 use Rattle.verdict_laws.proofs.EndingCalls.{IsFree, own_named, taken_free}
-use Rattle.verdict_laws.proofs.Endings.{AgreeAt, ends_as, outcome-agree_end}
+use Rattle.verdict_laws.proofs.Endings.{AgreeAt, outcome-agree_end}
 use Rattle.verdict_laws.proofs.MakingCalls.{own_made, own_table}
 use Rattle.verdict_laws.proofs.MakingLooks.{outcome-made}
-use Rattle.verdict_laws.proofs.Masks.{has_rec-masked, masked-grown, vmid-masked}
+use Rattle.verdict_laws.proofs.Masks.{masked-grown, vmid-masked}
 use Rattle.verdict_laws.proofs.Patches.{is_own}
 use Rattle.verdict_laws.proofs.Retags.{outcome-tags, with_tags}
 use Rattle.verdict_laws.proofs.SeparateLooks.{named_kept}
@@ -50,11 +50,11 @@ use Rattle.verdict_laws.proofs.Spared.{RunAlike, is_inside-alike}
 
 -- ---- behind a mask
 
--- an ending names something
-ending_names : (c : Call) → is_ending c ≡ true → (here : ℕ) × (is_named (named c) here ≡ true)
-unfolding is_ending named
-ending_names (call.RecDestroy rec) ends = (rec, or_left (rec == rec) false (eq-eqb rec rec refl))
-ending_names (call.RealmDestroy rd) ends = (rd, or_left (rd == rd) false (eq-eqb rd rd refl))
+-- an ending names something that it may change
+ending_names : (c : Call) → is_ending c ≡ true → (here : ℕ) × (is_named (named c) here ≡ true) × (may_change c here ≡ true)
+unfolding is_ending changeable named
+ending_names (call.RecDestroy rec) ends = let is = or_left (rec == rec) false (eq-eqb rec rec refl) in (rec, is, is)
+ending_names (call.RealmDestroy rd) ends = let is = or_left (rd == rd) false (eq-eqb rd rd refl) in (rd, is, is)
 ending_names _ ends = both_ways ends refl
 
 -- at a live granule the mask changes nothing, where the CPU is inside of a REC behind it as before
@@ -94,15 +94,13 @@ rec_inside-alike s t cpu same alike = λ i. greatest_below (same i).granules (λ
 
 -- ---- what is known
 
--- A host's call finds its CPU outside of RECs, and another finds it inside of a live one. Each granule that the call names is live, or has the tag
--- that is needed of it, as the mask has it. The VMID that it takes isn't used, and the realm that it ends has no REC.
+-- A host's call finds its CPU outside of RECs, and another finds it inside of a live one. Each granule that the call names is live, or unused as the
+-- mask has it. The VMID that it takes isn't used.
 pub record IsKnownTo (live lent : ℕ → Bool) (s : State) (cpu : ℕ) (c : Call) : Type 0 where
   pub outside : is_hosts c ≡ true → is_inside s cpu ≡ false
   pub inside : is_hosts c ≡ false → (is_inside s cpu ≡ true) × (live (rec_inside s cpu) ≡ true)
-  pub names : (n : Needed) → Contains (named c) n
-      → (live n.granule ≡ true) ⊎ ((n.tag ≡ unused_tag (lent n.granule)) × (s.tag n.granule ≡ n.tag))
+  pub names : (n : Needed) → Contains (named c) n → (live n.granule ≡ true) ⊎ (s.tag n.granule ≡ unused_tag (lent n.granule))
   pub vmid : (vmid : ℕ) → taken_vmid c ≡ Some vmid → is_vmid_used s vmid ≡ false
-  pub unowned : frees_vmid c ≡ true → (rd : ℕ) → is_named (named c) rd ≡ true → has_rec s rd ≡ false
 
 -- a realm's granule behind a mask is live
 rd_live : (lives lends : Bool) (tag : Tag) → (if lives then tag else unused_tag lends) ≡ Rd → lives ≡ true
@@ -142,7 +140,7 @@ module _ (live lent : ℕ → Bool) (s : State) (cpu : ℕ) (c : Call) (sound : 
       let here : n.granule ≡ g = eqb-true n.granule g same in
       elim (known.names n (Contains-from_slice_get (named c) place n at)) [
         | inl lives ↦ both_ways (sym (ap live here) ∙ lives) dead
-        | inr unused ↦ sym (ap s.tag here) ∙ unused.1 ∙ unused.0 ∙ (λ i. unused_tag (lent (here i)))
+        | inr unused ↦ subst (λ x. s.tag x ≡ unused_tag (lent x)) here unused
       ]
 
   -- so it is as if it were live
@@ -254,10 +252,11 @@ host-masked live lent s cpu (call.RttSetRipas rd rec base top) sound sound_too k
     else Err (Misplaced OwnOutside)
 host-masked live lent s cpu _ sound sound_too known other = both_ways refl other
 
--- so it leads to the same
+-- so it leads to the same, where the realms that it may change have RECs as before
 pub outcome-masked : (live lent : ℕ → Bool) (s : State) (cpu : ℕ) (c : Call) → IsSound s → IsSound (masked live lent s)
-    → IsKnownTo live lent s cpu c → outcome (masked live lent s) cpu c ≡ outcome s cpu c
-outcome-masked live lent s cpu c sound sound_too known = by (not (is_hosts c)) (is_ending c) (is_making c || is_local c) refl refl refl
+    → IsKnownTo live lent s cpu c → ((rd : ℕ) → may_change c rd ≡ true → has_rec (masked live lent s) rd ≡ has_rec s rd)
+    → outcome (masked live lent s) cpu c ≡ outcome s cpu c
+outcome-masked live lent s cpu c sound sound_too known owners = by (not (is_hosts c)) (is_ending c) (is_making c || is_local c) refl refl refl
   where
     t : State
     t = masked live lent s
@@ -272,9 +271,7 @@ outcome-masked live lent s cpu c sound sound_too known = by (not (is_hosts c)) (
         → outcome t cpu c ≡ outcome s cpu c
     by true _ _ other ends makes = outcome-inside live lent s cpu c sound sound_too known (not-true (is_hosts c) other)
     by false true _ host ends makes =
-        let (here, is) = ending_names c ends in
-        outcome-agree_end s t cpu c here ends is (at here is)
-        (λ frees. let none = known.unowned frees here is in has_rec-masked live lent s here none ∙ sym none)
+        let (here, is, may) = ending_names c ends in outcome-agree_end s t cpu c here ends is (at here is) (λ frees. owners here may)
     by false false true host ends makes =
         let table : (rd : ℕ) → table_realm c ≡ Some rd → AgreeAt cpu rd s t =
         λ rd is. own makes rd (own_table c rd ((λ i. is_own (is i) rd) ∙ eq-eqb rd rd refl)) in
@@ -288,19 +285,13 @@ outcome-masked live lent s cpu c sound sound_too known = by (not (is_hosts c)) (
             leaf = λ rd is. (table rd is).leaf;
           };
           realm = λ rd is. (own makes rd ((λ i. is_own (own_made c rd is i) rd) ∙ eq-eqb rd rd refl)).realm;
-          vmid = λ vmid is. let free = known.vmid vmid is in vmid-masked live lent s vmid free ∙ sym free;
+          vmid = λ vmid is. vmid-masked live lent s vmid sound (known.vmid vmid is);
         })
     by false false false host ends makes =
         outcome-named live lent s cpu c sound sound_too known
         ∙ host-masked live lent s cpu c sound sound_too known (λ i. host i || (ends i || makes i))
 
 -- ---- by the rows
-
--- a call that gives back a VMID ends a realm
-freeing_ends : (c : Call) → frees_vmid c ≡ true → is_ending c ≡ true
-unfolding is_ending frees_vmid
-freeing_ends (call.RealmDestroy rd) frees = refl
-freeing_ends _ frees = both_ways frees refl
 
 -- a call that isn't misplaced is placed, and leads to what is answered there
 outcome-answer : (s : State) (cpu : ℕ) (c : Call) (found : Result Accepted Refusal) → outcome s cpu c ≡ found
@@ -341,11 +332,10 @@ pub record IsFound (s : State) (cpu : ℕ) (c : Call) : Type 0 where
   pub inside : is_hosts c ≡ false → is_inside s cpu ≡ true
   pub tags : (n : Needed) → Contains (named c) n → s.tag n.granule ≡ n.tag
   pub vmid : (vmid : ℕ) → taken_vmid c ≡ Some vmid → is_vmid_used s vmid ≡ false
-  pub unowned : frees_vmid c ≡ true → (rd : ℕ) → is_named (named c) rd ≡ true → has_rec s rd ≡ false
 
 -- so it is by its rows
-pub outcome-found : (s : State) (cpu : ℕ) (c : Call) (accepted : Accepted) → IsSound s → outcome s cpu c ≡ Ok accepted → IsFound s cpu c
-outcome-found s cpu c accepted sound is =
+pub outcome-found : (s : State) (cpu : ℕ) (c : Call) (accepted : Accepted) → outcome s cpu c ≡ Ok accepted → IsFound s cpu c
+outcome-found s cpu c accepted is =
     let leads = outcome-leads s cpu c (Ok accepted) is in
     let hold = front-rest s c (behind s cpu c).0 leads.0 in
     let placed = outcome-answer s cpu c (Ok accepted) is (λ condition same. cc) in
@@ -355,9 +345,6 @@ outcome-found s cpu c accepted sound is =
       inside = where_given.1;
       tags = named_tags s c hold.1;
       vmid = λ vmid takes. subst (IsFree s) takes (taken_free s cpu c hold.2);
-      unowned = λ frees rd named_rd.
-          let ends = ends_as s cpu c accepted sound (freeing_ends c frees) is in
-          ap (has_rec s) (ends.only rd named_rd) ∙ ends.unowned frees;
     }
 
 -- where a call is refused for what it finds, its CPU is where the call is given

@@ -17,8 +17,7 @@ use Rattle.rmm_spec.specs.Lookup.{any_below, has_rec, has_vmid, is_owned_by, is_
 use Rattle.rmm_spec.specs.Sound.{IsSound}
 use Rattle.rmm_spec.specs.State.{RealmRecord, RecRecord, State, opening}
 use Rattle.lemmas.proofs.Tests.{both_ways, either, keys_apart}
-use Rattle.spec_lemmas.proofs.Placed.{passing_below}
-use Rattle.rmm_laws.proofs.Searches.{any_below-false}
+use Rattle.rmm_laws.proofs.Searches.{none_has_vmid}
 use Rattle.rmm_laws.proofs.Tests.{some_value, there}
 use Rattle.rmm_laws.proofs.Ties.{IsUnused, tied-used}
 use Rattle.verdict_laws.specs.Slices.{unused_tag}
@@ -242,27 +241,31 @@ masked-grown live more lent s sound unused = masked-is (λ g. more g || live g) 
 
 -- ---- searches
 
--- what isn't found isn't found behind the mask
+-- where all that passes is live, a search finds behind the mask what it finds before it
 search-masked : {A : Type 0} (live : ℕ → Bool) (n : ℕ) (at : ℕ → Option A) (passes : Option A → Bool) → passes None ≡ false
-    → any_below n (λ k. passes (at (k * 4096))) ≡ false
-    → any_below n (λ k. passes (if live (k * 4096) then at (k * 4096) else None)) ≡ false
-search-masked {A} live n at passes none fails = false_from_ne_true (any_below n test) (λ any.
-    let it = passing_below n test any in
-    by (live (it.0 * 4096)) (at (it.0 * 4096)) (any_below-false n (λ k. passes (at (k * 4096))) fails it.0 it.1) it.2)
+    → ((g : ℕ) → passes (at g) ≡ true → live g ≡ true)
+    → any_below n (λ k. passes (if live (k * 4096) then at (k * 4096) else None)) ≡ any_below n (λ k. passes (at (k * 4096)))
+search-masked live n at passes none lives = λ i. any_below n (λ k. same (k * 4096) (live (k * 4096)) refl i)
   where
-    test : ℕ → Bool
-    test k = passes (if live (k * 4096) then at (k * 4096) else None)
-
-    by : (b : Bool) (o : Option A) → passes o ≡ false → passes (if b then o else None) ≡ true → ⊥
-    by true o failed passed = both_ways passed failed
-    by false o failed passed = both_ways passed none
+    same : (g : ℕ) (b : Bool) → live g ≡ b → passes (if b then at g else None) ≡ passes (at g)
+    same g true on = refl
+    same g false off = none ∙ sym (false_from_ne_true (passes (at g)) (λ is. both_ways (lives g is) off))
 
 -- a VMID that isn't used isn't behind the mask
-pub vmid-masked : (live lent : ℕ → Bool) (s : State) (vmid : ℕ) → is_vmid_used s vmid ≡ false → is_vmid_used (masked live lent s) vmid ≡ false
+pub vmid-masked : (live lent : ℕ → Bool) (s : State) (vmid : ℕ) → IsSound s → is_vmid_used s vmid ≡ false
+    → is_vmid_used (masked live lent s) vmid ≡ is_vmid_used s vmid
 unfolding is_vmid_used
-vmid-masked live lent s vmid unused = search-masked live s.config.granules s.realm (has_vmid vmid) refl unused
+vmid-masked live lent s vmid sound unused = search-masked live s.config.granules s.realm (has_vmid vmid) refl
+    (λ g is. both_ways is (none_has_vmid s vmid sound unused g))
 
--- a realm without a REC has none behind it
-pub has_rec-masked : (live lent : ℕ → Bool) (s : State) (rd : ℕ) → has_rec s rd ≡ false → has_rec (masked live lent s) rd ≡ false
+-- a live realm has RECs behind it where it has some, if each REC of a live realm is live
+pub has_rec-masked : (live lent : ℕ → Bool) (s : State) (rd : ℕ) → live rd ≡ true
+    → ((g : ℕ) (rec : RecRecord) → s.rec g ≡ Some rec → live rec.owner ≡ true → live g ≡ true)
+    → has_rec (masked live lent s) rd ≡ has_rec s rd
 unfolding has_rec
-has_rec-masked live lent s rd none = search-masked live s.config.granules s.rec (is_owned_by rd) refl none
+has_rec-masked live lent s rd is have =
+    search-masked live s.config.granules s.rec (is_owned_by rd) refl (λ g. by g (s.rec g) refl)
+  where
+    by : (g : ℕ) (o : Option RecRecord) → s.rec g ≡ o → is_owned_by rd o ≡ true → live g ≡ true
+    by g None there owns = both_ways owns refl
+    by g (Some rec) there owns = have g rec there (ap live (eqb-true rec.owner rd owns) ∙ is)

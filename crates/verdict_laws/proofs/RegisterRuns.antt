@@ -37,7 +37,7 @@ AreEntered-nil : (events : List Event) → AreEntered events [] (λ cpu. None)
 AreEntered-nil events cpu known = subst (λ (n : ℕ). IsEntered events cpu n None) (sym (count_of-nil cpu)) refl
 
 -- a line of a finished call claims the reply that it returned with
-claimed_return : (events : List Event) (line : Line) (given : Reply) → IsOfItsKind events line
+pub claimed_return : (events : List Event) (line : Line) (given : Reply) → IsOfItsKind events line
     → IsFinished events (cpu_named line) (number_named line) → IsReplyOf events line given
     → (returned : ℕ) × IsReturned events returned (cpu_named line) (number_named line) given
 claimed_return events (Keep cpu number) given kind finished claimed = claimed

@@ -9,7 +9,6 @@ use Rattle.rmm_spec.specs.declared.event.Event.{Event}
 use Rattle.rmm_spec.specs.declared.line.Line.{Line}
 use Rattle.rmm_spec.specs.declared.line.Line.TheVariants.{Keep, Unfinished}
 use Rattle.rmm_spec.specs.declared.reply.Reply.{Reply}
-use Rattle.rmm_spec.specs.declared.reply.Reply.TheVariants as reply
 use Rattle.rmm_spec.specs.Call.{call_of}
 use Rattle.rmm_spec.specs.HistoryText.{History, IsHistory}
 use Rattle.rmm_spec.specs.Ownership.{is_accepted}
@@ -94,13 +93,6 @@ claimed_reply events one (Unfinished cpu number claimed) kind given told place i
 
 -- ---- commits
 
--- whatever its number is, a kept call leaves its CPU inside of a REC or not
-entered_kept : (new : ℕ) (e : JournalEntry) (given : Reply) (inside : Bool) → is_entered_by (Some 0) (call_of e.command) given inside
-    ≡ is_entered_by (Some new) (call_of e.command) given inside
-entered_kept new e (reply.Ok words) inside = refl
-entered_kept new e (reply.Err status index) inside = refl
-entered_kept new e reply.Misplaced inside = refl
-
 -- the commit of a finished call leaves its CPU inside of a REC where the call does
 entered_line : (events : List Event) (line : Line) (e : JournalEntry) (o : Option ℕ) (inside : Bool) → IsOfItsKind events line
     → IsFinished events (cpu_named line) (number_named line)
@@ -108,7 +100,6 @@ entered_line : (events : List Event) (line : Line) (e : JournalEntry) (o : Optio
 entered_line events line e None inside kind finished = refl
 entered_line events line e (Some new) inside kind finished =
     ap (λ (b : Bool). is_entered_behind b e inside) (stays-finished events line (Some new) (is_accepted e.given) refl kind finished)
-    ∙ entered_kept new e e.given inside
 
 -- the number of the line's call in the slice, if it has one
 abbrev pub number_of : {events : List Event} → (ℕ → Option ℕ) → Claim events → Option ℕ

@@ -5,7 +5,6 @@ use Rattle.std.specs.Option.{IsSome}
 use Rattle.std.proofs.lemmas.Bool.{false≢true}
 use Rattle.std.proofs.lemmas.Option.{slice_get_within}
 use Rattle.rmm_spec.specs.declared.event.Event.{Event}
-use Rattle.rmm_spec.specs.declared.event.Event.TheVariants.{Called}
 use Rattle.rmm_spec.specs.declared.line.Line.{Line}
 use Rattle.rmm_spec.specs.declared.line.Line.TheVariants.{Keep, Unfinished}
 use Rattle.rmm_spec.specs.declared.reply.Reply.{Reply}
@@ -13,7 +12,7 @@ use Rattle.rmm_spec.specs.HistoryText.{Config, History, IsHistory}
 use Rattle.rmm_spec.specs.Ownership.{is_accepted}
 use Rattle.rmm_spec.specs.State.{opening}
 use Rattle.rmm_spec.specs.Run.{JournalEntry, IsRun}
-use Rattle.rmm_spec.specs.Linearization.{IsCalled, IsReturned, IsFinished, IsNamed, IsOfItsKind, NamesCall, NamesSame, IsEntryOf, AreEntriesOf, IsLinearization, cpu_named, number_named}
+use Rattle.rmm_spec.specs.Linearization.{IsCalled, IsReturned, IsFinished, IsNamed, IsOfItsKind, NamesCall, IsEntryOf, AreEntriesOf, IsLinearization, cpu_named, number_named}
 use Rattle.lemmas.proofs.Elements.{slice_get-append, slice_get-map_from, slice_get-map_to}
 use Rattle.checker.proofs.Judging.{HasOnePlaces-from_history}
 use Rattle.verdict_laws.specs.Order.{LeadsNowhere}
@@ -25,6 +24,7 @@ use Rattle.verdict_laws.proofs.SliceFits.{AllFit-from_order}
 use Rattle.verdict_laws.proofs.SliceLendings.{IsMadeFrom, StandBefore, lending_lines, lending_named, lendings-apart, lendings-claimed, lendings-finished, lendings-made, made-apart}
 use Rattle.verdict_laws.proofs.SliceLines.{Claim, Each-map, Names, OneOf, OneOf-from_place, commit_of, is_staying, number_of, of_named, stays, stays-finished}
 use Rattle.verdict_laws.proofs.SliceRuns.{run-sliced}
+use Rattle.verdict_laws.proofs.SliceUnused.{same_call}
 use Rattle.verdict_laws.proofs.SliceTerms.{entry_of, kept_before, lending, sliced}
 
 -- ---- lines
@@ -207,13 +207,6 @@ module _ (history slice : History) (numbers : ℕ → Option ℕ) (lent : List �
         (number_in (number_of numbers c)) c.line (kept_call c staying),
     omega arith,
   )
-
-  -- the calls of two lines at one place are one
-  same_call : (c later : Claim history.events) → c.is_entry.called ≡ later.is_entry.called → NamesSame c.line later.line
-  same_call c later at =
-      let both : Some (Called (cpu_named c.line) (number_named c.line) c.entry.command)
-      ≡ Some (Called (cpu_named later.line) (number_named later.line) later.entry.command) =
-      sym c.is_entry.is_called ∙ ap (λ (p : ℕ). slice_get history.events p) at ∙ later.is_entry.is_called in (cc, cc)
 
   -- two lines that stay are apart
   apart_there : (c later : Claim history.events) → Apart history.events c.line later.line → is_staying numbers c ≡ true

@@ -1,5 +1,5 @@
 -- A run of commits of which each fits is, without those that aren't kept, one behind the lending of granules.
-use Rattle.std.proofs.Common.{◌≡◌, ℕ, ◌==◌, ◌||◌, Bool, true, false, List, [], ◌∷◌, ◌++◌, map, None, Some, refl, ◌∙◌, ap, subst, eq-eqb, eqb-true}
+use Rattle.std.proofs.Common.{◌≡◌, ℕ, ◌==◌, ◌||◌, Bool, true, false, List, [], ◌∷◌, ◌++◌, map, None, Some, inl, inr, refl, ◌∙◌, ap, subst, eq-eqb, eqb-true}
 use Rattle.std.proofs.lemmas.Bool.{false_from_ne_true, or_from, or_left, or_right}
 use Rattle.std.proofs.Math.Bool.{or-false}
 use Rattle.rmm_spec.specs.declared.change.Change.TheVariants.{Retagged}
@@ -18,6 +18,7 @@ use Rattle.rmm_laws.proofs.RunLaws.{run-append, run-snoc}
 use Rattle.rmm_laws.proofs.Runs.{opened_run_sound}
 use Rattle.verdict_laws.specs.Slices.{AreLent, delegation, is_lent, may_change, unused_tag}
 use Rattle.verdict_laws.proofs.Entered.{RunAsEntered, RunAsEntered-stays, outside_masked}
+use Rattle.verdict_laws.proofs.LeftUnused.{IsAsLeft, as_left_next, as_left_opening}
 use Rattle.verdict_laws.proofs.Masks.{masked-lent, masked-opening}
 use Rattle.verdict_laws.proofs.SliceOwners.{HaveLiveRecs, parts_outside}
 use Rattle.verdict_laws.proofs.SliceSteps.{seen_kept, unseen_left, wider}
@@ -43,7 +44,7 @@ opening_lent config lent = masked (λ _. false) lent (opening config)
 -- there CPUs are outside of RECs
 opening_outside : (config : Config) (lent : ℕ → Bool) (cpu : ℕ) → is_inside (opening_lent config lent) cpu ≡ false
 opening_outside config lent cpu =
-    outside_masked (λ _. false) lent (λ _. false) (opening config) cpu (opened_run_sound config [] (opening config) refl) (opening_runs config) refl
+    outside_masked (λ _. false) lent (λ _. false) (opening config) cpu (opening_runs config) refl
 
 -- where none is lent twice, the later ones are new behind the first too
 still_new : (granule : ℕ) (more : List ℕ) (old : ℕ → Bool) → is_lent more granule ≡ false
@@ -89,13 +90,14 @@ opening-lent config lent are =
 abbrev shown : List ℕ → List Commit → State → State
 shown lent before s = masked (is_live_in before) (is_lent lent) s
 
--- The state is one that a run comes to, and so is the slice's. Each REC of a live realm is live, and each that runs is live just where its CPU is
--- inside of a REC in the slice.
+-- The state is one that a run comes to, as the commits leave it, and so is the slice's. Each REC of a live realm is live, and each that runs is live
+-- just where its CPU is inside of a REC in the slice.
 record Stands (config : Config) (lent : List ℕ) (before : List Commit) (s : State) : Type 0 where
   entries : List JournalEntry
   run : IsRun (opening config) entries s
   others : List JournalEntry
   run_too : IsRun (opening config) others (shown lent before s)
+  left : IsAsLeft before s
   recs : HaveLiveRecs (is_live_in before) s
   runs : RunAsEntered (is_live_in before) (is_entered_in before) s
 
@@ -107,6 +109,7 @@ stands_opening config lent are = record {
   run = refl;
   others = map lending lent;
   run_too = opening-lent config lent are;
+  left = as_left_opening config;
   recs = λ g rec is. absurd (let bad : None ≡ Some rec = is in cc);
   runs = opening_runs config;
 }
@@ -131,6 +134,7 @@ module _ (config : Config) (lent : List ℕ) (before : List Commit) (s : State) 
         others = stands.others ++ kept_before c.kept e [];
         run_too = run-append stands.others (kept_before c.kept e []) (opening config) (shown lent before s) there stands.run_too
             (goes_on.slice [] there refl);
+        left = as_left_next before s (opened_run_sound config stands.entries s stands.run) stands.left c next step;
         recs = goes_on.recs;
         runs = goes_on.runs;
       }
@@ -158,7 +162,11 @@ module _ (config : Config) (lent : List ℕ) (before : List Commit) (s : State) 
         let sound = opened_run_sound config stands.entries s stands.run in
         let sound_too = opened_run_sound config stands.others (shown lent before s) stands.run_too in
         let seen = seen_kept live (is_lent lent) (is_entered_in before) s sound sound_too stands.recs stands.runs e.cpu e.command e.given next
-        fits.knows fits.inside fits.reply step in
+        (λ n has. elim (fits.knows n has) [
+          | inl is_live ↦ inl is_live
+          | inr (inl shown) ↦ inr (inl shown)
+          | inr (inr unused) ↦ inr (inr (stands.left.unused n.granule (is_lent lent n.granule) unused))
+        ]) fits.inside fits.reply step in
         record {
           slice = λ rest end run. subst (λ (t : State). IsRun t (e ∷ rest) end) seen.grown (masked wide (is_lent lent) next, seen.step, run);
           recs = seen.recs;

@@ -1,7 +1,8 @@
 -- A step of a call on what is live is one behind the mask too, and one of a call on other things alone isn't seen there.
-use Rattle.std.proofs.Common.{◌≡◌, ℕ, ◌+◌, ◌==◌, ◌||◌, Bool, true, false, List, [], ◌∷◌, Some, None, inl, inr, if◌then◌else◌, refl, sym, ◌∙◌, ap, subst, eqb-true}
+use Rattle.std.proofs.Common.{◌≡◌, ℕ, ◌+◌, ◌==◌, ◌||◌, Bool, true, false, List, [], ◌∷◌, inl, inr, if◌then◌else◌, refl, sym, ◌∙◌, ap, subst, eqb-true}
 use Rattle.std.specs.Prelude.{◌⊎◌, Contains, Ok, Err, IsTrue, Result, is_none}
 use Rattle.std.proofs.lemmas.Bool.{and_parts, not-true, or_left, or_right}
+use Rattle.std.proofs.lemmas.Option.{none-some}
 use Rattle.rmm_spec.specs.declared.accepted.Accepted.{Accepted}
 use Rattle.rmm_spec.specs.declared.accepted.Accepted.TheVariants.{Done, Reaches}
 use Rattle.rmm_spec.specs.declared.accepted.Stretch.{Stretch}
@@ -20,7 +21,7 @@ use Rattle.rmm_spec.specs.Applicable.{CanApply}
 use Rattle.rmm_spec.specs.Call.{Class, ByHost, ByRealm, ByExit, call_of, class_of}
 use Rattle.rmm_spec.specs.Change.{changed}
 use Rattle.rmm_spec.specs.Locks.{is_named}
-use Rattle.rmm_spec.specs.Lookup.{is_inside, rec_at, rec_inside}
+use Rattle.rmm_spec.specs.Lookup.{has_rec, is_inside, rec_at, rec_inside}
 use Rattle.rmm_spec.specs.Ownership.{is_accepted}
 use Rattle.rmm_spec.specs.Rows.{Needed, reply_of}
 use Rattle.rmm_spec.specs.Sound.{IsSound}
@@ -31,16 +32,17 @@ use Rattle.rmm_spec.specs.Step.Terms.{named, needed}
 use Rattle.rmm_spec.specs.Walk.{entry_at, entry_number}
 use Rattle.lemmas.proofs.Tests.{both_ways}
 use Rattle.spec_lemmas.proofs.Members.{Contains-head, Contains-tail, each_of_two}
+use Rattle.rmm_laws.proofs.CommandFacts.{Tells, outcome-tells}
 use Rattle.rmm_laws.proofs.RowLaws.{refusal-refuses}
 use Rattle.rmm_laws.proofs.Runs.{done_applies, reached_applies}
 use Rattle.rmm_laws.proofs.StepLaws.{step-refuses}
 use Rattle.verdict_laws.specs.Apart.{is_part}
 use Rattle.verdict_laws.specs.Looking.{is_looking}
-use Rattle.verdict_laws.specs.Slices.{IsKeptReply, changeable, is_by_host, is_entered_by, is_hosts, is_inside_after, may_change, shows_names, unused_tag}
+use Rattle.verdict_laws.specs.Slices.{IsKeptReply, changeable, inside_after, is_by_host, is_hosts, is_inside_after, may_change, shows_names, unused_tag}
 use Rattle.verdict_laws.proofs.Entered.{IsMoveBy, RunAsEntered, RunAsEntered-grown, RunAsEntered-kept, RunAsEntered-left, RunAsEntered-stays, inside_both, inside_live, inside_outside, outcome-moves, placed_accepted}
 use Rattle.verdict_laws.proofs.Looked.{looks-keep}
 use Rattle.verdict_laws.proofs.MaskedCalls.{IsKnownTo, outcome-found, outcome-masked, refused_named, refused_placed}
-use Rattle.verdict_laws.proofs.Masks.{changed-masked, masked-changed, masked-grown}
+use Rattle.verdict_laws.proofs.Masks.{changed-masked, has_rec-masked, masked-changed, masked-grown}
 use Rattle.verdict_laws.proofs.SliceOwners.{HaveLiveRecs, HaveLiveRecs-changed, HaveLiveRecs-grown, rec_replaced}
 use Rattle.verdict_laws.proofs.SliceTerms.{IsOf, masked, touched, touched_by}
 use Rattle.verdict_laws.proofs.Touched.{ArePartsOutside, IsPut-inside, IsPut-outside, outcome-touches}
@@ -111,23 +113,24 @@ IsReached-masked live lent s stretch top is_live reached = record {
 -- ---- steps
 
 -- the call is refused, and nothing changes
-record IsRefused (s : State) (cpu : ℕ) (command : Command) (given : Reply) (new : State) : Type 0 where
-  refusal : Refusal
+pub record IsRefused (s : State) (cpu : ℕ) (command : Command) (given : Reply) (new : State) : Type 0 where
+  pub refusal : Refusal
   leads : outcome s cpu (call_of command) ≡ Err refusal
-  replied : given ≡ reply_of refusal
-  is_new : new ≡ s
+  pub replied : given ≡ reply_of refusal
+  pub is_new : new ≡ s
 
--- The call is carried out: it makes a change of what it touches, and lets its CPU in or out. It makes it behind a mask too, where that is live and it
--- leads to the same.
-record IsDone (s : State) (cpu : ℕ) (command : Command) (given : Reply) (new : State) : Type 0 where
-  accepted : Accepted
-  leads : outcome s cpu (call_of command) ≡ Ok accepted
-  replied : is_accepted given ≡ true
-  change : Change
-  can : CanApply s change
+-- The call is carried out: it makes a change of what it touches, as its words tell, and lets its CPU in or out. It makes it behind a mask too, where
+-- that is live and it leads to the same.
+pub record IsDone (s : State) (cpu : ℕ) (command : Command) (given : Reply) (new : State) : Type 0 where
+  pub accepted : Accepted
+  pub leads : outcome s cpu (call_of command) ≡ Ok accepted
+  pub replied : is_accepted given ≡ true
+  pub change : Change
+  pub can : CanApply s change
+  pub tells : (words : List ℕ) × Tells command.function command.words.items words change
   of : IsOf (touched s cpu (call_of command)) change
   moves : IsMoveBy s cpu (is_inside_after (call_of command)) (rec_replaced change)
-  is_new : new ≡ changed s change
+  pub is_new : new ≡ changed s change
   again : (live lent : ℕ → Bool) → ((g : ℕ) → touched s cpu (call_of command) g ≡ true → live g ≡ true) → IsSound (masked live lent s)
       → outcome (masked live lent s) cpu (call_of command) ≡ outcome s cpu (call_of command)
       → CanApply (masked live lent s) change × Step (masked live lent s) cpu command given (changed (masked live lent s) change)
@@ -143,6 +146,7 @@ module _ (s : State) (cpu : ℕ) (command : Command) (given : Reply) (new : Stat
     replied = ap is_accepted carried.0;
     change = change;
     can = done_applies s cpu command words.items change sound is;
+    tells = (words.items, outcome-tells command s cpu (Ok (Done words change)) is);
     of = outcome-touches s cpu (call_of command) (Done words change) is;
     moves = outcome-moves s cpu (call_of command) (Done words change) is;
     is_new = carried.1;
@@ -163,6 +167,7 @@ module _ (s : State) (cpu : ℕ) (command : Command) (given : Reply) (new : Stat
         replied = ap is_accepted carried.1.1;
         change = change;
         can = reached_applies s cpu command stretch top sound is carried.1.0;
+        tells = (top ∷ [], (outcome-tells command s cpu (Ok (Reaches stretch)) is).1 top);
         of = of;
         moves = outcome-moves s cpu (call_of command) (Reaches stretch) is top;
         is_new = carried.1.2;
@@ -177,7 +182,7 @@ module _ (s : State) (cpu : ℕ) (command : Command) (given : Reply) (new : Stat
       })
 
   -- each step is refused or carried out
-  step_cases : Step s cpu command given new → IsRefused s cpu command given new ⊎ IsDone s cpu command given new
+  pub step_cases : Step s cpu command given new → IsRefused s cpu command given new ⊎ IsDone s cpu command given new
   step_cases step = step_by (outcome s cpu (call_of command)) refl step
 
 -- ---- calls that are left
@@ -203,7 +208,7 @@ module _ (live entered : ℕ → Bool) (s : State) (sound : IsSound s) (parts : 
       let put = IsPut-outside s live (touched s cpu c) done.change sound done.can done.of
       (λ g is. elim (touched_cases s cpu c (class_of c) g placed is) [
         | inl named ↦ dead g named
-        | inr here ↦ inside_outside live entered s cpu sound runs recs outside here.1 g here.2
+        | inr here ↦ inside_outside live entered s cpu runs recs outside here.1 g here.2
       ]) parts in
       record {
         masks = λ lent. ap (masked live lent) done.is_new ∙ masked-changed live lent s done.change put;
@@ -232,7 +237,7 @@ wider live more g = more g || live g
 
 -- whether CPUs count as inside behind a kept call of one of them
 abbrev pub entered_behind : (entered : ℕ → Bool) (cpu : ℕ) → Call → Reply → ℕ → Bool
-entered_behind entered cpu c given other = if cpu == other then is_entered_by (Some 0) c given (entered other) else entered other
+entered_behind entered cpu c given other = if cpu == other then inside_after c given (entered other) else entered other
 
 -- The step is one behind a mask behind which more is live, which was unused. Live realms' RECs stay live, and the CPU counts as the call leaves it.
 pub record IsSeen (live more lent entered : ℕ → Bool) (s : State) (cpu : ℕ) (command : Command) (given : Reply) (new : State) : Type 0 where
@@ -242,13 +247,13 @@ pub record IsSeen (live more lent entered : ℕ → Bool) (s : State) (cpu : ℕ
   pub runs : RunAsEntered (wider live more) (entered_behind entered cpu (call_of command) given) new
 
 -- a call that is carried out leaves its CPU as it says
-entered_done : (c : Call) (given : Reply) → is_accepted given ≡ true → is_inside_after c ≡ is_entered_by (Some 0) c given
+entered_done : (c : Call) (given : Reply) → is_accepted given ≡ true → is_inside_after c ≡ inside_after c given
 entered_done c (reply.Ok words) is = refl
 entered_done c (reply.Err status index) is = both_ways is refl
 entered_done c reply.Misplaced is = both_ways is refl
 
 -- and one that is refused leaves it as it was
-entered_refused : (c : Call) (given : Reply) (inside : Bool) → is_accepted given ≡ false → is_entered_by (Some 0) c given inside ≡ inside
+entered_refused : (c : Call) (given : Reply) (inside : Bool) → is_accepted given ≡ false → inside_after c given inside ≡ inside
 entered_refused c (reply.Ok words) inside is = both_ways refl is
 entered_refused c (reply.Err status index) inside is = refl
 entered_refused c reply.Misplaced inside is = refl
@@ -275,21 +280,24 @@ module _ (live lent entered : ℕ → Bool) (s : State) (sound : IsSound s) (sou
         let found = needed_of (changeable (call_of command)) g may in
         elim (known.names found.0 (changeable_named (call_of command) found.0 found.1)) [
           | inl is_live ↦ both_ways (ap live (sym found.2) ∙ is_live) dead
-          | inr unused ↦ subst (λ h. s.tag h ≡ unused_tag (lent h)) found.2 (unused.1 ∙ unused.0)
+          | inr unused ↦ subst (λ h. s.tag h ≡ unused_tag (lent h)) found.2 unused
         ]
 
     -- so it may be live
     grown_known : masked (wider live (may_change (call_of command))) lent s ≡ masked live lent s
     grown_known = masked-grown live (may_change (call_of command)) lent s sound unused_known
 
+    -- live realms' RECs are live then
+    recs_known : HaveLiveRecs (wider live (may_change (call_of command))) s
+    recs_known = HaveLiveRecs-grown live (may_change (call_of command)) lent s sound unused_known recs
+
     -- and the call leads to the same behind that mask
     outcome_known : outcome (masked (wider live (may_change (call_of command))) lent s) cpu (call_of command) ≡ outcome s cpu (call_of command)
     outcome_known =
-        ap (λ (u : State). outcome u cpu (call_of command)) grown_known ∙ outcome-masked live lent s cpu (call_of command) sound sound_too known
-
-    -- live realms' RECs are live behind it
-    recs_known : HaveLiveRecs (wider live (may_change (call_of command))) s
-    recs_known = HaveLiveRecs-grown live (may_change (call_of command)) lent s sound unused_known recs
+        let c = call_of command in
+        ap (λ (u : State). outcome u cpu c) grown_known ∙ outcome-masked live lent s cpu c sound sound_too known
+        (λ rd may. ap (λ (u : State). has_rec u rd) (sym grown_known)
+        ∙ has_rec-masked (wider live (may_change c)) lent s rd (or_left (may_change c rd) (live rd) may) recs_known)
 
     -- and CPUs count as they are
     runs_known : RunAsEntered (wider live (may_change (call_of command))) entered s
@@ -308,7 +316,7 @@ module _ (live lent entered : ℕ → Bool) (s : State) (sound : IsSound s) (sou
           step = subst (λ (v : State). Step u cpu command given v) (sym (ap (masked wide lent) refused.is_new)) kept;
           recs = subst (HaveLiveRecs wide) (sym refused.is_new) recs_known;
           runs = subst (RunAsEntered wide (entered_behind entered cpu c given)) (sym refused.is_new)
-              (RunAsEntered-stays wide entered s cpu (is_entered_by (Some 0) c given)
+              (RunAsEntered-stays wide entered s cpu (inside_after c given)
               (λ inside. entered_refused c given inside (ap is_accepted refused.replied ∙ refusal-refuses refused.refusal)) runs_known);
         }
 
@@ -345,12 +353,22 @@ module _ (live lent entered : ℕ → Bool) (s : State) (sound : IsSound s) (sou
         }
 
   module _ (knows : (n : Needed) → Contains (named (call_of command)) n
-      → (live n.granule ≡ true) ⊎ ((n.tag ≡ unused_tag (lent n.granule)) × (shows_names given ≡ true)))
+      → (live n.granule ≡ true)
+      ⊎ (((n.tag ≡ unused_tag (lent n.granule)) × (shows_names given ≡ true)) ⊎ (s.tag n.granule ≡ unused_tag (lent n.granule))))
       (inside : is_hosts (call_of command) ≡ false → entered cpu ≡ true) (kept : IsKeptReply (call_of command) given) where
     -- a call that finds its CPU inside of a REC finds it inside of a live one
     known_inside : (is_hosts (call_of command) ≡ false → is_inside s cpu ≡ true) → is_hosts (call_of command) ≡ false
         → (is_inside s cpu ≡ true) × (live (rec_inside s cpu) ≡ true)
-    known_inside found others = (found others, inside_live live entered s cpu sound runs (inside others) (found others))
+    known_inside found others = (found others, inside_live live entered s cpu runs (inside others) (found others))
+
+    -- what is named is live, or unused as the mask has it, where a reply that shows what is named tells its tags
+    names_known : (shows_names given ≡ true → (n : Needed) → Contains (named (call_of command)) n → s.tag n.granule ≡ n.tag)
+        → (n : Needed) → Contains (named (call_of command)) n → (live n.granule ≡ true) ⊎ (s.tag n.granule ≡ unused_tag (lent n.granule))
+    names_known tags n has = elim (knows n has) [
+      | inl is_live ↦ inl is_live
+      | inr (inl shown) ↦ inr (tags shown.1 n has ∙ shown.0)
+      | inr (inr unused) ↦ inr unused
+    ]
 
     -- what is known of a call that is refused for what it finds
     known_refused : (r : Reply) → given ≡ r → IsKeptReply (call_of command) r → IsRefused s cpu command given new
@@ -363,32 +381,21 @@ module _ (live lent entered : ℕ → Bool) (s : State) (sound : IsSound s) (sou
         record {
           outside = placed.0;
           inside = known_inside placed.1;
-          names = λ n has. elim (knows n has) [
-            | inl is_live ↦ inl is_live
-            | inr unused ↦ inr (
-              unused.0,
-              refused_named s cpu (call_of command) refused.refusal status index refused.leads replied
-                  (not-true (status == 1) (sym (ap shows_names is) ∙ unused.1)) n has,
-            )
-          ];
-          vmid = λ vmid takes. absurd (let bad : None ≡ Some vmid = sym none.0 ∙ takes in cc);
-          unowned = λ frees. both_ways frees none.1;
+          names = names_known (λ shows. refused_named s cpu (call_of command) refused.refusal status index refused.leads replied
+              (not-true (status == 1) (sym (ap shows_names is) ∙ shows)));
+          vmid = λ vmid takes. absurd (none-some vmid (sym none ∙ takes));
         }
     known_refused reply.Misplaced is none refused = absurd none
 
     -- and of one that is carried out
     known_done : IsDone s cpu command given new → IsKnownTo live lent s cpu (call_of command)
     known_done done =
-        let found = outcome-found s cpu (call_of command) done.accepted sound done.leads in
+        let found = outcome-found s cpu (call_of command) done.accepted done.leads in
         record {
           outside = found.outside;
           inside = known_inside found.inside;
-          names = λ n has. elim (knows n has) [
-            | inl is_live ↦ inl is_live
-            | inr unused ↦ inr (unused.0, found.tags n has)
-          ];
+          names = names_known (λ _. found.tags);
           vmid = found.vmid;
-          unowned = found.unowned;
         }
 
     -- so a kept call makes its step behind the mask

@@ -19,7 +19,7 @@ use Rattle.rmm_spec.specs.State.{State}
 use Rattle.rmm_spec.specs.Step.Ripas.{reached_change}
 use Rattle.rmm_spec.specs.Step.Terms.{named}
 use Rattle.verdict_laws.specs.Looking.{is_looking}
-use Rattle.verdict_laws.specs.Slices.{IsKeptReply, delegation, is_entered_by, is_hosts, is_lent, may_change, shows_names, unused_tag}
+use Rattle.verdict_laws.specs.Slices.{IsKeptReply, delegation, is_of_ended, leaves_unused, makes_part, inside_after, is_hosts, is_lent, may_change, shows_names, unused_tag}
 
 -- ---- states
 
@@ -125,7 +125,7 @@ is_live_in (c ∷ others) g = (c.kept && may_change (call_of c.entry.command) g)
 
 -- whether the CPU is inside of a REC behind an entry that is kept, or another, by whether it was before
 abbrev pub is_entered_behind : Bool → JournalEntry → Bool → Bool
-is_entered_behind true e inside = is_entered_by (Some 0) (call_of e.command) e.given inside
+is_entered_behind true e inside = inside_after (call_of e.command) e.given inside
 is_entered_behind false e inside = inside
 
 -- whether the commits that are kept leave the CPU inside of a REC
@@ -143,12 +143,30 @@ IsLeft before e =
     ⊎ ((is_accepted e.given ≡ false)
     ⊎ (((g : ℕ) → may_change (call_of e.command) g ≡ true → is_live_in before g ≡ false) × (is_entered_in before e.cpu ≡ false)))
 
--- The entry is kept: what it names is live, or needed as an unused granule and its reply shows that it is one. A realm's call and an exit are given
--- inside of a REC that is live.
+-- of the commits that are carried out the latest that makes or ends what the call ends makes it, with the granule as a part
+abbrev pub HasMade : List Commit → Call → ℕ → Type 0
+HasMade [] ending g = ⊥
+HasMade (c ∷ others) ending g =
+    ((is_accepted c.entry.given ≡ true) × (makes_part (call_of c.entry.command) ending g ≡ true))
+    ⊎ (((is_accepted c.entry.given ≡ false) ⊎ (is_of_ended (call_of c.entry.command) ending ≡ false)) × HasMade others ending g)
+
+-- the commits leave the granule unused, lent or not: the latest that may have changed it did so, or what it was a part of was ended
+abbrev pub IsLeftUnused : List Commit → ℕ → Bool → Type 0
+IsLeftUnused [] g lent = lent ≡ false
+IsLeftUnused (c ∷ others) g lent =
+    ((is_accepted c.entry.given ≡ true) × (leaves_unused (call_of c.entry.command) c.entry.given g lent ≡ true))
+    ⊎ (((is_accepted c.entry.given ≡ true) × HasMade others (call_of c.entry.command) g × (lent ≡ true))
+    ⊎ (((is_looking c.entry.command ≡ true) ⊎ ((is_accepted c.entry.given ≡ false) ⊎ (may_change (call_of c.entry.command) g ≡ false)))
+    × IsLeftUnused others g lent))
+
+-- The entry is kept: what it names is live, or needed as an unused granule and its reply shows that it is one, or was left unused. A realm's call and
+-- an exit are given inside of a REC that is live.
 pub record FitsKept (lent : List ℕ) (before : List Commit) (e : JournalEntry) : Type 0 where
   pub reply : IsKeptReply (call_of e.command) e.given
   pub knows : (n : Needed) → Contains (named (call_of e.command)) n
-      → (is_live_in before n.granule ≡ true) ⊎ ((n.tag ≡ unused_tag (is_lent lent n.granule)) × (shows_names e.given ≡ true))
+      → (is_live_in before n.granule ≡ true)
+      ⊎ (((n.tag ≡ unused_tag (is_lent lent n.granule)) × (shows_names e.given ≡ true))
+      ⊎ IsLeftUnused before n.granule (is_lent lent n.granule))
   pub inside : is_hosts (call_of e.command) ≡ false → is_entered_in before e.cpu ≡ true
 
 abbrev pub Fits : List ℕ → List Commit → Bool → JournalEntry → Type 0

@@ -10,3 +10,4 @@ pub mod Beside
 pub mod Making
 pub mod Ending
 pub mod Slices
+pub mod Placing

@@ -1,5 +1,5 @@
 -- Slices of a history: the calls on some granules, kept as they are, beside others that come to nothing there. This project's own.
-use Rattle.std.specs.Prelude.{◌≡◌, ℕ, ◌+◌, ◌<◌, ◌==◌, ◌⊎◌, Bool, true, false, not, List, [], ◌∷◌, ◌++◌, Contains, Option, None, Some, IsSome}
+use Rattle.std.specs.Prelude.{◌≡◌, ℕ, ◌+◌, ◌<◌, ◌==◌, ◌&&◌, ◌||◌, ◌⊎◌, Bool, true, false, not, List, [], ◌∷◌, ◌++◌, Contains, Option, None, Some, IsSome}
 use Rattle.std.specs.List.{list_any}
 use Rattle.rmm_spec.specs.declared.call.Call.{Call}
 use Rattle.rmm_spec.specs.declared.call.Call.TheVariants as call
@@ -19,9 +19,9 @@ use Rattle.rmm_spec.specs.Lookup.{is_granule}
 use Rattle.rmm_spec.specs.Ownership.{is_accepted}
 use Rattle.rmm_spec.specs.Rows.{Needed, ok}
 use Rattle.rmm_spec.specs.Step.Terms.{named, needed}
-use Rattle.verdict_laws.specs.Ending.{frees_vmid}
 use Rattle.verdict_laws.specs.Looking.{is_looking}
 use Rattle.verdict_laws.specs.Making.{taken_vmid}
+use Rattle.verdict_laws.specs.Separate.{is_freed}
 
 -- ---- calls
 
@@ -39,6 +39,11 @@ unfoldable pub is_inside_after : Call → Bool → Bool
 is_inside_after (call.RecEnter rec) inside = true
 is_inside_after call.Exit inside = false
 is_inside_after _ inside = inside
+
+-- whether it is after a call with that reply
+abbrev pub inside_after : Call → Reply → Bool → Bool
+inside_after c (reply.Ok words) inside = is_inside_after c inside
+inside_after c given inside = inside
 
 -- the granules that a call names, but for the one whose content it reads
 unfoldable pub changeable : Call → List Needed
@@ -91,7 +96,7 @@ pub record IsSlice (history slice : History) (numbers : ℕ → Option ℕ) (len
 abbrev pub IsBack : List Event → ℕ → ℕ → ℕ → Type 0
 IsBack events cpu number place = (returned : ℕ) × (given : Reply) × IsReturned events returned cpu number given × (returned < place)
 
--- whether a reply shows that each granule which the call names has the tag that is needed there: other refusals come first
+-- whether a reply shows that each granule which the call names has the tag that is needed there: the row on that comes first, and refuses with 1
 abbrev pub shows_names : Reply → Bool
 shows_names (reply.Ok words) = true
 shows_names (reply.Err status index) = not (status == 1)
@@ -116,19 +121,104 @@ pub record IsKnownAt (events : List Event) (numbers : ℕ → Option ℕ) (place
 abbrev pub is_lent : List ℕ → ℕ → Bool
 is_lent lent granule = list_any (λ (other : ℕ). other == granule) lent
 
+-- ---- granules that others left unused
+
+-- whether the call, carried out with that reply, leaves the granule unused, and lent to the realm world or not, as its words or the reply say
+unfoldable pub leaves_unused : Call → Reply → ℕ → Bool → Bool
+leaves_unused (call.GranuleDelegate other) given granule lent = (other == granule) && lent
+leaves_unused (call.GranuleUndelegate other) given granule lent = (other == granule) && not lent
+leaves_unused (call.RealmDestroy rd) given granule lent = (rd == granule) && lent
+leaves_unused (call.RecDestroy rec) given granule lent = (rec == granule) && lent
+leaves_unused c given granule lent = is_freed c given granule && lent
+
+-- whether the one call makes the realm or the REC that the other ends, with the granule as a part that isn't named when it ends
+unfoldable pub makes_part : Call → Call → ℕ → Bool
+makes_part (call.RealmCreate rd root width level vmid algo) (call.RealmDestroy other) granule = (rd == other) && (root == granule)
+makes_part (call.RecCreate rd rec mpidr flags aux0 aux1) (call.RecDestroy other) granule =
+    (rec == other) && ((aux0 == granule) || (aux1 == granule))
+makes_part _ _ granule = false
+
+-- whether the one call makes or ends what the other ends
+unfoldable pub is_of_ended : Call → Call → Bool
+is_of_ended (call.RealmCreate rd root width level vmid algo) (call.RealmDestroy other) = rd == other
+is_of_ended (call.RealmDestroy rd) (call.RealmDestroy other) = rd == other
+is_of_ended (call.RecCreate rd rec mpidr flags aux0 aux1) (call.RecDestroy other) = rec == other
+is_of_ended (call.RecDestroy rec) (call.RecDestroy other) = rec == other
+is_of_ended _ _ = false
+
+-- A call that was carried out, and returned before the place.
+pub record IsDoneBefore (events : List Event) (place : ℕ) : Type 0 where
+  pub called : ℕ
+  pub cpu : ℕ
+  pub number : ℕ
+  pub command : Command
+  pub is_called : IsCalled events called cpu number command
+  pub returned : ℕ
+  pub given : Reply
+  pub is_returned : IsReturned events returned cpu number given
+  pub accepted : is_accepted given ≡ true
+  pub back : returned < place
+
+-- the call changes nothing: it only looks, or was refused
+abbrev pub ChangesNothing : List Event → ℕ → ℕ → Command → Type 0
+ChangesNothing events cpu number command =
+    (is_looking command ≡ true) ⊎ ((returned : ℕ) × (given : Reply) × IsReturned events returned cpu number given × (is_accepted given ≡ false))
+
+-- of the calls that aren't kept, the one made at the place is the last that may have changed the granule
+abbrev pub IsLastOn : List Event → (ℕ → Option ℕ) → ℕ → ℕ → Type 0
+IsLastOn events numbers granule last =
+    (place cpu number : ℕ) (command : Command) → IsCalled events place cpu number command → numbers place ≡ None
+    → may_change (call_of command) granule ≡ true
+    → ChangesNothing events cpu number command ⊎ ((place ≡ last) ⊎ IsBack events cpu number last)
+
+-- A call left the granule unused, and none that isn't kept has changed it since.
+pub record IsGivenUp (events : List Event) (numbers : ℕ → Option ℕ) (place granule : ℕ) (lent : Bool) : Type 0 where
+  pub giver : IsDoneBefore events place
+  pub leaves : leaves_unused (call_of giver.command) giver.given granule lent ≡ true
+  pub last : IsLastOn events numbers granule giver.called
+
+-- The granule was a part of a realm or a REC that was ended: since this was made, no call has changed the granule that isn't kept, and up to its end
+-- none has made or ended the same.
+pub record IsPartBack (events : List Event) (numbers : ℕ → Option ℕ) (place granule : ℕ) : Type 0 where
+  pub ender : IsDoneBefore events place
+  pub maker : IsDoneBefore events ender.called
+  pub makes : makes_part (call_of maker.command) (call_of ender.command) granule ≡ true
+  pub last : IsLastOn events numbers granule maker.called
+  pub alone : (other cpu number : ℕ) (command : Command) → IsCalled events other cpu number command
+      → is_of_ended (call_of command) (call_of ender.command) ≡ true
+      → ChangesNothing events cpu number command
+      ⊎ ((other ≡ maker.called) ⊎ ((other ≡ ender.called) ⊎ (IsBack events cpu number maker.called ⊎ (ender.returned < other))))
+
+-- no call that isn't kept has changed the granule
+abbrev pub IsUntouched : List Event → (ℕ → Option ℕ) → ℕ → Type 0
+IsUntouched events numbers granule =
+    (place cpu number : ℕ) (command : Command) → IsCalled events place cpu number command → numbers place ≡ None
+    → may_change (call_of command) granule ≡ true → ChangesNothing events cpu number command
+
+-- at the place the granule is unused, lent to the realm world or not, unless a kept call has changed it
+abbrev pub IsUnusedAt : List Event → (ℕ → Option ℕ) → ℕ → ℕ → Bool → Type 0
+IsUnusedAt events numbers place granule lent =
+    IsGivenUp events numbers place granule lent
+    ⊎ ((IsPartBack events numbers place granule × (lent ≡ true)) ⊎ (IsUntouched events numbers granule × (lent ≡ false)))
+
+-- ---- what is asked of each call
+
 -- what may be replied to a kept call: it is carried out, or refused for what it names and finds there
 abbrev pub IsKeptReply : Call → Reply → Type 0
 IsKeptReply c (reply.Ok words) = Unit {0}
-IsKeptReply c (reply.Err status index) = (taken_vmid c ≡ None) × (frees_vmid c ≡ false)
+IsKeptReply c (reply.Err status index) = taken_vmid c ≡ None
 IsKeptReply c reply.Misplaced = ⊥
 
--- A kept call: each granule that it names was changed by a kept call before, or it needs that as an unused one, and its reply shows that it is one.
+-- A kept call: each granule that it names was changed by a kept call before, or it needs that as an unused one, and its reply shows that it is one,
+-- or others left it unused before.
 -- A realm's call and an exit are given inside of a REC that was entered.
 pub record IsKeptCall (events : List Event) (numbers : ℕ → Option ℕ) (lent : List ℕ) (entered : ℕ → Bool) (place cpu number : ℕ) (command : Command)
     : Type 0 where
   pub replies : (returned : ℕ) (given : Reply) → IsReturned events returned cpu number given → IsKeptReply (call_of command) given
   pub knows : (n : Needed) → Contains (named (call_of command)) n
-      → IsKnownAt events numbers place n.granule ⊎ ((n.tag ≡ unused_tag (is_lent lent n.granule)) × ShowsNamesIfBack events cpu number)
+      → IsKnownAt events numbers place n.granule
+      ⊎ (((n.tag ≡ unused_tag (is_lent lent n.granule)) × ShowsNamesIfBack events cpu number)
+      ⊎ IsUnusedAt events numbers place n.granule (is_lent lent n.granule))
   pub inside : is_hosts (call_of command) ≡ false → entered place ≡ true
 
 -- the call returned before each kept call that may change the granule was made
@@ -141,14 +231,13 @@ IsBackBefore events numbers cpu number granule = (place other other_number : ℕ
 -- RECs that were entered.
 abbrev pub IsLeftCall : List Event → (ℕ → Option ℕ) → (ℕ → Bool) → ℕ → ℕ → ℕ → Command → Type 0
 IsLeftCall events numbers entered place cpu number command =
-    (is_looking command ≡ true)
-    ⊎ (((returned : ℕ) × (given : Reply) × IsReturned events returned cpu number given × (is_accepted given ≡ false))
-    ⊎ (((granule : ℕ) → may_change (call_of command) granule ≡ true → IsBackBefore events numbers cpu number granule) × (entered place ≡ false)))
+    ChangesNothing events cpu number command
+    ⊎ (((granule : ℕ) → may_change (call_of command) granule ≡ true → IsBackBefore events numbers cpu number granule) × (entered place ≡ false))
 
 -- whether the CPU is inside of a REC after a kept call, or another, by the call and its reply and whether it was before
 abbrev pub is_entered_by : Option ℕ → Call → Reply → Bool → Bool
-is_entered_by (Some kept) c (reply.Ok words) inside = is_inside_after c inside
-is_entered_by _ c given inside = inside
+is_entered_by (Some kept) c given inside = inside_after c given inside
+is_entered_by None c given inside = inside
 
 -- Which calls are made inside of a REC in the slice, by the places at which they are made: none of a CPU's first calls, and others as those
 -- before leave it.

@@ -2,7 +2,8 @@
 //! It promises that some verdict is right of any two texts and no two are, so `Judges` leaves a checker nothing to choose; of an order that is
 //! begun, where it leads nowhere and where it is a linearization (`begun`, line by line); for a search through a history's events, where a
 //! kept order leads nowhere, and which calls pass others (`apart`, `beside`, `ending`, `making`, `separate`); that no order is lost where each
-//! reading of a measurement extends one, nor in a slice (`slices`), and that a register's own calls are a run of it. The search stands on these.
+//! reading of a measurement extends one, nor in a slice (`slices`), that a CPU is where its replies say (`placing`), and that a register's own
+//! calls are a run of it. The search stands on these.
 #![tactic(auto)]
 
 mod apart;
@@ -11,6 +12,7 @@ mod beside;
 mod ending;
 mod exchanges;
 mod making;
+mod placing;
 mod registers;
 mod separate;
 mod slices;
@@ -38,6 +40,7 @@ pub use exchanges::{
     nowhere_in_either_order, nowhere_with_a_movable_call,
 };
 pub use making::{made_apart_exchange, made_apart_pass};
+pub use placing::{Standing, nowhere_out_of_place};
 pub use registers::{
     nowhere_without_possibilities, register_after_a_return, register_after_another_event,
     register_at_first, register_runs,

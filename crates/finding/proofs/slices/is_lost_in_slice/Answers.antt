@@ -4,12 +4,6 @@ use Rattle.finding.proofs.Finds.{HasNoneUpTo-nowhere}
 use Rattle.verdict_laws.specs.Parts.{first_part}
 use Rattle.finding.proofs.slices.is_lost_in_slice.Goals as goal
 
-pub returns-then-branch : goal.returns-then-branch
-returns-then-branch g c = λ lost.
-    let history = c.args.history.now.recorded in
-    let count = c.args.place + 1 in
-    HasNoneUpTo-nowhere history (first_part count history) c.args.place count refl refl (c.in_ok-is_lost_at.ensures c.if-branch.true)
-
 pub returns : goal.returns
 returns g c = λ lost.
     let history = c.args.history.now.recorded in
