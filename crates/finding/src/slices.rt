@@ -12,7 +12,7 @@ use crate::survey::{Answer, answer_of};
 use crate::suspecting::{Suspect, first_unguessed};
 use crate::watch::Watch;
 use history::History;
-use slicing::{Depth, is_out_of_place, slice_of};
+use slicing::{Depth, is_denied, is_out_of_place, slice_of};
 use std::alloc::{AllocError, Global};
 
 /// What slices show where a guess fails.
@@ -69,8 +69,8 @@ fn is_lost_in_slice<W: Watch>(
     Ok(lost)
 }
 
-/// Whether the first events, so many, are shown to have no order: by where the last reply's CPU is, or by a slice, of what that reply shows, of what
-/// calls left unused before, or of all that was made before.
+/// Whether the first events, so many, are shown to have no order: by the last reply alone and where its CPU is, by what calls made before, or by a
+/// slice, of what that reply shows, of what calls left unused before, or of all that was made before.
 fn are_lost<W: Watch>(
     alloc: Global,
     offers: &mut Offers,
@@ -81,7 +81,7 @@ fn are_lost<W: Watch>(
 ) -> Result<bool, AllocError>
     ensures { IfOk result (λ lost. IsTrue lost → LeadsNowhere (first_part count history.now.recorded) []) }
 {
-    if is_out_of_place(history, count) {
+    if is_out_of_place(history, count) || is_denied(history, count) {
         return Ok(true);
     }
     if is_lost_at(alloc, offers, history, bounds, count, Depth::Shown, watch)? {

@@ -4,11 +4,16 @@ ghost use Rattle.std.specs.Prelude.{◌≤◌, length};
 
 use crate::calls::{command_at, reply_of};
 use crate::order::Placed;
+use command_rows::Sight;
 use history::History;
+use memory_map::{can_be_set, entry_number};
 use rmi_view::{CommandRef, ReplyRef};
-use rmm_spec::{Accepted, Reply};
+use rmm_spec::{Accepted, Reply, Stretch};
 use spec_machine::Machine;
 use std::alloc::{AllocError, Global};
+
+/// The entries of a table.
+const ENTRIES: u64 = 512;
 
 /// A call of an order, with the places of its events and of the event at which it was put in.
 #[derive(Clone, Copy)]
@@ -107,7 +112,7 @@ pub(crate) fn last_taken(
     Ok(last)
 }
 
-// Whether the machine may give the step its reply. How far a stretch reaches isn't looked at.
+// Whether the machine may give the step its reply.
 fn would_take(history: &History, machine: &Machine, step: Step) -> bool {
     let Some(command) = command_at(history, step.called as usize) else {
         return false;
@@ -118,8 +123,27 @@ fn would_take(history: &History, machine: &Machine, step: Step) -> bool {
     match machine.outcome(step.cpu, &command.to_command()) {
         Err(refusal) => reply.is(&refusal.reply()),
         Ok(Accepted::Done { words, .. }) => step.is_measured || reply.is(&Reply::Ok(words)),
-        Ok(Accepted::Reaches(_)) => matches!(reply, ReplyRef::Ok(_)),
+        Ok(Accepted::Reaches(stretch)) => may_reach(machine, &stretch, reply),
     }
+}
+
+// Whether each entry of the stretch may be set up to the end that is replied.
+fn may_reach(machine: &Machine, stretch: &Stretch, reply: ReplyRef<'_>) -> bool {
+    let ReplyRef::Ok([end]) = reply else {
+        return false;
+    };
+    let first = entry_number(stretch.level, stretch.base);
+    let last = entry_number(stretch.level, *end);
+    if last <= first || last - first > ENTRIES {
+        return false;
+    }
+    for number in first..last {
+        let entry = machine.entry_at(stretch.rd, stretch.level, number);
+        if !can_be_set(stretch.purpose, entry) {
+            return false;
+        }
+    }
+    true
 }
 
 /// Puts a step in before one of the steps.

@@ -7,3 +7,4 @@ mod UnusedLaws
 mod PlanLaws
 mod Cutting
 mod EventLaws
+mod FactLaws

@@ -9,7 +9,7 @@ use Rattle.verdict_laws.specs.Slices as slices
 use Rattle.slicing.specs.declared.call_at.Answer.{Answer}
 use Rattle.slicing.specs.declared.call_at.CallAt.{CallAt}
 use Rattle.slicing.specs.declared.plan.Plan.{Plan}
-use Rattle.slicing.specs.declared.unused.Done.{Done}
+use Rattle.slicing.specs.declared.done.Done.{Done}
 use Rattle.slicing.specs.Calls.{HasAnswer, IsCallAt}
 use Rattle.slicing.specs.Cuts.{AreEarly}
 use Rattle.slicing.specs.Plans.{number_at}

@@ -1,5 +1,5 @@
 -- What is looked at of a call.
-use Rattle.std.specs.Prelude.{◌≡◌, ℕ, ◌⊎◌, true, false, List, MatchOption, Option, Some, None, IfSome, take}
+use Rattle.std.specs.Prelude.{◌≡◌, ℕ, ◌+◌, ◌⊎◌, true, false, List, MatchOption, Option, Some, None, IfSome, take}
 use Rattle.rmi_view.specs.Seen.{reply_seen}
 use Rattle.rmm_spec.specs.declared.command.Command.{Command}
 use Rattle.rmm_spec.specs.declared.event.Event.{Event}
@@ -10,6 +10,7 @@ use Rattle.verdict_laws.specs.Looking.{is_looking_function}
 use Rattle.verdict_laws.specs.Slices.{shows_names}
 use Rattle.slicing.specs.declared.call_at.Answer.{Answer}
 use Rattle.slicing.specs.declared.call_at.CallAt.{CallAt}
+use Rattle.slicing.specs.declared.last_return.LastReturn.{LastReturn}
 
 -- the first events, so many
 abbrev pub events_to : ℕ → List Event → List Event
@@ -50,3 +51,12 @@ IsRefused c = (a : Answer) × (c.answer ≡ Some a) × (is_accepted (reply_seen 
 -- it only looks, or was refused
 abbrev pub ChangesNothing : CallAt → Type 0
 ChangesNothing c = (is_looking_function c.function ≡ true) ⊎ IsRefused c
+
+-- The return is the last of the first events, so many, and answers the call.
+pub record IsLastReturn (events : List Event) (count : ℕ) (last : LastReturn) : Type 0 where
+  pub command : Command
+  pub is_called : IsCalled events last.called last.cpu last.number command
+  pub call : last.call ≡ call_of command
+  pub returned : ℕ
+  pub is_returned : IsReturned (events_to count events) returned last.cpu last.number (reply_seen last.reply)
+  pub is_last : returned + 1 ≡ count

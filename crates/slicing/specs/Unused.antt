@@ -10,7 +10,7 @@ use Rattle.verdict_laws.specs.Slices as slices
 use Rattle.slicing.specs.declared.call_at.Answer.{Answer}
 use Rattle.slicing.specs.declared.call_at.CallAt.{CallAt}
 use Rattle.slicing.specs.declared.plan.Plan.{Plan}
-use Rattle.slicing.specs.declared.unused.Done.{Done}
+use Rattle.slicing.specs.declared.done.Done.{Done}
 use Rattle.slicing.specs.Cuts.{AreEarly}
 use Rattle.slicing.specs.Plans.{number_at}
 
@@ -46,7 +46,7 @@ abbrev pub BeginsBefore : Plan → Option ℕ → Type 0
 BeginsBefore plan None = plan.from ≡ 0
 BeginsBefore plan (Some last) = plan.first ≤ last
 
--- so of each place
+-- each call is such
 abbrev pub AreQuiet : List Event → Plan → ℕ → Option ℕ → Type 0
 AreQuiet events plan granule last = AreEarly events plan → (place : ℕ) → IsQuietAt events plan granule last place
 

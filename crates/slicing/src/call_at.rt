@@ -4,7 +4,9 @@ ghost use Rattle.std.specs.Prelude.{◌≡◌, ◌<◌, ◌≤◌, ℕ, length, 
 ghost use Rattle.history.specs.Calls.{ArePlacesOf};
 ghost use Rattle.rmm_spec.specs.declared.command.Command.{Command};
 ghost use Rattle.rmm_spec.specs.Linearization.{IsCalled};
+ghost use Rattle.rmi_view.specs.Seen.{reply_seen};
 ghost use Rattle.slicing.specs.Calls.{HasAnswer, IsCallAt, events_to};
+ghost use Rattle.verdict_laws.specs.Slices.{shows_names};
 
 use crate::kinds::is_looking;
 use crate::plan::AFTER_ALL;
@@ -51,11 +53,7 @@ impl<'a> CallAt<'a> {
         ensures { IsTrue result → ShowsNames self.now }
     {
         match &self.answer {
-            Some(answer) => match answer.reply {
-                ReplyRef::Ok(_) => true,
-                ReplyRef::Err(status, _) => status != 1,
-                ReplyRef::Misplaced => false,
-            },
+            Some(answer) => shows_names(answer.reply),
             None => true,
         }
     }
@@ -85,6 +83,17 @@ impl<'a> CallAt<'a> {
             Some(answer) => matches!(answer.reply, ReplyRef::Ok(_)),
             None => false,
         }
+    }
+}
+
+/// Whether a reply shows that each granule which the call names has the tag that is needed there.
+pub(crate) fn shows_names(reply: ReplyRef<'_>) -> bool
+    ensures { result ≡ shows_names (reply_seen reply.entry) }
+{
+    match reply {
+        ReplyRef::Ok(_) => true,
+        ReplyRef::Err(status, _) => status != 1,
+        ReplyRef::Misplaced => false,
     }
 }
 

@@ -1,5 +1,6 @@
 //! Slices of a history: the calls on which one of its returns depends.
-//! It promises that the events up to the return have no order where the slice has none, nor where its reply isn't given where its CPU is.
+//! It promises that the events up to the return have no order where the slice has none, nor where its reply isn't given where its CPU is
+//! (`placing`), nor where it denies what earlier calls made (`denied`).
 //! Which calls are kept is chosen without a promise, backwards from the return (`keeping`), and then checked call by call (`cut`).
 //! Where a granule's first kept call needs it unused, or calls that aren't kept left it so (`unused`), what was done with it before is left out.
 //! The search for an order looks at slices first, so that it needn't go through all that came before.
@@ -7,21 +8,30 @@
 
 mod call_at;
 mod cut;
+mod denied;
+mod denying;
+mod done;
 mod early;
+mod ending;
 mod entered;
 mod given_back;
 mod keeping;
 mod kinds;
+mod last_return;
 mod links;
+mod making;
 mod needing;
 mod numbering;
 mod placing;
 mod plan;
+mod replying;
 mod slice;
 mod sources;
+mod supposing;
 mod unused;
 mod window;
 
+pub use denied::is_denied;
 pub use given_back::freed;
 pub use history::History;
 pub use keeping::Depth;

@@ -1,46 +1,34 @@
-//! Whether a reply is given where its CPU is, inside of a REC or outside: the replies to the CPU's calls before say it.
+//! Whether a reply is given where its CPU is, inside of a REC or outside: the replies to the CPU's calls before say it. So does what the reply says.
 
-ghost use Rattle.std.specs.Prelude.{◌≡◌, [], false, IfSome, IsTrue};
+ghost use Rattle.std.specs.Prelude.{◌≡◌, [], IfSome, IsTrue};
 ghost use Rattle.rmi_view.specs.Callers.{class_from};
+ghost use Rattle.rmi_view.specs.Seen.{reply_seen};
 ghost use Rattle.verdict_laws.specs.Order.{LeadsNowhere};
 ghost use Rattle.verdict_laws.specs.Parts.{first_part};
 ghost use Rattle.verdict_laws.specs.Placing as laws;
 ghost use Rattle.verdict_laws.specs.Placing.{Leaves, StandsBefore};
 
+use crate::last_return::last_return;
+use crate::replying::may_answer;
 use command_words::{Caller, caller_of};
 use history::History;
 use rmi_view::ReplyRef;
-use rmm_spec::{Call, Event, Reply};
+use rmm_spec::Call;
 use verdict_laws::{Standing, nowhere_out_of_place};
 
 /// Whether the last of the first events, so many, is a return whose reply isn't given where its CPU is.
 pub fn is_out_of_place(history: &History, count: u32) -> bool
     ensures { IsTrue result → LeadsNowhere (first_part count history.now.recorded) [] }
 {
-    match last_fits_place(history, count) {
-        Some(fits) => !fits,
-        None => false,
-    }
-}
-
-/// Whether its reply may be given there. None where it isn't a return.
-fn last_fits_place(history: &History, count: u32) -> Option<bool>
-    ensures { IfSome result (λ fits. fits ≡ false → LeadsNowhere (first_part count history.now.recorded) []) }
-{
     let _fact = history.well_formed();
     let _law = nowhere_out_of_place();
-    let last = count.checked_sub(1)?;
-    if last as usize >= history.len() {
-        return None;
-    }
-    let Event::Returned { cpu, number, reply } = history.event(last as usize) else {
-        return None;
+    let Some(last) = last_return(history, count) else {
+        return false;
     };
-    let places = history.places_of(cpu, number)?;
-    let command = history.command_at(places.called as usize)?;
-    let standing = standing_before(history, cpu, number)?;
-    let caller = caller_of(&command.call());
-    Some(may_be_replied(caller, standing, &reply))
+    match standing_before(history, last.cpu, last.number) {
+        Some(standing) => !may_be_replied(&last.call, standing, last.reply),
+        None => false,
+    }
 }
 
 /// Where the CPU makes the call of that number. None where one of its calls before didn't return.
@@ -82,18 +70,15 @@ fn stands_after(call: &Call, before: Standing) -> Standing
     }
 }
 
-/// Whether a reply may be given where the CPU is: a call is misplaced just where it isn't given, and what isn't a host's is refused for its words
-/// alone.
-fn may_be_replied(caller: Caller, standing: Standing, reply: &Reply) -> bool
-    ensures { result ≡ laws.may_be_replied (class_from caller) standing reply.now }
+/// Whether a reply may be given where the CPU is: a call is misplaced just where it isn't given, and else it is replied what such a call is in some
+/// state.
+fn may_be_replied(call: &Call, standing: Standing, reply: ReplyRef<'_>) -> bool
+    ensures { result ≡ laws.may_be_replied call.now standing (reply_seen reply.entry) }
 {
-    let is_given = is_given(caller, standing);
+    let is_given = is_given(caller_of(call), standing);
     match reply {
-        Reply::Misplaced => !is_given,
-        Reply::Ok(_) => is_given,
-        Reply::Err(status, index) => {
-            is_given && (matches!(caller, Caller::Host) || *status == 1 && *index == 0)
-        }
+        ReplyRef::Misplaced => !is_given,
+        given => is_given && may_answer(call, given),
     }
 }
 

@@ -1,28 +1,18 @@
 //! Granules that a kept call finds unused, since calls that aren't kept left them so.
 
-ghost use Rattle.std.specs.Prelude.{◌<◌, ◌≤◌, ℕ, length, IfSome, IsTrue};
+ghost use Rattle.std.specs.Prelude.{◌<◌, ◌≤◌, ℕ, length, IsTrue};
 ghost use Rattle.verdict_laws.specs.Slices as laws;
 ghost use Rattle.slicing.specs.Calls.{events_to};
 ghost use Rattle.slicing.specs.Cuts.{AreEarly, IsUnusedTo};
 ghost use Rattle.slicing.specs.Plans.{number_at};
-ghost use Rattle.slicing.specs.Unused.{AreQuiet, BeginsBefore, IsAloneAt, IsDone, IsNoLaterThan, IsQuietAt, ReturnedBefore};
+ghost use Rattle.slicing.specs.Unused.{AreQuiet, BeginsBefore, IsAloneAt, IsQuietAt};
 
 use crate::call_at::{CallAt, call_at};
+use crate::done::{Done, done_before, is_no_later, returned_before};
 use crate::given_back::{is_of_ended, leaves_unused, makes_part};
 use crate::kinds::changes;
 use crate::plan::{Plan, Unused};
 use history::History;
-use rmi_view::ReplyRef;
-use rmm_spec::Call;
-
-/// A call that was carried out.
-#[derive(Clone, Copy)]
-struct Done<'a> {
-    call: Call,
-    reply: ReplyRef<'a>,
-    /// The place of its return.
-    returned: u32,
-}
 
 /// Whether the granule is unused where the call is made, as the plan says and has it, unless a kept call has changed it.
 pub(crate) fn is_unused(
@@ -96,26 +86,6 @@ fn is_part_back(
         && are_alone(history, count, plan, maker, ender, &ended)
 }
 
-/// The call that is made at one place, where it was carried out and returned before another.
-fn done_before(history: &History, count: u32, called: u32, place: u32) -> Option<Done<'_>>
-    requires { count ≤ length history.now.recorded.events }
-    ensures { IfSome result (IsDone (events_to count history.now.recorded.events) called place) }
-{
-    if called >= count {
-        return None;
-    }
-    let call = call_at(history, count, called)?;
-    let answer = call.answer?;
-    if !call.is_done() || answer.place >= place {
-        return None;
-    }
-    Some(Done {
-        call: call.call,
-        reply: answer.reply,
-        returned: answer.place,
-    })
-}
-
 // ---- other calls
 
 /// Whether each call that isn't kept, and may change the granule, changes nothing or is no later than the last.
@@ -166,16 +136,6 @@ fn is_quiet(
     call.changes_nothing() || !changes(&call.call, granule) || is_no_later(&call, last)
 }
 
-/// Whether the call is the last itself, or returned before that was made.
-fn is_no_later(call: &CallAt<'_>, last: Option<u32>) -> bool
-    ensures { IsTrue result → IsNoLaterThan call.now last }
-{
-    match last {
-        Some(last) => call.place == last || returned_before(call, last),
-        None => false,
-    }
-}
-
 /// Whether no call makes or ends what the maker made, from there up to its end, but these two.
 fn are_alone(
     history: &History,
@@ -222,14 +182,4 @@ fn is_alone(
         || place == ender
         || returned_before(&call, maker)
         || ended.returned < place
-}
-
-/// Whether the call returned before a place.
-fn returned_before(call: &CallAt<'_>, place: u32) -> bool
-    ensures { IsTrue result → ReturnedBefore call.now place }
-{
-    match &call.answer {
-        Some(answer) => answer.place < place,
-        None => false,
-    }
 }

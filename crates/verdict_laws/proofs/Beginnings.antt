@@ -1,5 +1,5 @@
 -- The shortest beginning of lines that has each call which returned in the first events, and names no call that was made later.
-use Rattle.std.proofs.Common.{◌≡◌, ℕ, zero, suc, ◌<◌, ◌≤◌, ◌⊎◌, eqb, List, [], ◌∷◌, ◌++◌, inl, inr, take, Some, refl, ◌∙◌, ap, arith}
+use Rattle.std.proofs.Common.{◌≡◌, ℕ, zero, suc, ◌<◌, ◌≤◌, ◌⊎◌, eqb, List, [], ◌∷◌, ◌++◌, inl, inr, Some, refl, ◌∙◌, ap, arith}
 use Rattle.std.specs.List.{slice_get}
 use Rattle.std.proofs.lemmas.Bool.{eqb-true, eq-eqb, cases_Bool, cases_lt}
 use Rattle.std.proofs.lemmas.Option.{none-some}
@@ -14,6 +14,7 @@ use Rattle.rmm_spec.specs.HistoryText.{History, IsHistory}
 use Rattle.rmm_spec.specs.Linearization.{IsCalled, IsReturned, IsFinished, NamesCall, cpu_named, number_named}
 use Rattle.verdict_laws.proofs.CallOrder.{call_before_return}
 use Rattle.verdict_laws.proofs.Moves.{Each, Pairs, Each-at}
+use Rattle.verdict_laws.proofs.OneFault.{slice_get-front}
 use Rattle.verdict_laws.proofs.Settled.{Apart}
 use Rattle.verdict_laws.specs.Parts.{first_part}
 use Rattle.verdict_laws.proofs.Steps.{apart_places}
@@ -51,13 +52,6 @@ finished_or (Returned c n told ∷ events) cpu number = elim (finished_or events
     behind pending apart zero given is = apart (let of_cpu : c ≡ cpu = cc in of_cpu, let numbered : n ≡ number = cc in numbered)
     behind pending apart (suc place) given is = pending (place, given, is)
 
--- an element of the front is one of the list
-slice_get-in_take : {X : Type 0} (n : ℕ) (xs : List X) (i : ℕ) (x : X) → i < n → slice_get xs i ≡ Some x → slice_get (take n xs) i ≡ Some x
-slice_get-in_take zero xs i x within is = absurd (omega (arith, within))
-slice_get-in_take (suc n) [] i x within is = absurd (none-some x is)
-slice_get-in_take (suc n) (y ∷ xs) zero x within is = is
-slice_get-in_take (suc n) (y ∷ xs) (suc i) x within is = slice_get-in_take n xs i x (omega (arith, within)) is
-
 module _ (history : History) (is_history : IsHistory history) (count : ℕ) where
   abbrev pub Finished : Line → Type 0
   Finished line = IsFinished (first_part count history).events (cpu_named line) (number_named line)
@@ -81,7 +75,7 @@ module _ (history : History) (is_history : IsHistory history) (count : ℕ) wher
   made_before line returned known within before =
       let early = before known.0 known.1 known.2 in
       let call = Called (cpu_named line) (number_named line) known.1 in
-      (known.0, known.1, slice_get-in_take count history.events known.0 call (omega (arith, early, within)) known.2)
+      (known.0, known.1, slice_get-front count history.events known.0 call (omega (arith, early, within)) known.2)
 
   -- a return in the first events is one of the history, and within
   return_within : (cpu number : ℕ) (finished : IsFinished (first_part count history).events cpu number)

@@ -82,7 +82,7 @@ lent_where : (test lends : Bool) (tag : Tag) → (test && lends) ≡ true → (t
 lent_where test lends tag is lent = let both = and_parts test lends is in lent both.0 ∙ ap unused_tag (sym both.1)
 
 -- what a call that is carried out leaves unused is so
-leaves_done : (s : State) (cpu : ℕ) (c : Call) (given : Reply) (new : State) (g : ℕ) (lends : Bool) → leaves_unused c given g lends ≡ true
+pub leaves_done : (s : State) (cpu : ℕ) (c : Call) (given : Reply) (new : State) (g : ℕ) (lends : Bool) → leaves_unused c given g lends ≡ true
     → CarriesOut (Ok (behind s cpu c).1) s given new → new.tag g ≡ unused_tag lends
 unfolding behind leaves_unused is_freed changed
 leaves_done s cpu (call.GranuleDelegate granule) given new g lends is done =

@@ -74,4 +74,14 @@ pub mod SliceUnused
 pub mod SliceFits
 pub mod SliceLendings
 pub mod SliceOrders
+pub mod Replies
+pub mod AlongOrders
 pub mod Placed
+pub mod FactSteps
+pub mod RealmFacts
+pub mod TableFacts
+pub mod TagFacts
+pub mod WideFacts
+pub mod EntryFacts
+pub mod FactKinds
+pub mod FactOrders

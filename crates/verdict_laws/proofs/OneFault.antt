@@ -67,8 +67,8 @@ not-FailsBy history one reason.Reply lines index line old last is before fails a
     index line before.entries old is before.run.claimed before.run.run fails.4
 not-FailsBy history one (reason.Missing cpu number) lines index line old last is before fails all = fails
 
--- an element of a longer front, and the shorter front of it
-slice_get-front : {X : Type 0} (n : ℕ) (xs : List X) (i : ℕ) (x : X) → i < n → slice_get xs i ≡ Some x → slice_get (take n xs) i ≡ Some x
+-- an element that isn't behind a front is one of the front
+pub slice_get-front : {X : Type 0} (n : ℕ) (xs : List X) (i : ℕ) (x : X) → i < n → slice_get xs i ≡ Some x → slice_get (take n xs) i ≡ Some x
 slice_get-front zero xs i x below is = absurd (omega (arith, below))
 slice_get-front (suc n) [] i x below is = absurd (none-some x is)
 slice_get-front (suc n) (y ∷ xs) zero x below is = is

@@ -1,9 +1,8 @@
 -- A CPU is where the replies to its calls before leave it, outside, inside of a REC, or in one that waits: so each of its calls is placed or not.
-use Rattle.std.proofs.Common.{◌≡◌, ℕ, suc, ◌*◌, ◌≤◌, ◌==◌, ◌&&◌, Bool, true, false, not, if◌then◌else◌, List, [], ◌∷◌, ◌++◌, inl, inr, Option, Some, None, IsTrue, take, refl, sym, ◌∙◌, ap, subst, arith, append_assoc, eq-eqb, eqb-true}
+use Rattle.std.proofs.Common.{◌≡◌, ℕ, suc, ◌*◌, ◌≤◌, ◌==◌, ◌&&◌, Bool, true, false, not, if◌then◌else◌, List, [], ◌∷◌, ◌++◌, inl, inr, Option, Some, None, IsTrue, take, refl, sym, ◌∙◌, ap, subst, arith, eq-eqb, eqb-true}
 use Rattle.std.specs.Prelude.{Result, Ok, Err, is_none, unwrap_or}
-use Rattle.std.specs.List.{list_any, slice_get}
-use Rattle.std.proofs.lemmas.Bool.{and_parts, cases_Bool, false_from_ne_true, not-false, or_parts, or_right, true_from_ne_false}
-use Rattle.std.proofs.lemmas.List.{append-nil}
+use Rattle.std.specs.List.{slice_get}
+use Rattle.std.proofs.lemmas.Bool.{and_from, and_parts, cases_Bool, false_from_ne_true, true_from_ne_false}
 use Rattle.rmm_spec.specs.declared.accepted.Accepted.{Accepted}
 use Rattle.rmm_spec.specs.declared.accepted.Accepted.TheVariants as accepted
 use Rattle.rmm_spec.specs.declared.call.Call.{Call}
@@ -18,22 +17,21 @@ use Rattle.rmm_spec.specs.declared.command.Command.{Command}
 use Rattle.rmm_spec.specs.declared.event.Event.{Event}
 use Rattle.rmm_spec.specs.declared.line.Line.{Line}
 use Rattle.rmm_spec.specs.declared.refusal.Refusal.{Refusal}
-use Rattle.rmm_spec.specs.declared.refusal.Refusal.TheVariants.{Misplaced, Input, Realm, Rec, Rtt}
+use Rattle.rmm_spec.specs.declared.refusal.Refusal.TheVariants.{Misplaced}
 use Rattle.rmm_spec.specs.declared.reply.Reply.{Reply}
+use Rattle.rmm_spec.specs.declared.reply.Reply.TheVariants as reply
 use Rattle.rmm_spec.specs.Applicable.{CanApply, CanChangeRec}
 use Rattle.rmm_spec.specs.Call.{Class, ByExit, ByHost, ByRealm, call_of, class_of}
 use Rattle.rmm_spec.specs.Change.{changed, new_rec, rec_updated, with_realm_change, with_rec_change, with_tag_change}
 use Rattle.rmm_spec.specs.HistoryText.{History, IsHistory}
 use Rattle.rmm_spec.specs.Lookup.{greatest_below, is_cpu, is_inside, no_rec, rec_at, rec_inside, runs_on}
-use Rattle.rmm_spec.specs.Rows.{Needed, Row, Word, decided, inputs, reply_of, tagged}
-use Rattle.rmm_spec.specs.Run.{IsRun, JournalEntry}
-use Rattle.rmm_spec.specs.Linearization.{AreEntriesOf, IsCalled, IsEntryOf, IsFinished, IsLinearization, IsNamed, IsReturned, cpu_named, number_named}
+use Rattle.rmm_spec.specs.Rows.{reply_of}
+use Rattle.rmm_spec.specs.Run.{JournalEntry}
+use Rattle.rmm_spec.specs.Linearization.{IsCalled, IsFinished, IsReturned, cpu_named, number_named}
 use Rattle.rmm_spec.specs.Sound.{IsSound}
 use Rattle.rmm_spec.specs.State.{Pending, RecRecord, State, opening}
 use Rattle.rmm_spec.specs.Step.{CarriesOut, Step, answer_of, is_placed, misplacement, outcome}
-use Rattle.rmm_spec.specs.Step.Front.{with_front}
 use Rattle.rmm_spec.specs.Step.Ripas.{reached_change}
-use Rattle.rmm_spec.specs.Step.Terms.{named, words_of}
 use Rattle.rmm_spec.specs.Update.{with_rec}
 use Rattle.lemmas.proofs.Elements.{slice_get-take}
 use Rattle.lemmas.proofs.Tests.{both_ways, keys_apart}
@@ -47,98 +45,25 @@ use Rattle.rmm_laws.proofs.Changes.{changed_sound}
 use Rattle.rmm_laws.proofs.Commands.{accepted_applies, whole_command}
 use Rattle.rmm_laws.proofs.Keeps.{realm_change-rest, tag_change-rest, with_records}
 use Rattle.rmm_laws.proofs.RowLaws.{outcome-leads}
-use Rattle.rmm_laws.proofs.Runs.{opened_run_sound}
+use Rattle.rmm_laws.proofs.Runs.{step_sound}
 use Rattle.rmm_laws.proofs.Searches.{inside_runs, none_runs}
 use Rattle.rmm_laws.proofs.StepLaws.{step-keeps}
-use Rattle.verdict_laws.specs.Order.{IsNext, LeadsNowhere, Reaches, count_of}
+use Rattle.verdict_laws.specs.Order.{LeadsNowhere, count_of}
 use Rattle.verdict_laws.specs.Parts.{first_part}
 use Rattle.verdict_laws.specs.Placing.{StandsBefore, is_given, left_standing, may_be_replied, stands_after}
-use Rattle.verdict_laws.specs.Slices.{is_by_host}
+use Rattle.verdict_laws.specs.Replying.{may_answer}
 use Rattle.verdict_laws.specs.declared.placing.Standing.{Standing}
 use Rattle.verdict_laws.specs.declared.placing.Standing.TheVariants.{Outside, Running, Waiting}
+use Rattle.verdict_laws.proofs.AlongOrders.{LeadsOn, nowhere-along}
 use Rattle.verdict_laws.proofs.CallOrder.{finished_below}
-use Rattle.verdict_laws.proofs.Counts.{count_of-other, count_of-same}
+use Rattle.verdict_laws.proofs.Counts.{count_of-nil, count_of-other, count_of-same}
 use Rattle.verdict_laws.proofs.Entered.{placed_accepted}
-use Rattle.verdict_laws.proofs.Growth.{Reaches-nil}
-use Rattle.verdict_laws.proofs.Reached.{IsNext-linear, Reaches-linear}
 use Rattle.verdict_laws.proofs.RegisterRuns.{claimed_return}
+use Rattle.verdict_laws.proofs.Replies.{may_answer-placed}
 use Rattle.verdict_laws.proofs.SliceLines.{Claim, Names, of_named}
 use Rattle.verdict_laws.proofs.SliceOwners.{rec_replaced, replaced_can}
 use Rattle.verdict_laws.proofs.Spared.{runs_on-read}
 use Rattle.verdict_laws.proofs.SparedCalls.{idle_elsewhere, none_waiting}
-
--- ---- replies
-
--- whether a placed call of the class isn't refused so: what isn't a host's is refused for its words alone
-abbrev is_odd : Class → Refusal → Bool
-is_odd class (Misplaced condition) = true
-is_odd class (Input condition) = false
-is_odd class (Realm condition index) = not (is_by_host class)
-is_odd class (Rec condition) = not (is_by_host class)
-is_odd class (Rtt condition level) = not (is_by_host class)
-
--- whether the refusal of one of the rows is such
-abbrev are_odd : Class → List Row → Bool
-are_odd class rows = list_any (λ (r : Row). is_odd class r.otherwise) rows
-
--- what a call leads to isn't such a refusal
-abbrev IsAnswered : Class → Result Accepted Refusal → Type 0
-IsAnswered class (Ok found) = Unit {0}
-IsAnswered class (Err refused) = is_odd class refused ≡ false
-
--- so it is with what rows lead to of which none has one
-IsAnswered-decided : (class : Class) (rows : List Row) (found : Accepted) → are_odd class rows ≡ false → IsAnswered class (decided rows found)
-IsAnswered-decided class [] found none = tt
-IsAnswered-decided class (row ∷ rows) found none =
-    let parts = or_parts (is_odd class row.otherwise) (are_odd class rows) none in
-    by row.holds parts.0 (IsAnswered-decided class rows found parts.1)
-  where
-    by : (b : Bool) → is_odd class row.otherwise ≡ false → IsAnswered class (decided rows found)
-        → IsAnswered class (if b then decided rows found else Err row.otherwise)
-    by true here later = later
-    by false here later = here
-
--- no row on words has one
-are_odd-inputs : (class : Class) (words : List Word) (rows : List Row) → are_odd class (inputs words rows) ≡ are_odd class rows
-are_odd-inputs class [] rows = refl
-are_odd-inputs class (word ∷ words) rows = are_odd-inputs class words rows
-
--- nor one on tags
-are_odd-tagged : (class : Class) (s : State) (names : List Needed) (rows : List Row) → are_odd class (tagged s names rows) ≡ are_odd class rows
-are_odd-tagged class s [] rows = refl
-are_odd-tagged class s (name ∷ names) rows = are_odd-tagged class s names rows
-
--- nor one behind these, whatever the call is
-are_odd-behind : (s : State) (cpu : ℕ) (c : Call) → are_odd (class_of c) (behind s cpu c).0 ≡ false
-unfolding behind class_of
-are_odd-behind s cpu (call.GranuleDelegate granule) = refl
-are_odd-behind s cpu _ = refl
-
--- so what a placed call leads to is none
-IsAnswered-answer_of : (s : State) (cpu : ℕ) (c : Call) → IsAnswered (class_of c) (answer_of s cpu c)
-IsAnswered-answer_of s cpu c =
-    let class = class_of c in
-    let rest = behind s cpu c in
-    subst (IsAnswered class) (sym rest.2) (IsAnswered-decided class (with_front s c rest.0) rest.1
-    (are_odd-inputs class (words_of c) (tagged s (named c) rest.0) ∙ are_odd-tagged class s (named c) rest.0 ∙ are_odd-behind s cpu c))
-
-module _ (class : Class) (standing : Standing) (given_there : is_given class standing ≡ true) where
-  -- where calls of the class are given, such a refusal may be replied
-  replied-refusal : (refused : Refusal) → is_odd class refused ≡ false → may_be_replied class standing (reply_of refused) ≡ true
-  replied-refusal (Misplaced condition) odd = both_ways refl odd
-  replied-refusal (Input condition) odd = rw given_there (or_right (is_by_host class) true refl)
-  replied-refusal (Realm condition index) odd = rw (given_there, not-false (is_by_host class) odd) refl
-  replied-refusal (Rec condition) odd = rw (given_there, not-false (is_by_host class) odd) refl
-  replied-refusal (Rtt condition level) odd = rw (given_there, not-false (is_by_host class) odd) refl
-
-  -- and so may what is carried out
-  replied-carried : (found : Result Accepted Refusal) (old : State) (given : Reply) (new : State) → IsAnswered class found
-      → CarriesOut found old given new → may_be_replied class standing given ≡ true
-  replied-carried (Err refused) old given new answered carried = ap (may_be_replied class standing) carried.0 ∙ replied-refusal refused answered
-  replied-carried (Ok (accepted.Done words change)) old given new answered carried =
-      ap (may_be_replied class standing) carried.0 ∙ given_there
-  replied-carried (Ok (accepted.Reaches stretch)) old given new answered carried =
-      ap (may_be_replied class standing) carried.1.1 ∙ given_there
 
 -- ---- where a CPU is
 
@@ -198,22 +123,29 @@ is_placed-given s cpu class sound =
     placed ByHost = refl
     placed _ = refl
 
+-- where calls of its class are given, a call may be replied what such a call is in some state
+may_be_replied-given : (c : Call) (standing : Standing) (given : Reply) → is_given (class_of c) standing ≡ true → may_answer c given ≡ true
+    → may_be_replied c standing given ≡ true
+may_be_replied-given c standing reply.Misplaced there so = both_ways so refl
+may_be_replied-given c standing (reply.Ok words) there so = and_from _ _ there so
+may_be_replied-given c standing (reply.Err status index) there so = and_from _ _ there so
+
 -- so a step's reply may be given there
 may_be_replied-step : (s : State) (cpu : ℕ) (command : Command) (given : Reply) (new : State) → IsSound s → Step s cpu command given new
-    → may_be_replied (class_of (call_of command)) (standing_of s cpu) given ≡ true
+    → may_be_replied (call_of command) (standing_of s cpu) given ≡ true
 unfolding outcome
-may_be_replied-step s cpu command given new sound = by (is_placed s cpu class) (is_placed-given s cpu class sound)
+may_be_replied-step s cpu command given new sound step = by (is_placed s cpu class) (is_placed-given s cpu class sound) step
   where
     class : Class
     class = class_of (call_of command)
 
     by : (b : Bool) → b ≡ is_given class (standing_of s cpu)
         → CarriesOut (if b then answer_of s cpu (call_of command) else Err (Misplaced (misplacement (is_inside s cpu) class))) s given new
-        → may_be_replied class (standing_of s cpu) given ≡ true
+        → may_be_replied (call_of command) (standing_of s cpu) given ≡ true
     by true is carried =
-        let found = answer_of s cpu (call_of command) in
-        replied-carried class (standing_of s cpu) (sym is) found s given new (IsAnswered-answer_of s cpu (call_of command)) carried
-    by false is carried = ap (may_be_replied class (standing_of s cpu)) carried.0 ∙ ap not (sym is)
+        may_be_replied-given (call_of command) (standing_of s cpu) given (sym is)
+        (may_answer-placed s cpu (call_of command) given new (step_sound s cpu command given new sound step) carried)
+    by false is carried = ap (may_be_replied (call_of command) (standing_of s cpu)) carried.0 ∙ ap not (sym is)
 
 -- ---- behind a change
 
@@ -428,7 +360,7 @@ module _ (s new : State) (cpu : ℕ) (command : Command) (given : Reply) (sound 
 module _ (history : History) (count cpu number called returned : ℕ) (command : Command) (given : Reply) (standing : Standing)
     (is_history : IsHistory history) (is_called : IsCalled history.events called cpu number command)
     (is_returned : IsReturned (take count history.events) returned cpu number given) (stands : StandsBefore history.events cpu number standing)
-    (unplaced : may_be_replied (class_of (call_of command)) standing given ≡ false) where
+    (unplaced : may_be_replied (call_of command) standing given ≡ false) where
   -- the first events
   abbrev part : History
   part = first_part count history
@@ -445,95 +377,74 @@ module _ (history : History) (count cpu number called returned : ℕ) (command :
   abbrev IsWhere : ℕ → State → Type 0
   IsWhere first s = (at : Standing) → StandsBefore history.events cpu first at → standing_of s cpu ≡ at
 
+  -- behind lines up to the call's it is there
+  abbrev IsBefore : List Line → State → Type 0
+  IsBefore lines s = count_of cpu lines ≤ number → IsWhere (count_of cpu lines) s
+
   -- in the opening it is outside
   IsWhere-opening : IsWhere 0 (opening history.config)
   unfolding opening
   IsWhere-opening at is = sym is
 
   -- lines of an order have led to the state, and the next one comes
-  module _ (lines : List Line) (line : Line) (e : JournalEntry) (s new : State) (next : IsNext part.events lines line)
-      (is_entry : IsEntryOf part.events line e) (sound : IsSound s) (step : Step s e.cpu e.command e.given new)
-      (is : IsWhere (count_of cpu lines) s) (below : count_of cpu lines ≤ number) where
-    -- a line of the CPU claims the command and the reply of its next call
-    claims : (made back : ℕ) (asked : Command) (answered : Reply) → cpu_named line ≡ cpu
+  module _ (lines : List Line) (s new : State) (c : Claim part.events) (leads : LeadsOn part lines s c new) where
+    -- what it claims
+    abbrev e : JournalEntry
+    e = c.entry
+
+    -- a line of the CPU, up to the call's, claims the command and the reply of its next call
+    claims : (made back : ℕ) (asked : Command) (answered : Reply) → cpu_named c.line ≡ cpu → count_of cpu lines ≤ number
         → IsCalled history.events made cpu (count_of cpu lines) asked → IsReturned history.events back cpu (count_of cpu lines) answered
         → (e.command ≡ asked) × (e.given ≡ answered)
-    claims made back asked answered same is_made is_back =
+    claims made back asked answered same below is_made is_back =
         let one = HasOnePlaces-from_history history is_history in
         let first = count_of cpu lines in
-        let c : Claim part.events = record { line = line; entry = e; kind = next.kind; is_entry = is_entry } in
-        let names : Names cpu first c = (same, next.numbered ∙ ap (λ (k : ℕ). count_of k lines) same) in
+        let names : Names cpu first c = (same, leads.next.numbered ∙ ap (λ (k : ℕ). count_of k lines) same) in
         let finished = finished_below part is_part cpu first number below (returned, given, is_returned) in
-        let told = claimed_return part.events line e.given next.kind (of_named (IsFinished part.events) cpu first c names finished)
-        is_entry.given in (
-          same_command history.events one is_entry.called made (cpu_named line) (number_named line) e.command asked
-              (within is_entry.called _ is_entry.is_called) (of_named (λ x y. IsCalled history.events made x y asked) cpu first c names is_made),
-          same_given history.events one told.0 back (cpu_named line) (number_named line) e.given answered (within told.0 _ told.1)
+        let told = claimed_return part.events c.line e.given c.kind (of_named (IsFinished part.events) cpu first c names finished)
+        c.is_entry.given in (
+          same_command history.events one c.is_entry.called made (cpu_named c.line) (number_named c.line) e.command asked
+              (within c.is_entry.called _ c.is_entry.is_called) (of_named (λ x y. IsCalled history.events made x y asked) cpu first c names is_made),
+          same_given history.events one told.0 back (cpu_named c.line) (number_named c.line) e.given answered (within told.0 _ told.1)
               (of_named (λ x y. IsReturned history.events back x y answered) cpu first c names is_back),
         )
 
     -- behind it the CPU is where that reply leaves it
-    IsWhere-own : cpu_named line ≡ cpu → IsWhere (suc (count_of cpu lines)) new
-    IsWhere-own same at (before, was, leaves) =
-        let told = claims leaves.called leaves.returned leaves.command leaves.given same leaves.is_called leaves.is_returned in
-        step-standing s new e.cpu e.command e.given sound step cpu true (eq-eqb e.cpu cpu (is_entry.cpu ∙ same))
+    IsWhere-own : cpu_named c.line ≡ cpu → count_of cpu lines ≤ number → IsWhere (count_of cpu lines) s → IsWhere (suc (count_of cpu lines)) new
+    IsWhere-own same below is at (before, was, leaves) =
+        let told = claims leaves.called leaves.returned leaves.command leaves.given same below leaves.is_called leaves.is_returned in
+        step-standing s new e.cpu e.command e.given leads.sound leads.step cpu true (eq-eqb e.cpu cpu (c.is_entry.cpu ∙ same))
         ∙ (λ i. left_standing (call_of (told.0 i)) (told.1 i) (is before was i)) ∙ leaves.is_left
 
     -- and behind a line of another CPU where it was
-    IsWhere-push : IsWhere (count_of cpu (lines ++ line ∷ [])) new
-    IsWhere-push = elim (cases_Bool (cpu_named line == cpu)) [
+    IsWhere-push : IsBefore lines s → IsBefore (lines ++ c.line ∷ []) new
+    IsWhere-push is below = elim (cases_Bool (cpu_named c.line == cpu)) [
       | inl same ↦
-          let of_cpu = eqb-true (cpu_named line) cpu same in
-          let more = count_of-same cpu lines line of_cpu in
-          let counted : suc (count_of cpu lines) ≡ count_of cpu (lines ++ line ∷ []) = omega (arith, more) in
-          subst (λ (n : ℕ). IsWhere n new) counted (IsWhere-own of_cpu)
+          let of_cpu = eqb-true (cpu_named c.line) cpu same in
+          let more = count_of-same cpu lines c.line of_cpu in
+          let counted : suc (count_of cpu lines) ≡ count_of cpu (lines ++ c.line ∷ []) = omega (arith, more) in
+          let still : count_of cpu lines ≤ number = omega (arith, more, below) in
+          subst (λ (n : ℕ). IsWhere n new) counted (IsWhere-own of_cpu still (is still))
       | inr other ↦
-          subst (λ (n : ℕ). IsWhere n new) (sym (count_of-other cpu lines line other)) (λ at was.
-          step-standing s new e.cpu e.command e.given sound step cpu false (ap (λ (k : ℕ). k == cpu) is_entry.cpu ∙ other) ∙ is at was)
+          let counted = count_of-other cpu lines c.line other in
+          subst (λ (n : ℕ). IsWhere n new) (sym counted) (λ at was.
+          step-standing s new e.cpu e.command e.given leads.sound leads.step cpu false (ap (λ (k : ℕ). k == cpu) c.is_entry.cpu ∙ other)
+          ∙ is (omega (arith, counted, below)) at was)
     ]
 
     -- the line isn't the call's: its reply would have to be given there
-    other_call : cpu_named line ≡ cpu → count_of cpu lines ≡ number → ⊥
-    other_call same counted =
-        let told = claims called returned command given same
+    other_call : IsBefore lines s → ¬ Names cpu number c
+    other_call is names =
+        let counted : count_of cpu lines ≡ number = sym (leads.next.numbered ∙ ap (λ (k : ℕ). count_of k lines) names.0) ∙ names.1 in
+        let below : count_of cpu lines ≤ number = omega (arith, counted) in
+        let told = claims called returned command given names.0 below
         (subst (λ (n : ℕ). IsCalled history.events called cpu n command) (sym counted) is_called)
         (subst (λ (n : ℕ). IsReturned history.events returned cpu n given) (sym counted) (within returned _ is_returned)) in
-        let here = is standing (subst (λ (n : ℕ). StandsBefore history.events cpu n standing) (sym counted) stands) in
-        both_ways (may_be_replied-step s e.cpu e.command e.given new sound step)
-        ((λ i. may_be_replied (class_of (call_of (told.0 i))) ((ap (standing_of s) (is_entry.cpu ∙ same) ∙ here) i) (told.1 i)) ∙ unplaced)
-
-    -- so the call still comes behind it
-    still_below : count_of cpu (lines ++ line ∷ []) ≤ number
-    still_below = elim (cases_Bool (cpu_named line == cpu)) [
-      | inl same ↦
-          let of_cpu = eqb-true (cpu_named line) cpu same in
-          let more = count_of-same cpu lines line of_cpu in
-          let differ = other_call of_cpu in
-          omega (arith, more, differ, below)
-      | inr other ↦ let still = count_of-other cpu lines line other in omega (arith, still, below)
-    ]
-
-  -- and never comes
-  never : (back lines : List Line) (entries : List JournalEntry) (s last : State) → IsLinearization part (lines ++ back) → Reaches part lines s
-      → IsWhere (count_of cpu lines) s → count_of cpu lines ≤ number → AreEntriesOf part.events back entries → IsRun s entries last → ⊥
-  never [] lines entries s last valid reached is below claimed run =
-      let named = valid.order.complete cpu number (returned, given, is_returned) in
-      let first = reached.named cpu number (subst (λ (ls : List Line). IsNamed ls cpu number) (append-nil lines) named) in
-      omega (arith, first, below)
-  never (line ∷ back) lines [] s last valid reached is below claimed run = absurd claimed
-  never (line ∷ back) lines (e ∷ entries) s last valid reached is below claimed run =
-      let order = subst (IsLinearization part) (sym (append_assoc lines (line ∷ []) back)) valid in
-      let next = IsNext-linear part is_part lines s reached line back order in
-      let sound = opened_run_sound history.config reached.passes.entries s reached.passes.run.run in
-      never back (lines ++ line ∷ []) entries run.0 last order (Reaches-linear part is_part lines s reached line back order e run.0 claimed.0 run.1)
-      (IsWhere-push lines line e s run.0 next claimed.0 sound run.1 is below)
-      (still_below lines line e s run.0 next claimed.0 sound run.1 is below) claimed.1 run.2
+        let here = is below standing (subst (λ (n : ℕ). StandsBefore history.events cpu n standing) (sym counted) stands) in
+        both_ways (may_be_replied-step s e.cpu e.command e.given new leads.sound leads.step)
+        ((λ i. may_be_replied (call_of (told.0 i)) ((ap (standing_of s) (c.is_entry.cpu ∙ names.0) ∙ here) i) (told.1 i)) ∙ unplaced)
 
   -- so the first events have no order
   pub nowhere-placed : LeadsNowhere part []
-  unfolding count_of
-  nowhere-placed = record {
-    none = λ lines valid.
-        never lines [] valid.entries (opening history.config) valid.last valid (Reaches-nil part) IsWhere-opening (omega arith)
-        valid.run.claimed valid.run.run;
-  }
+  nowhere-placed = nowhere-along part is_part cpu number (returned, given, is_returned) IsBefore other_call IsWhere-push
+      (λ _. subst (λ (n : ℕ). IsWhere n (opening history.config)) (sym (count_of-nil cpu)) IsWhere-opening)

@@ -10,4 +10,6 @@ pub mod Beside
 pub mod Making
 pub mod Ending
 pub mod Slices
+pub mod Replying
 pub mod Placing
+pub mod Facts

@@ -1,17 +1,17 @@
 -- Where a CPU makes a call, as the replies to its calls before say: with its host, or inside of a REC that runs or waits for the host. This project's
 -- own.
-use Rattle.std.specs.Prelude.{◌≡◌, ℕ, zero, suc, ◌==◌, ◌&&◌, ◌||◌, Bool, true, false, not, List}
+use Rattle.std.specs.Prelude.{◌≡◌, ℕ, zero, suc, ◌&&◌, Bool, true, false, not, List}
 use Rattle.rmm_spec.specs.declared.call.Call.{Call}
 use Rattle.rmm_spec.specs.declared.call.Call.TheVariants as call
 use Rattle.rmm_spec.specs.declared.command.Command.{Command}
 use Rattle.rmm_spec.specs.declared.event.Event.{Event}
 use Rattle.rmm_spec.specs.declared.reply.Reply.{Reply}
 use Rattle.rmm_spec.specs.declared.reply.Reply.TheVariants as reply
-use Rattle.rmm_spec.specs.Call.{Class, ByExit, ByHost, ByRealm, call_of}
+use Rattle.rmm_spec.specs.Call.{Class, ByExit, ByHost, ByRealm, call_of, class_of}
 use Rattle.rmm_spec.specs.Linearization.{IsCalled, IsReturned}
 use Rattle.verdict_laws.specs.declared.placing.Standing.{Standing}
 use Rattle.verdict_laws.specs.declared.placing.Standing.TheVariants.{Outside, Running, Waiting}
-use Rattle.verdict_laws.specs.Slices.{is_by_host}
+use Rattle.verdict_laws.specs.Replying.{may_answer}
 
 -- where the CPU is after a call that is carried out, by where it was
 unfoldable pub stands_after : Call → Standing → Standing
@@ -56,8 +56,7 @@ is_given ByExit Outside = false
 is_given ByExit Running = true
 is_given ByExit Waiting = true
 
--- whether a reply may be given there: just where the call isn't given it is misplaced, and what isn't a host's is refused for its words alone
-abbrev pub may_be_replied : Class → Standing → Reply → Bool
-may_be_replied class standing reply.Misplaced = not (is_given class standing)
-may_be_replied class standing (reply.Ok words) = is_given class standing
-may_be_replied class standing (reply.Err status index) = is_given class standing && (is_by_host class || (status == 1 && index == 0))
+-- whether a reply may be given there: just where the call isn't given it is misplaced, and else it is replied what such a call is in some state
+abbrev pub may_be_replied : Call → Standing → Reply → Bool
+may_be_replied c standing reply.Misplaced = not (is_given (class_of c) standing)
+may_be_replied c standing given = is_given (class_of c) standing && may_answer c given

@@ -2,7 +2,7 @@
 //! It promises that some verdict is right of any two texts and no two are, so `Judges` leaves a checker nothing to choose; of an order that is
 //! begun, where it leads nowhere and where it is a linearization (`begun`, line by line); for a search through a history's events, where a
 //! kept order leads nowhere, and which calls pass others (`apart`, `beside`, `ending`, `making`, `separate`); that no order is lost where each
-//! reading of a measurement extends one, nor in a slice (`slices`), that a CPU is where its replies say (`placing`), and that a register's own
+//! reading of a measurement extends one, nor in a slice (`slices`), nor where no state gives a reply (`placing`, `facts`); that a register's own
 //! calls are a run of it. The search stands on these.
 #![tactic(auto)]
 
@@ -11,6 +11,7 @@ mod begun;
 mod beside;
 mod ending;
 mod exchanges;
+mod facts;
 mod making;
 mod placing;
 mod registers;
@@ -39,6 +40,7 @@ pub use exchanges::{
     nowhere_after_each_open_call, nowhere_after_looks, nowhere_at_a_return, nowhere_in_a_group,
     nowhere_in_either_order, nowhere_with_a_movable_call,
 };
+pub use facts::{Fact, nowhere_denied};
 pub use making::{made_apart_exchange, made_apart_pass};
 pub use placing::{Standing, nowhere_out_of_place};
 pub use registers::{

@@ -1,9 +1,9 @@
-//! The law of where a CPU is: its own replies say it.
+//! The law of where a CPU is: its own replies say it. There it is replied what such calls are in some state.
 
 ghost use Rattle.std.specs.Prelude.{◌≡◌, ℕ, false, [], take};
 ghost use Rattle.rmm_spec.specs.declared.command.Command.{Command};
 ghost use Rattle.rmm_spec.specs.declared.reply.Reply.{Reply};
-ghost use Rattle.rmm_spec.specs.Call.{call_of, class_of};
+ghost use Rattle.rmm_spec.specs.Call.{call_of};
 ghost use Rattle.rmm_spec.specs.HistoryText.{History, IsHistory};
 ghost use Rattle.rmm_spec.specs.Linearization.{IsCalled, IsReturned};
 ghost use Rattle.verdict_laws.specs.Order.{LeadsNowhere};
@@ -26,5 +26,5 @@ pub fn nowhere_out_of_place()
     ensures { (history : History) (count cpu number called returned : ℕ) (command : Command) (given : Reply) (standing : Standing)
         → IsHistory history → IsCalled history.events called cpu number command
         → IsReturned (take count history.events) returned cpu number given → StandsBefore history.events cpu number standing
-        → may_be_replied (class_of (call_of command)) standing given ≡ false → LeadsNowhere (first_part count history) [] }
+        → may_be_replied (call_of command) standing given ≡ false → LeadsNowhere (first_part count history) [] }
 {}

@@ -1,7 +1,7 @@
 -- The call that is found was carried out.
 use Rattle.std.proofs.Common.{sym}
 use Rattle.slicing.proofs.UnusedLaws.{IsDone-from_call}
-use Rattle.slicing.proofs.unused.done_before.Goals as goal
+use Rattle.slicing.proofs.done.done_before.Goals as goal
 
 pub returns : goal.returns
 returns c =

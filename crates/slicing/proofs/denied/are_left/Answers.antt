@@ -1,0 +1,16 @@
+-- One place more is such, and past the last one nothing is called.
+use Rattle.std.proofs.Common.{arith, below_more, refl}
+use Rattle.std.proofs.lemmas.List.{length-take-le}
+use Rattle.std.proofs.lemmas.Option.{slice_get_within}
+use Rattle.slicing.specs.Calls.{events_to}
+use Rattle.slicing.proofs.denied.are_left.Goals as goal
+
+pub loop-at-preserved : goal.loop-at-preserved
+loop-at-preserved c = below_more _ _ c.loop-at.invariant (c.if-not-is_left_or_early.ensures refl)
+
+pub returns : goal.returns
+returns c is at cpu number command is_called =
+    let events = events_to c.args.count c.args.history.now.recorded.events in
+    let within = slice_get_within events at _ is_called in
+    let all = length-take-le c.args.count c.args.history.now.recorded.events c.requires in
+    c.loop-at.invariant at (omega (arith, within, all, c.loop-at-test.false)) cpu number command is_called

@@ -1,0 +1,8 @@
+-- The places before this one are such.
+use Rattle.std.proofs.Common.{ℕ, ◌<◌}
+use Rattle.slicing.specs.Calls.{events_to}
+use Rattle.slicing.specs.Facts.{IsLeftOrEarly}
+use Rattle.slicing.proofs.denied.are_left.Given as goal
+
+abbrev pub invariant-loop-at : goal.invariant-loop-at
+invariant-loop-at l = (at : ℕ) → at < l.at → IsLeftOrEarly l.fact (events_to l.count l.history.recorded.events) l.place l.maker at

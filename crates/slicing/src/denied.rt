@@ -1,0 +1,112 @@
+//! Whether a reply is denied by what calls made before: nothing else may have ended it since.
+
+ghost use Rattle.std.specs.Prelude.{◌<◌, ◌≤◌, ℕ, [], length, IfSome, IsTrue};
+ghost use Rattle.slicing.specs.Calls.{IsLastReturn, events_to};
+ghost use Rattle.slicing.specs.Facts.{IsLeftOrEarly, LeavesAt};
+ghost use Rattle.verdict_laws.specs.Facts as laws;
+ghost use Rattle.verdict_laws.specs.Order.{LeadsNowhere};
+ghost use Rattle.verdict_laws.specs.Parts.{first_part};
+
+use crate::call_at::{CallAt, call_at};
+use crate::denying::denies;
+use crate::done::{done_before, is_no_later};
+use crate::ending::is_left;
+use crate::last_return::{LastReturn, last_return};
+use crate::making::{begins, makes};
+use crate::supposing::{maker_before, supposed, supposed_entry, supposed_tag};
+use history::History;
+use verdict_laws::{Fact, nowhere_denied};
+
+/// Whether the last of the first events, so many, is a return whose reply denies what holds while its call may take effect.
+pub fn is_denied(history: &History, count: u32) -> bool
+    ensures { IsTrue result → LeadsNowhere (first_part count history.now.recorded) [] }
+{
+    let Some(last) = last_return(history, count) else {
+        return false;
+    };
+    is_denied_by(history, count, &last, supposed(history, count, &last))
+        || is_denied_by(history, count, &last, supposed_entry(&last))
+        || is_denied_by(history, count, &last, supposed_tag(history, count, &last))
+}
+
+/// Whether the reply denies the fact, where one is supposed, and this holds.
+fn is_denied_by(history: &History, count: u32, last: &LastReturn<'_>, fact: Option<Fact>) -> bool
+    requires { IsLastReturn history.now.recorded.events count last.now }
+    ensures { IsTrue result → LeadsNowhere (first_part count history.now.recorded) [] }
+{
+    let _fact = history.well_formed();
+    let _law = nowhere_denied();
+    let Some(fact) = fact else {
+        return false;
+    };
+    denies(fact, &last.call, last.reply) && is_held(history, count, last.called, fact)
+}
+
+/// Whether the fact holds while the call may take effect that is made at the place.
+fn is_held(history: &History, count: u32, place: u32, fact: Fact) -> bool
+    ensures { IsTrue result → laws.IsHeldAt fact (events_to count history.now.recorded.events) place }
+{
+    if count as usize > history.len() {
+        return false;
+    }
+    if begins(fact) && are_left(history, count, place, fact, None) {
+        return true;
+    }
+    match maker_before(history, count, place, fact) {
+        Some(maker) => is_made(history, count, place, fact, maker),
+        None => false,
+    }
+}
+
+/// Whether the call made at the maker's place makes it so, and none since may have ended it.
+fn is_made(history: &History, count: u32, place: u32, fact: Fact, maker: u32) -> bool
+    requires { count ≤ length history.now.recorded.events }
+    ensures { IsTrue result → laws.IsHeldAt fact (events_to count history.now.recorded.events) place }
+{
+    match done_before(history, count, maker, place) {
+        Some(done) => {
+            makes(fact, &done.call, done.reply)
+                && are_left(history, count, place, fact, Some(maker))
+        }
+        None => false,
+    }
+}
+
+/// Whether each call leaves the fact, or is no later than the one that makes it, but the one that is made at the place.
+fn are_left(history: &History, count: u32, place: u32, fact: Fact, maker: Option<u32>) -> bool
+    requires { count ≤ length history.now.recorded.events }
+    ensures { IsTrue result → (at : ℕ) → IsLeftOrEarly fact (events_to count history.now.recorded.events) place maker at }
+{
+    for at in 0..count {
+        if !is_left_or_early(history, count, place, fact, maker, at) {
+            return false;
+        }
+    }
+    true
+}
+
+/// Whether the call that is made at a place, if one is, is such.
+fn is_left_or_early(
+    history: &History,
+    count: u32,
+    place: u32,
+    fact: Fact,
+    maker: Option<u32>,
+    at: u32,
+) -> bool
+    requires within { count ≤ length history.now.recorded.events }
+    requires place { at < count }
+    ensures { IsTrue result → IsLeftOrEarly fact (events_to count history.now.recorded.events) place maker at }
+{
+    let Some(call) = call_at(history, count, at) else {
+        return true;
+    };
+    is_passed_by(place, fact, &call) || is_no_later(&call, maker)
+}
+
+/// Whether the call is the one that is made at the place, or leaves the fact.
+fn is_passed_by(place: u32, fact: Fact, call: &CallAt<'_>) -> bool
+    ensures { IsTrue result → LeavesAt fact place call.now }
+{
+    call.place == place || call.changes_nothing() || is_left(fact, call)
+}

@@ -1,0 +1,150 @@
+//! Which calls may end facts.
+
+ghost use Rattle.std.specs.Prelude.{◌≡◌, false, IsTrue};
+ghost use Rattle.rmm_spec.specs.declared.tag.Tag.TheVariants.{Data};
+ghost use Rattle.slicing.specs.Facts.{DoesNotEnd};
+ghost use Rattle.verdict_laws.specs.Facts as laws;
+ghost use Rattle.verdict_laws.specs.declared.facts.Fact.TheVariants.{Tagged};
+
+use crate::call_at::CallAt;
+use crate::given_back::freed;
+use crate::kinds::changeable;
+use crate::making::{is_one_entry, is_one_table};
+use command_words::{Name, is_tag};
+use rmm_spec::{Call, Tag};
+use verdict_laws::Fact;
+
+/// Whether the call doesn't end the fact, by its reply if it returned.
+pub(crate) fn is_left(fact: Fact, call: &CallAt<'_>) -> bool
+    ensures { IsTrue result → DoesNotEnd fact call.now }
+{
+    match fact {
+        Fact::NewRealm { rd } => !may_activate(&call.call, rd),
+        Fact::Tagged { granule, tag } => keeps_tag(call, granule, tag),
+        Fact::Covered { rd, level, ipa } => !may_uncover(&call.call, rd, level, ipa),
+        Fact::Wide { rd, .. } => !may_narrow(&call.call, rd),
+        Fact::Unassigned { rd, ipa } => !may_assign(&call.call, rd, ipa),
+    }
+}
+
+#[tactic(auto, unfolding(verdict_laws::specs::Facts::may_activate))]
+fn may_activate(call: &Call, rd: u64) -> bool
+    ensures { result ≡ laws.may_activate call.now rd }
+{
+    match call {
+        Call::RealmActivate { rd: other } => rd == *other,
+        Call::SystemOff => true,
+        _ => false,
+    }
+}
+
+#[tactic(auto, unfolding(verdict_laws::specs::Facts::may_uncover))]
+fn may_uncover(call: &Call, rd: u64, level: u8, ipa: u64) -> bool
+    ensures { result ≡ laws.may_uncover call.now rd level ipa }
+{
+    match call {
+        Call::RttRemove {
+            rd: other,
+            ipa: at,
+            level: its_level,
+            ..
+        } => rd == *other && u64::from(level) == *its_level && is_one_table(level, ipa, *at),
+        Call::RealmDestroy { rd: other } => rd == *other,
+        _ => false,
+    }
+}
+
+#[tactic(auto, unfolding(verdict_laws::specs::Facts::may_narrow))]
+fn may_narrow(call: &Call, rd: u64) -> bool
+    ensures { result ≡ laws.may_narrow call.now rd }
+{
+    match call {
+        Call::RealmCreate { rd: other, .. } | Call::RealmDestroy { rd: other } => rd == *other,
+        _ => false,
+    }
+}
+
+#[tactic(auto, unfolding(verdict_laws::specs::Facts::may_assign))]
+fn may_assign(call: &Call, rd: u64, ipa: u64) -> bool
+    ensures { result ≡ laws.may_assign call.now rd ipa }
+{
+    match call {
+        Call::DataCreate {
+            rd: other,
+            ipa: at,
+            ..
+        }
+        | Call::DataCreateUnknown {
+            rd: other,
+            ipa: at,
+            ..
+        }
+        | Call::RttMapUnprotected {
+            rd: other,
+            ipa: at,
+            ..
+        }
+        | Call::RttUnmapUnprotected { rd: other, ipa: at } => rd == *other
+            && is_one_entry(ipa, *at),
+        Call::RttCreate {
+            rd: other,
+            ipa: at,
+            level,
+            ..
+        }
+        | Call::RttRemove {
+            rd: other,
+            ipa: at,
+            level,
+            ..
+        } => rd == *other && *level == 3 && is_one_table(3, ipa, *at),
+        Call::RealmDestroy { rd: other } => rd == *other,
+        _ => false,
+    }
+}
+
+/// Whether the granule keeps the tag, as far as the call goes.
+fn keeps_tag(call: &CallAt<'_>, granule: u64, tag: Tag) -> bool
+    ensures { IsTrue result → DoesNotEnd (Tagged granule tag) call.now }
+{
+    match tag {
+        Tag::Undelegated | Tag::Delegated => !needs(
+            changeable(&call.call).as_slice(),
+            granule,
+            tag,
+        ),
+        Tag::Rd | Tag::Rec => !destroys(&call.call, granule),
+        Tag::Data => !may_free(call, granule),
+        Tag::RecAux | Tag::Rtt => false,
+    }
+}
+
+/// Whether one of these needs the tag of the granule.
+fn needs(names: &[Name], granule: u64, tag: Tag) -> bool
+    ensures { result ≡ laws.needs (names.now) granule tag }
+{
+    names
+        .iter()
+        .any(|name| name.granule == granule && is_tag(name.tag, tag))
+}
+
+#[tactic(auto, unfolding(verdict_laws::specs::Facts::destroys))]
+fn destroys(call: &Call, granule: u64) -> bool
+    ensures { result ≡ laws.destroys call.now granule }
+{
+    match call {
+        Call::RealmDestroy { rd } => *rd == granule,
+        Call::RecDestroy { rec } => *rec == granule,
+        _ => false,
+    }
+}
+
+/// Whether the call may give the granule back without naming it.
+fn may_free(call: &CallAt<'_>, granule: u64) -> bool
+    ensures { result ≡ false → DoesNotEnd (Tagged granule Data) call.now }
+{
+    match &call.answer {
+        Some(answer) => freed(&call.call, answer.reply) == Some(granule),
+        None => matches!(call.call, Call::DataDestroy { .. } | Call::RttRemove { .. }),
+    }
+}

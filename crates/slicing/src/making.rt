@@ -1,0 +1,136 @@
+//! What calls make of facts.
+
+ghost use Rattle.std.specs.Prelude.{◌≡◌};
+ghost use Rattle.rmi_view.specs.Seen.{reply_seen};
+ghost use Rattle.verdict_laws.specs.Facts as laws;
+
+use crate::given_back::leaves_unused;
+use command_words::is_tag;
+use memory_map::{entry_number, table_number};
+use rmi_view::ReplyRef;
+use rmm_spec::{Call, Tag};
+use verdict_laws::Fact;
+
+/// Whether the fact holds before the first call.
+pub(crate) fn begins(fact: Fact) -> bool
+    ensures { result ≡ laws.begins fact }
+{
+    match fact {
+        Fact::NewRealm { .. } => true,
+        Fact::Tagged { tag, .. } => is_tag(Tag::Undelegated, tag),
+        Fact::Covered { .. } | Fact::Wide { .. } | Fact::Unassigned { .. } => false,
+    }
+}
+
+/// Whether the call makes the fact, where it is carried out with that reply.
+pub(crate) fn makes(fact: Fact, call: &Call, reply: ReplyRef<'_>) -> bool
+    ensures { result ≡ laws.makes fact call.now (reply_seen reply.entry) }
+{
+    match fact {
+        Fact::NewRealm { rd } => makes_realm(call, rd),
+        Fact::Tagged { granule, tag } => tags(call, reply, granule, tag),
+        Fact::Covered { rd, level, ipa } => makes_table(call, rd, level, ipa),
+        Fact::Wide { rd, width } => makes_wide(call, rd, width),
+        Fact::Unassigned { rd, ipa } => frees_entry(call, rd, ipa),
+    }
+}
+
+/// Whether the call, carried out with that reply, leaves the granule with the tag.
+pub(crate) fn tags(call: &Call, reply: ReplyRef<'_>, granule: u64, tag: Tag) -> bool
+    ensures { result ≡ laws.tags call.now (reply_seen reply.entry) granule tag }
+{
+    match tag {
+        Tag::Undelegated => leaves_unused(call, reply, granule, false),
+        Tag::Delegated => leaves_unused(call, reply, granule, true),
+        Tag::Rd => makes_realm(call, granule),
+        Tag::Rec => makes_rec(call, granule),
+        Tag::Data => gives_page(call, granule),
+        Tag::RecAux | Tag::Rtt => false,
+    }
+}
+
+#[tactic(auto, unfolding(verdict_laws::specs::Facts::makes_realm))]
+fn makes_realm(call: &Call, granule: u64) -> bool
+    ensures { result ≡ laws.makes_realm call.now granule }
+{
+    match call {
+        Call::RealmCreate { rd, .. } => *rd == granule,
+        _ => false,
+    }
+}
+
+#[tactic(auto, unfolding(verdict_laws::specs::Facts::makes_rec))]
+fn makes_rec(call: &Call, granule: u64) -> bool
+    ensures { result ≡ laws.makes_rec call.now granule }
+{
+    match call {
+        Call::RecCreate { rec, .. } => *rec == granule,
+        _ => false,
+    }
+}
+
+#[tactic(auto, unfolding(verdict_laws::specs::Facts::gives_page))]
+fn gives_page(call: &Call, granule: u64) -> bool
+    ensures { result ≡ laws.gives_page call.now granule }
+{
+    match call {
+        Call::DataCreate { granule: page, .. } | Call::DataCreateUnknown { granule: page, .. } => {
+            *page == granule
+        }
+        _ => false,
+    }
+}
+
+#[tactic(auto, unfolding(verdict_laws::specs::Facts::makes_table))]
+fn makes_table(call: &Call, rd: u64, level: u8, ipa: u64) -> bool
+    ensures { result ≡ laws.makes_table call.now rd level ipa }
+{
+    match call {
+        Call::RttCreate {
+            rd: other,
+            ipa: at,
+            level: its_level,
+            ..
+        } => rd == *other && u64::from(level) == *its_level && is_one_table(level, ipa, *at),
+        _ => false,
+    }
+}
+
+#[tactic(auto, unfolding(verdict_laws::specs::Facts::makes_wide))]
+fn makes_wide(call: &Call, rd: u64, width: u64) -> bool
+    ensures { result ≡ laws.makes_wide call.now rd width }
+{
+    match call {
+        Call::RealmCreate {
+            rd: other,
+            width: its_width,
+            ..
+        } => rd == *other && width == *its_width,
+        _ => false,
+    }
+}
+
+/// Whether the call takes the page at the address back.
+#[tactic(auto, unfolding(verdict_laws::specs::Facts::frees_entry))]
+pub(crate) fn frees_entry(call: &Call, rd: u64, ipa: u64) -> bool
+    ensures { result ≡ laws.frees_entry call.now rd ipa }
+{
+    match call {
+        Call::DataDestroy { rd: other, ipa: at } => rd == *other && is_one_entry(ipa, *at),
+        _ => false,
+    }
+}
+
+/// Whether the two addresses have one entry of the last level.
+pub(crate) fn is_one_entry(ipa: u64, other: u64) -> bool
+    ensures { result ≡ laws.is_one_entry ipa other }
+{
+    entry_number(3, ipa) == entry_number(3, other)
+}
+
+/// Whether the two addresses lie in one table of the level.
+pub(crate) fn is_one_table(level: u8, ipa: u64, other: u64) -> bool
+    ensures { result ≡ laws.is_one_table level ipa other }
+{
+    table_number(level, ipa) == table_number(level, other)
+}

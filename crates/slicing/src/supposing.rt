@@ -1,0 +1,150 @@
+//! Which fact a reply may deny, and which call made it. What is found isn't promised: it is checked.
+
+use crate::denying::denies;
+use crate::done::{Done, done_before};
+use crate::given_back::freed;
+use crate::last_return::LastReturn;
+use crate::making::{makes, tags};
+use command_words::{Way, named, way_of, words_allow};
+use history::History;
+use rmi_view::ReplyRef;
+use rmm_spec::{Call, Tag};
+use verdict_laws::Fact;
+
+/// The tags that calls give to granules by name.
+const TAGS: [Tag; 5] = [
+    Tag::Undelegated,
+    Tag::Delegated,
+    Tag::Rd,
+    Tag::Rec,
+    Tag::Data,
+];
+
+/// How many bits a realm's addresses may have.
+const WIDTHS: [u64; 2] = [0x27, 0x30];
+
+/// What a reply may deny of an entry, where it may.
+pub(crate) fn supposed_entry(last: &LastReturn<'_>) -> Option<Fact> {
+    match last.call {
+        Call::DataDestroy { rd, ipa } => Some(Fact::Unassigned { rd, ipa }),
+        Call::RttInitRipas { rd, base, .. } => Some(Fact::Unassigned { rd, ipa: base }),
+        _ => None,
+    }
+}
+
+/// What a refusal may deny of a realm or of its tables.
+pub(crate) fn supposed(history: &History, count: u32, last: &LastReturn<'_>) -> Option<Fact> {
+    match last.reply {
+        ReplyRef::Err(1, _) => wide_before(history, count, last),
+        ReplyRef::Err(2, _) => Some(Fact::NewRealm {
+            rd: realm_of(&last.call)?,
+        }),
+        ReplyRef::Err(4, index) if words_allow(&last.call) => {
+            covered_below(history, count, last, way_of(&last.call)?, index)
+        }
+        _ => None,
+    }
+}
+
+/// How many bits the addresses have of the realm that is named, as the latest call says that made it.
+fn wide_before(history: &History, count: u32, last: &LastReturn<'_>) -> Option<Fact> {
+    let (Call::DataDestroy { rd, .. } | Call::RttInitRipas { rd, .. }) = last.call else {
+        return None;
+    };
+    for width in WIDTHS {
+        let fact = Fact::Wide { rd, width };
+        if maker_before(history, count, last.called, fact).is_some() {
+            return Some(fact);
+        }
+    }
+    None
+}
+
+/// That a table covers the address to which the call walks, below a level: the lowest that was made.
+fn covered_below(
+    history: &History,
+    count: u32,
+    last: &LastReturn<'_>,
+    way: Way,
+    above: u8,
+) -> Option<Fact> {
+    for level in (above.saturating_add(1)..way.max.saturating_add(1)).rev() {
+        let fact = Fact::Covered {
+            rd: way.rd,
+            level,
+            ipa: way.ipa,
+        };
+        if maker_before(history, count, last.called, fact).is_some() {
+            return Some(fact);
+        }
+    }
+    None
+}
+
+/// The realm that a call names which is refused where that isn't new.
+fn realm_of(call: &Call) -> Option<u64> {
+    match call {
+        Call::DataCreate { rd, .. }
+        | Call::RealmActivate { rd }
+        | Call::RecCreate { rd, .. }
+        | Call::RttInitRipas { rd, .. } => Some(*rd),
+        _ => None,
+    }
+}
+
+/// The tag of a granule that the reply denies, as the calls before say.
+pub(crate) fn supposed_tag(history: &History, count: u32, last: &LastReturn<'_>) -> Option<Fact> {
+    for name in named(&last.call).as_slice() {
+        let fact = tag_before(history, count, last.called, name.granule);
+        if denies(fact, &last.call, last.reply) {
+            return Some(fact);
+        }
+    }
+    let granule = freed(&last.call, last.reply)?;
+    Some(tag_before(history, count, last.called, granule))
+}
+
+/// The tag that the calls before a place leave to a granule, as far as they say.
+fn tag_before(history: &History, count: u32, place: u32, granule: u64) -> Fact {
+    for back in 1..place.saturating_add(1) {
+        if let Some(tag) = tag_at(history, count, place, place.saturating_sub(back), granule) {
+            return Fact::Tagged { granule, tag };
+        }
+    }
+    Fact::Tagged {
+        granule,
+        tag: Tag::Undelegated,
+    }
+}
+
+/// The tag that the call leaves to the granule which is made at one place, where it returned before another.
+fn tag_at(history: &History, count: u32, place: u32, at: u32, granule: u64) -> Option<Tag> {
+    let done = done_at(history, count, place, at)?;
+    for tag in TAGS {
+        if tags(&done.call, done.reply, granule, tag) {
+            return Some(tag);
+        }
+    }
+    None
+}
+
+/// The place of the latest call that makes the fact, and returned before another.
+pub(crate) fn maker_before(history: &History, count: u32, place: u32, fact: Fact) -> Option<u32> {
+    for back in 1..place.saturating_add(1) {
+        let at = place.saturating_sub(back);
+        if let Some(done) = done_at(history, count, place, at) {
+            if makes(fact, &done.call, done.reply) {
+                return Some(at);
+            }
+        }
+    }
+    None
+}
+
+/// The call that is made at one place, where it was carried out and returned before another.
+fn done_at(history: &History, count: u32, place: u32, at: u32) -> Option<Done<'_>> {
+    if count as usize > history.len() {
+        return None;
+    }
+    done_before(history, count, at, place)
+}

@@ -1,0 +1,84 @@
+-- Along an order: what holds before any line and stays so with each next one holds where a finished call's line comes.
+use Rattle.std.proofs.Common.{ℕ, List, [], ◌∷◌, ◌++◌, inl, inr, sym, subst, arith, append_assoc}
+use Rattle.std.proofs.lemmas.Bool.{cases_lt}
+use Rattle.std.proofs.lemmas.List.{append-nil}
+use Rattle.std.proofs.lemmas.Option.{none-some}
+use Rattle.rmm_spec.specs.declared.line.Line.{Line}
+use Rattle.rmm_spec.specs.HistoryText.{History, IsHistory}
+use Rattle.rmm_spec.specs.Run.{IsRun, JournalEntry}
+use Rattle.rmm_spec.specs.Linearization.{AreEntriesOf, IsFinished, IsLinearization, IsNamed, ReturnsBefore, cpu_named, number_named}
+use Rattle.rmm_spec.specs.Sound.{IsSound}
+use Rattle.rmm_spec.specs.State.{State, opening}
+use Rattle.rmm_spec.specs.Step.{Step}
+use Rattle.rmm_laws.proofs.Runs.{opened_run_sound}
+use Rattle.verdict_laws.specs.Order.{IsNext, LeadsNowhere, Reaches, count_of}
+use Rattle.verdict_laws.proofs.Counts.{IsNamed-push_cases}
+use Rattle.verdict_laws.proofs.Growth.{Reaches-nil}
+use Rattle.verdict_laws.proofs.Nowhere.{nowhere_past}
+use Rattle.verdict_laws.proofs.Reached.{IsNext-linear, Reaches-linear}
+use Rattle.verdict_laws.proofs.SliceLines.{Claim, Names}
+
+-- Lines of an order have led to the state, and the next one's commit leads on. They name each call that returned before its call was made, and none
+-- that was made after its call returned.
+pub record LeadsOn (history : History) (lines : List Line) (s : State) (c : Claim history.events) (new : State) : Type 0 where
+  pub sound : IsSound s
+  pub next : IsNext history.events lines c.line
+  pub step : Step s c.entry.cpu c.entry.command c.entry.given new
+  pub earlier : (cpu number : ℕ) → ReturnsBefore history.events cpu number (cpu_named c.line) (number_named c.line) → IsNamed lines cpu number
+  pub in_time : (cpu number : ℕ) → IsNamed lines cpu number → ¬ ReturnsBefore history.events (cpu_named c.line) (number_named c.line) cpu number
+
+module _ (history : History) (is_history : IsHistory history) where
+  -- the line that an order has next is such
+  LeadsOn-linear : (lines back : List Line) (s new : State) (c : Claim history.events) → IsLinearization history ((lines ++ c.line ∷ []) ++ back)
+      → Reaches history lines s → Step s c.entry.cpu c.entry.command c.entry.given new → LeadsOn history lines s c new
+  LeadsOn-linear lines back s new c valid reached step =
+      let next = IsNext-linear history is_history lines s reached c.line back valid in
+      record {
+        sound = opened_run_sound history.config reached.passes.entries s reached.passes.run.run;
+        next = next;
+        step = step;
+        earlier = λ cpu number returns. elim (cases_lt number (count_of cpu lines)) [
+          | inl below ↦ reached.first cpu number below
+          | inr above ↦
+              absurd ((nowhere_past history is_history lines s reached c.line cpu number (returns.returned, returns.given, returns.is_returned)
+              (λ below. omega (arith, below, above)) returns).none back valid)
+        ];
+        in_time = λ cpu number named returns.
+            let before = ReturnsBefore history.events (cpu_named c.line) (number_named c.line) in
+            reached.in_time c.line (λ also.
+            let below = reached.named (cpu_named c.line) (number_named c.line) also in
+            let at = next.numbered in
+            omega (arith, below, at))
+            (named.0, named.1, named.2, subst (λ (k : ℕ). before k (number_named named.1)) (sym named.3) (subst (before cpu) (sym named.4) returns));
+      }
+
+  -- What holds before any line, stays so with each next one and refutes a finished call's leaves no order.
+  module _ (cpu number : ℕ) (finished : IsFinished history.events cpu number) (P : List Line → State → Type 0)
+      (refutes : (lines : List Line) (s new : State) (c : Claim history.events) → LeadsOn history lines s c new → P lines s → ¬ Names cpu number c)
+      (keeps : (lines : List Line) (s new : State) (c : Claim history.events) → LeadsOn history lines s c new → P lines s
+      → P (lines ++ c.line ∷ []) new) where
+    -- the call never comes behind lines that don't name it
+    never : (back lines : List Line) (entries : List JournalEntry) (s last : State) → IsLinearization history (lines ++ back)
+        → Reaches history lines s → P lines s → ¬ IsNamed lines cpu number → AreEntriesOf history.events back entries → IsRun s entries last → ⊥
+    never [] lines entries s last valid reached is unnamed claimed run =
+        unnamed (subst (λ (ls : List Line). IsNamed ls cpu number) (append-nil lines) (valid.order.complete cpu number finished))
+    never (line ∷ back) lines [] s last valid reached is unnamed claimed run = absurd claimed
+    never (line ∷ back) lines (e ∷ entries) s last valid reached is unnamed claimed run =
+        let order = subst (IsLinearization history) (sym (append_assoc lines (line ∷ []) back)) valid in
+        let next = IsNext-linear history is_history lines s reached line back order in
+        let c : Claim history.events = record { line = line; entry = e; kind = next.kind; is_entry = claimed.0 } in
+        let leads = LeadsOn-linear lines back s run.0 c order reached run.1 in
+        never back (lines ++ line ∷ []) entries run.0 last order
+        (Reaches-linear history is_history lines s reached line back order e run.0 claimed.0 run.1) (keeps lines s run.0 c leads is)
+        (λ named. elim (IsNamed-push_cases lines line cpu number named) [
+          | inl before ↦ unnamed before
+          | inr own ↦ refutes lines s run.0 c leads is own
+        ]) claimed.1 run.2
+
+    -- so there is none
+    pub nowhere-along : P [] (opening history.config) → LeadsNowhere history []
+    nowhere-along is = record {
+      none = λ lines valid.
+          never lines [] valid.entries (opening history.config) valid.last valid (Reaches-nil history) is (λ named. none-some named.1 named.2)
+          valid.run.claimed valid.run.run;
+    }

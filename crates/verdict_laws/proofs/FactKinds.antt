@@ -1,0 +1,54 @@
+-- What steps make, leave and deny of a fact, by its kind.
+use Rattle.std.proofs.Common.{◌≡◌, ℕ, true, false, refl}
+use Rattle.rmm_spec.specs.declared.command.Command.{Command}
+use Rattle.rmm_spec.specs.declared.reply.Reply.{Reply}
+use Rattle.rmm_spec.specs.Call.{call_of}
+use Rattle.rmm_spec.specs.HistoryText.{Config}
+use Rattle.rmm_spec.specs.Ownership.{is_accepted}
+use Rattle.rmm_spec.specs.Sound.{IsSound}
+use Rattle.rmm_spec.specs.State.{State, opening}
+use Rattle.rmm_spec.specs.Step.{Step}
+use Rattle.verdict_laws.specs.declared.facts.Fact.{Fact}
+use Rattle.verdict_laws.specs.declared.facts.Fact.TheVariants.{NewRealm, Tagged, Covered, Wide, Unassigned}
+use Rattle.verdict_laws.specs.Facts.{begins, denies, holds, makes, may_end}
+use Rattle.verdict_laws.proofs.EntryFacts.{entry-denied, entry-left, entry-made}
+use Rattle.verdict_laws.proofs.RealmFacts.{realm-denied, realm-left, realm-made}
+use Rattle.verdict_laws.proofs.TableFacts.{table-denied, table-left, table-made}
+use Rattle.verdict_laws.proofs.TagFacts.{tag-denied, tag-left, tag-made}
+use Rattle.verdict_laws.proofs.WideFacts.{wide-denied, wide-left, wide-made}
+
+-- a fact that begins so holds in the opening
+pub holds-opening : (fact : Fact) (config : Config) → begins fact ≡ true → holds fact (opening config) ≡ true
+unfolding opening
+holds-opening (NewRealm rd) config is = refl
+holds-opening (Tagged granule tag) config is = is
+holds-opening (Covered rd level ipa) config is = is
+holds-opening (Wide rd width) config is = is
+holds-opening (Unassigned rd ipa) config is = is
+
+-- a call that makes it, and is carried out, leaves it so
+pub holds-made : (fact : Fact) (s new : State) (cpu : ℕ) (command : Command) (given : Reply) → IsSound s → Step s cpu command given new
+    → is_accepted given ≡ true → makes fact (call_of command) given ≡ true → holds fact new ≡ true
+holds-made (NewRealm rd) s new cpu command given sound = realm-made rd s new cpu command given
+holds-made (Tagged granule tag) s new cpu command given sound = tag-made granule tag s new cpu command given sound
+holds-made (Covered rd level ipa) s new cpu command given sound = table-made rd level ipa s new cpu command given
+holds-made (Wide rd width) s new cpu command given sound = wide-made rd width s new cpu command given
+holds-made (Unassigned rd ipa) s new cpu command given sound = entry-made rd ipa s new cpu command given
+
+-- a call that may not end it leaves it
+pub holds-left : (fact : Fact) (s new : State) (cpu : ℕ) (command : Command) (given : Reply) → IsSound s → Step s cpu command given new
+    → may_end fact (call_of command) given ≡ false → holds fact s ≡ true → holds fact new ≡ true
+holds-left (NewRealm rd) s new cpu command given sound = realm-left rd s new cpu command given
+holds-left (Tagged granule tag) s new cpu command given sound = tag-left granule tag s new cpu command given sound
+holds-left (Covered rd level ipa) s new cpu command given sound = table-left rd level ipa s new cpu command given
+holds-left (Wide rd width) s new cpu command given sound = wide-left rd width s new cpu command given
+holds-left (Unassigned rd ipa) s new cpu command given sound = entry-left rd ipa s new cpu command given sound
+
+-- where it holds, no call is given a reply that denies it
+pub held-denies : (fact : Fact) (s new : State) (cpu : ℕ) (command : Command) (given : Reply) → IsSound s → Step s cpu command given new
+    → holds fact s ≡ true → denies fact (call_of command) given ≡ true → ⊥
+held-denies (NewRealm rd) s new cpu command given sound = realm-denied rd s new cpu command given
+held-denies (Tagged granule tag) s new cpu command given sound = tag-denied granule tag s new cpu command given sound
+held-denies (Covered rd level ipa) s new cpu command given sound = table-denied rd level ipa s new cpu command given
+held-denies (Wide rd width) s new cpu command given sound = wide-denied rd width s new cpu command given sound
+held-denies (Unassigned rd ipa) s new cpu command given sound = entry-denied rd ipa s new cpu command given sound

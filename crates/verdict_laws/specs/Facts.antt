@@ -1,0 +1,247 @@
+-- Facts that some calls make and others end: where one of the first makes a fact and none may have ended it since, a reply that denies it is wrong.
+-- This project's own.
+use Rattle.std.specs.Prelude.{◌≡◌, ℕ, ◌-◌, ◌^◌, ◌==◌, ◌&&◌, ◌||◌, ◌⊎◌, nat_le, nat_lt, Bool, true, false, not, List, Option, None, Some, is_some}
+use Rattle.std.specs.List.{list_any}
+use Rattle.rmm_spec.specs.declared.call.Call.{Call}
+use Rattle.rmm_spec.specs.declared.call.Call.TheVariants as call
+use Rattle.rmm_spec.specs.declared.command.Command.{Command}
+use Rattle.rmm_spec.specs.declared.entry.Entry.{Entry}
+use Rattle.rmm_spec.specs.declared.event.Event.{Event}
+use Rattle.rmm_spec.specs.declared.reply.Reply.{Reply}
+use Rattle.rmm_spec.specs.declared.reply.Reply.TheVariants as reply
+use Rattle.rmm_spec.specs.declared.tag.Tag.{Tag}
+use Rattle.rmm_spec.specs.declared.tag.Tag.TheVariants.{Undelegated, Delegated, Rd, Rec, RecAux, Data, Rtt}
+use Rattle.rmm_spec.specs.Call.{call_of}
+use Rattle.rmm_spec.specs.Linearization.{IsCalled, IsReturned}
+use Rattle.rmm_spec.specs.Lookup.{is_new, tag_number}
+use Rattle.rmm_spec.specs.Ownership.{is_accepted}
+use Rattle.rmm_spec.specs.Rows.{Needed, all_allowed}
+use Rattle.rmm_spec.specs.State.{RealmRecord, State}
+use Rattle.rmm_spec.specs.Step.Terms.{Way, named, way_of, words_of}
+use Rattle.rmm_spec.specs.Walk.{entry_number, is_unassigned, table_number}
+use Rattle.verdict_laws.specs.declared.facts.Fact.{Fact}
+use Rattle.verdict_laws.specs.declared.facts.Fact.TheVariants.{NewRealm, Tagged, Covered, Wide, Unassigned}
+use Rattle.verdict_laws.specs.Separate.{is_freed}
+use Rattle.verdict_laws.specs.Slices.{ChangesNothing, IsBack, IsDoneBefore, changeable, leaves_unused, shows_names}
+
+-- ---- in a state
+
+-- whether a realm isn't activated, or isn't there
+abbrev pub is_still_new : Option RealmRecord → Bool
+is_still_new None = true
+is_still_new (Some realm) = is_new realm
+
+abbrev pub is_tag : Tag → Tag → Bool
+is_tag one other = tag_number one == tag_number other
+
+-- whether one table of the level covers both addresses
+abbrev pub is_one_table : ℕ → ℕ → ℕ → Bool
+is_one_table level ipa other = table_number level ipa == table_number level other
+
+-- whether a realm's table of the level covers the address
+abbrev pub is_covered : State → ℕ → ℕ → ℕ → Bool
+is_covered s rd level ipa = is_some (s.table rd level (table_number level ipa))
+
+-- whether a realm is there, and its addresses have so many bits
+abbrev pub has_width : Option RealmRecord → ℕ → Bool
+has_width None width = false
+has_width (Some realm) width = realm.width == width
+
+-- whether two addresses have one entry of the last level
+abbrev pub is_one_entry : ℕ → ℕ → Bool
+is_one_entry ipa other = entry_number 3 ipa == entry_number 3 other
+
+-- whether there is an entry, which is unassigned and protected
+abbrev pub is_free : Option Entry → Bool
+is_free None = false
+is_free (Some entry) = is_unassigned entry
+
+-- whether the fact holds
+abbrev pub holds : Fact → State → Bool
+holds (Wide rd width) s = has_width (s.realm rd) width
+holds (Unassigned rd ipa) s = is_free (s.leaf rd 3 (entry_number 3 ipa))
+holds (NewRealm rd) s = is_still_new (s.realm rd)
+holds (Tagged granule tag) s = is_tag (s.tag granule) tag
+holds (Covered rd level ipa) s = is_covered s rd level ipa
+
+-- whether it does before the first call
+abbrev pub begins : Fact → Bool
+begins (NewRealm rd) = true
+begins (Tagged granule tag) = is_tag Undelegated tag
+begins (Covered rd level ipa) = false
+begins (Wide rd width) = false
+begins (Unassigned rd ipa) = false
+
+-- ---- calls that make it
+
+unfoldable pub makes_realm : Call → ℕ → Bool
+makes_realm (call.RealmCreate rd root width level vmid algo) granule = rd == granule
+makes_realm _ granule = false
+
+unfoldable pub makes_rec : Call → ℕ → Bool
+makes_rec (call.RecCreate rd rec mpidr flags aux0 aux1) granule = rec == granule
+makes_rec _ granule = false
+
+unfoldable pub gives_page : Call → ℕ → Bool
+gives_page (call.DataCreate rd page ipa source flags digest) granule = page == granule
+gives_page (call.DataCreateUnknown rd page ipa) granule = page == granule
+gives_page _ granule = false
+
+unfoldable pub makes_table : Call → ℕ → ℕ → ℕ → Bool
+makes_table (call.RttCreate other rtt at its_level) rd level ipa = rd == other && level == its_level && is_one_table level ipa at
+makes_table _ rd level ipa = false
+
+unfoldable pub makes_wide : Call → ℕ → ℕ → Bool
+makes_wide (call.RealmCreate other root its_width level vmid algo) rd width = rd == other && width == its_width
+makes_wide _ rd width = false
+
+-- whether the call takes the page at the address back
+unfoldable pub frees_entry : Call → ℕ → ℕ → Bool
+frees_entry (call.DataDestroy other at) rd ipa = rd == other && is_one_entry ipa at
+frees_entry _ rd ipa = false
+
+-- whether the call, carried out with that reply, leaves the granule with the tag
+abbrev pub tags : Call → Reply → ℕ → Tag → Bool
+tags c given granule Undelegated = leaves_unused c given granule false
+tags c given granule Delegated = leaves_unused c given granule true
+tags c given granule Rd = makes_realm c granule
+tags c given granule Rec = makes_rec c granule
+tags c given granule RecAux = false
+tags c given granule Data = gives_page c granule
+tags c given granule Rtt = false
+
+-- whether the call makes the fact, where it is carried out with that reply
+abbrev pub makes : Fact → Call → Reply → Bool
+makes (NewRealm rd) c given = makes_realm c rd
+makes (Tagged granule tag) c given = tags c given granule tag
+makes (Covered rd level ipa) c given = makes_table c rd level ipa
+makes (Wide rd width) c given = makes_wide c rd width
+makes (Unassigned rd ipa) c given = frees_entry c rd ipa
+
+-- ---- calls that may end it
+
+unfoldable pub may_activate : Call → ℕ → Bool
+may_activate (call.RealmActivate other) rd = rd == other
+may_activate call.SystemOff rd = true
+may_activate _ rd = false
+
+unfoldable pub may_uncover : Call → ℕ → ℕ → ℕ → Bool
+may_uncover (call.RttRemove removal other at its_level) rd level ipa =
+    rd == other && level == its_level && is_one_table level ipa at
+may_uncover (call.RealmDestroy other) rd level ipa = rd == other
+may_uncover _ rd level ipa = false
+
+unfoldable pub may_narrow : Call → ℕ → Bool
+may_narrow (call.RealmCreate other root width level vmid algo) rd = rd == other
+may_narrow (call.RealmDestroy other) rd = rd == other
+may_narrow _ rd = false
+
+unfoldable pub may_assign : Call → ℕ → ℕ → Bool
+may_assign (call.DataCreate other granule at source flags digest) rd ipa = rd == other && is_one_entry ipa at
+may_assign (call.DataCreateUnknown other granule at) rd ipa = rd == other && is_one_entry ipa at
+may_assign (call.RttMapUnprotected other at page) rd ipa = rd == other && is_one_entry ipa at
+may_assign (call.RttUnmapUnprotected other at) rd ipa = rd == other && is_one_entry ipa at
+may_assign (call.RttCreate other rtt at level) rd ipa = rd == other && level == 3 && is_one_table 3 ipa at
+may_assign (call.RttRemove removal other at level) rd ipa = rd == other && level == 3 && is_one_table 3 ipa at
+may_assign (call.RealmDestroy other) rd ipa = rd == other
+may_assign _ rd ipa = false
+
+-- whether one of these needs the tag of the granule
+abbrev pub needs : List Needed → ℕ → Tag → Bool
+needs names granule tag = list_any (λ (n : Needed). n.granule == granule && is_tag n.tag tag) names
+
+unfoldable pub destroys : Call → ℕ → Bool
+destroys (call.RealmDestroy rd) granule = rd == granule
+destroys (call.RecDestroy rec) granule = rec == granule
+destroys _ granule = false
+
+-- whether the call may take the tag off the granule; of auxiliary granules and tables that isn't looked at
+abbrev pub may_retag : Call → Reply → ℕ → Tag → Bool
+may_retag c given granule Undelegated = needs (changeable c) granule Undelegated
+may_retag c given granule Delegated = needs (changeable c) granule Delegated
+may_retag c given granule Rd = destroys c granule
+may_retag c given granule Rec = destroys c granule
+may_retag c given granule RecAux = true
+may_retag c given granule Data = is_freed c given granule
+may_retag c given granule Rtt = true
+
+-- whether the call may end the fact, where it is carried out with that reply
+abbrev pub may_end : Fact → Call → Reply → Bool
+may_end (NewRealm rd) c given = may_activate c rd
+may_end (Tagged granule tag) c given = may_retag c given granule tag
+may_end (Covered rd level ipa) c given = may_uncover c rd level ipa
+may_end (Wide rd width) c given = may_narrow c rd
+may_end (Unassigned rd ipa) c given = may_assign c rd ipa
+
+-- ---- replies that deny it
+
+-- whether the call is refused where the realm isn't new, and by no other row on the realm
+unfoldable pub needs_new : Call → ℕ → Bool
+needs_new (call.DataCreate other granule ipa source flags digest) rd = rd == other
+needs_new (call.RealmActivate other) rd = rd == other
+needs_new (call.RecCreate other rec mpidr flags aux0 aux1) rd = rd == other
+needs_new (call.RttInitRipas other base top) rd = rd == other
+needs_new _ rd = false
+
+-- whether one of these needs another tag of the granule
+abbrev pub needs_other : List Needed → ℕ → Tag → Bool
+needs_other names granule tag = list_any (λ (n : Needed). n.granule == granule && not (is_tag n.tag tag)) names
+
+-- whether a reply says that a table which covers the address is missing, or an entry above it is in the way
+abbrev pub is_refused_above : ℕ → Reply → Bool
+is_refused_above level (reply.Ok words) = false
+is_refused_above level (reply.Err status index) = status == 4 && nat_lt index level
+is_refused_above level reply.Misplaced = false
+
+-- whether the walk for the same table of the realm goes as far as its level
+abbrev pub goes_to : Option Way → ℕ → ℕ → ℕ → Bool
+goes_to None rd level ipa = false
+goes_to (Some way) rd level ipa = rd == way.rd && nat_le level way.max && is_one_table level ipa way.ipa
+
+-- whether the call names its realm alone, and its addresses are protected ones of realms so wide
+unfoldable pub lies_in : Call → ℕ → ℕ → Bool
+lies_in (call.DataDestroy other ipa) rd width = rd == other && nat_lt ipa (2 ^ (width - 1))
+lies_in (call.RttInitRipas other base top) rd width = rd == other && nat_le top (2 ^ (width - 1))
+lies_in _ rd width = false
+
+abbrev pub is_refused_with : ℕ → Reply → Bool
+is_refused_with asked (reply.Ok words) = false
+is_refused_with asked (reply.Err status index) = status == asked
+is_refused_with asked reply.Misplaced = false
+
+-- whether it sets the RIPAS from the address on
+unfoldable pub sets_from : Call → ℕ → ℕ → Bool
+sets_from (call.RttInitRipas other base top) rd ipa = rd == other && is_one_entry ipa base
+sets_from _ rd ipa = false
+
+-- whether such a reply isn't given where the fact holds
+abbrev pub denies : Fact → Call → Reply → Bool
+denies (NewRealm rd) c given = is_refused_with 2 given && needs_new c rd
+denies (Tagged granule tag) c given =
+    (shows_names given && needs_other (named c) granule tag)
+    || (is_freed c given granule && not (is_tag tag Data) && not (is_tag tag Rtt))
+denies (Covered rd level ipa) c given = is_refused_above level given && goes_to (way_of c) rd level ipa
+denies (Wide rd width) c given = is_refused_with 1 given && all_allowed (words_of c) && lies_in c rd width
+denies (Unassigned rd ipa) c given = (is_accepted given && frees_entry c rd ipa) || (is_refused_with 4 given && sets_from c rd ipa)
+
+-- ---- in a history
+
+-- the call doesn't end the fact, whatever it is replied, if it returned without that
+abbrev pub IsLeftBy : Fact → List Event → ℕ → ℕ → Command → Type 0
+IsLeftBy fact events cpu number command = (given : Reply)
+    → ((returned : ℕ) (told : Reply) → IsReturned events returned cpu number told → told ≡ given) → may_end fact (call_of command) given ≡ false
+
+-- the call made at one place changes nothing, doesn't end the fact, or is the one that is made at another
+abbrev pub IsLeftAt : Fact → List Event → (place at cpu number : ℕ) → Command → Type 0
+IsLeftAt fact events place at cpu number command =
+    ChangesNothing events cpu number command ⊎ ((at ≡ place) ⊎ IsLeftBy fact events cpu number command)
+
+-- The fact holds wherever the call takes effect that is made at the place: it begins so, and no other call may end it, or one makes it before, and
+-- none that isn't before that one may end it.
+abbrev pub IsHeldAt : Fact → List Event → ℕ → Type 0
+IsHeldAt fact events place =
+    ((begins fact ≡ true) × ((at cpu number : ℕ) (command : Command) → IsCalled events at cpu number command
+    → IsLeftAt fact events place at cpu number command))
+    ⊎ ((maker : IsDoneBefore events place) × (makes fact (call_of maker.command) maker.given ≡ true)
+    × ((at cpu number : ℕ) (command : Command) → IsCalled events at cpu number command
+    → (at ≡ maker.called) ⊎ (IsBack events cpu number maker.called ⊎ IsLeftAt fact events place at cpu number command)))
