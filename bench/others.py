@@ -1,15 +1,17 @@
 #!/usr/bin/env python3
 """Gives rmmfind histories that generate.py doesn't draw, good ones and ones with a changed reply, and times it beside rmmcheck.
 
-usage: others.py [--find PATH] [--check PATH] [--seconds S] [--loads LOAD ..] [--lines COUNT ..] [SEED]
+usage: others.py [--find PATH] [--check PATH] [--seconds S] [--loads LOAD ..] [--lines COUNT ..] [--refusals] [SEED]
 
 Eight CPUs call all the time, on 4,096 granules. Under `few` they delegate and undelegate four granules. Under `late` they do so with all,
 and each return may be delayed by up to 64 events. Under `recs` one realm has a REC on each CPU, and these extend and read the same
 four registers. Under `parallel` all give pages to one new realm and set its RIPAS. A reply is changed at the beginning, in the
 middle or at the end; it may be right in another order. What was found is printed with the time, beside that of a check of a good history.
-The loads of generate.py can be named too.
+The loads of generate.py can be named too. With `--refusals`, of each function a call late in the history that was carried out is refused
+instead, once with each status; 200 events follow it.
 """
 import argparse
+import collections
 import os
 import random
 import subprocess
@@ -22,7 +24,7 @@ HERE = os.path.dirname(os.path.abspath(__file__))
 sys.path.append(os.path.join(HERE, "../tests"))
 from compare import changed_reply
 from functions import (DATA_CREATE, DATA_DESTROY, EXIT, GRANULE_DELEGATE, GRANULE_UNDELEGATE, MEASUREMENT_EXTEND, MEASUREMENT_READ,
-                       REALM_ACTIVATE, REALM_CREATE, REC_CREATE, REC_ENTER, RTT_CREATE, RTT_INIT_RIPAS)
+                       NAMES, REALM_ACTIVATE, REALM_CREATE, REC_CREATE, REC_ENTER, RTT_CREATE, RTT_INIT_RIPAS)
 from generate import run
 from lives import CPUS, GRANULES
 from loads import LOADS as DRAWN
@@ -154,6 +156,23 @@ def changed_at(history, place, draw):
     return changed
 
 
+def refusals(history):
+    """For each function the history in which the call in the middle of those of its last third is refused, by the refusal."""
+    calls, done = {}, collections.defaultdict(list)
+    for place, line in enumerate(history):
+        kind, *words = line.split()
+        if kind == "c":
+            calls[words[0], words[1]] = words[2]
+        elif kind == "r" and words[2] == "ok" and place > 2 * len(history) // 3:
+            done[calls[words[0], words[1]]].append(place)
+    for function, places in sorted(done.items()):
+        place = places[len(places) // 2]
+        _, cpu, number, *_ = history[place].split()
+        for reply in ("err 1 0", "err 2 0", "err 3 0", "err 4 3"):
+            refused = f"r {cpu} {number} {reply}"
+            yield f"{NAMES[function]} {reply}", [*history[:place], refused, *history[place + 1:place + 200]]
+
+
 def timed(command, seconds):
     start = time.time()
     try:
@@ -171,6 +190,7 @@ def main():
     parser.add_argument("--seconds", type=float, default=60)
     parser.add_argument("--loads", nargs="*", default=list(LOADS))
     parser.add_argument("--lines", type=int, nargs="*", default=[1000, 10000])
+    parser.add_argument("--refusals", action="store_true")
     parser.add_argument("seed", type=int, nargs="?", default=1)
     words = parser.parse_args()
     for load in words.loads:
@@ -179,11 +199,11 @@ def main():
             good = lines_of(load, count, draw)
             kinds = {"good": good, "beginning": changed_at(good, count // 10, draw), "middle": changed_at(good, count // 2, draw),
                      "end": changed_at(good, count - 1, draw)}
-            for kind, history in kinds.items():
+            for kind, history in refusals(good) if words.refusals else kinds.items():
                 with tempfile.NamedTemporaryFile("w", encoding="ascii", newline="\n", suffix=".history") as file:
                     file.write("".join(f"{line}\n" for line in history))
                     file.flush()
-                    print(f"{load:9} {count:8} {kind:10} {timed([words.find, file.name], words.seconds)}", flush=True)
+                    print(f"{load:9} {count:8} {kind:{32 if words.refusals else 10}} {timed([words.find, file.name], words.seconds)}", flush=True)
 
 
 if __name__ == "__main__":

@@ -6,7 +6,7 @@ use Rattle.rmm_spec.specs.Run.{JournalEntry, IsRun}
 use Rattle.rmm_spec.specs.Linearization.{AreEntriesOf, IsNamed, IsOfItsKind, IsReplyOf, IsTooLate, NamesCall}
 use Rattle.rmm_laws.proofs.StepLaws.{step-decides}
 use Rattle.spec_lemmas.proofs.Calls.{HasOnePlaces, SameEntries, same_entry}
-use Rattle.lemmas.proofs.Elements.{slice_get-take, take-next_at}
+use Rattle.lemmas.proofs.Elements.{slice_get-front, slice_get-take, take-next_at}
 use Rattle.checker.proofs.Faults.{IsRefused-from_step}
 use Rattle.checker.proofs.Judging.{HasOnePlaces-from_history}
 use Rattle.checker.proofs.Progress.{Passes-push}
@@ -44,14 +44,6 @@ same_state history is_history lines last other passes also =
     passes.run.claimed passes.run.run also.run.claimed also.run.run
 
 -- ---- one line more
-
--- an element below the count is one of the front
-pub slice_get-front : {X : Type 0} (count : ℕ) (xs : List X) (i : ℕ) (x : X)
-    → i < count → slice_get xs i ≡ Some x → slice_get (take count xs) i ≡ Some x
-slice_get-front zero xs i x below is = absurd (let bad : ⊥ = omega (arith, below) in bad)
-slice_get-front (suc count) [] i x below is = is
-slice_get-front (suc count) (y ∷ xs) zero x below is = is
-slice_get-front (suc count) (y ∷ xs) (suc i) x below is = slice_get-front count xs i x (omega (arith, below)) is
 
 -- a front of a front
 pub take-front : {X : Type 0} (n count : ℕ) (xs : List X) → n ≤ count → take n (take count xs) ≡ take n xs

@@ -27,12 +27,12 @@ pub struct GranulePlaces {
     ghost left: { made + unmade starts.items ≡ length starts.items },
 }
 
-ghost use Rattle.std.specs.Prelude.{◌≡◌, ℕ, ◌+◌, ◌*◌, ◌≤◌, ◌<◌, IfOk, IsTrue, length, replicate, slice_index_or};
+ghost use Rattle.std.specs.Prelude.{◌≡◌, ℕ, ◌+◌, ◌*◌, ◌≤◌, ◌<◌, IfOk, length, replicate, slice_index_or};
 ghost use Rattle.granule_places.specs.Unmade.{unmade};
 
 #[tactic(auto, unfolding(crate::specs::Placed::count_in, crate::specs::Placed::room_in))]
 impl GranulePlaces {
-    ghost use Rattle.std.specs.Prelude.{◌≡◌, ◌<◌, ◌≤◌, IfOk, None, Some, IsTrue, slice_index_or};
+    ghost use Rattle.std.specs.Prelude.{◌≡◌, ◌<◌, ◌≤◌, IfOk, None, Some, slice_index_or};
     ghost use Rattle.granule_places.specs.Placed.{place_in, count_in, room_in, IsFurther};
 
     /// The places of so many granules.
@@ -151,19 +151,6 @@ impl GranulePlaces {
             made: self.made,
         })
     }
-
-    /// Whether each granule has the same place.
-    pub fn is_same(&self, other: &GranulePlaces) -> bool
-        ensures { IsTrue result → place_in self.now ≡ place_in other.now }
-    {
-        if self.granules != other.granules {
-            return false;
-        }
-        if self.near != other.near {
-            return false;
-        }
-        are_same(self.starts.as_slice(), other.starts.as_slice())
-    }
 }
 
 // How many of so many granules have a place from the start.
@@ -187,10 +174,4 @@ fn copied(alloc: Global, starts: &[u32]) -> Result<Vec<u32>, AllocError>
     let mut copy = vec![in alloc; 0; starts.len()]?;
     copy.copy_from_slice(starts);
     Ok(copy)
-}
-
-fn are_same(one: &[u32], other: &[u32]) -> bool
-    ensures { IsTrue result → one.now ≡ other.now }
-{
-    one == other
 }

@@ -4,9 +4,8 @@ use crate::calls::{CPUS, OpenCall, command_at, is_look, is_never, never, reply_o
 use crate::open_calls::OpenCalls;
 use crate::registers::{Registers, Use};
 use crate::steps::{Checkpoint, Step, copied_checkpoint};
-use history::History;
+use history::{EventRef, History};
 use rmi_view::CommandRef;
-use rmm_spec::Event;
 use spec_machine::Machine;
 use std::alloc::{AllocError, Global};
 
@@ -57,19 +56,19 @@ impl Draft {
         alloc: Global,
         history: &History,
         place: usize,
-        event: &Event,
+        event: EventRef<'_>,
     ) -> Result<bool, AllocError> {
         match event {
-            Event::Called {
+            EventRef::Called {
                 cpu,
                 number,
                 command,
             } => {
-                self.take_call(history, place, *cpu, *number, CommandRef::of(command))?;
+                self.take_call(history, place, cpu, number, command)?;
                 Ok(true)
             }
-            Event::Returned { cpu, .. } => {
-                self.take_return(alloc, history, usize::from(*cpu), place)
+            EventRef::Returned { cpu, .. } => {
+                self.take_return(alloc, history, usize::from(cpu), place)
             }
         }
     }
@@ -140,7 +139,7 @@ impl Draft {
             if !self.place_earlier(alloc, history, cpu)? {
                 return Ok(false);
             }
-            self.place_looks(history, place)?;
+            self.place_looks(history, cpu, place)?;
         }
         self.close(cpu)?;
         Ok(true)
@@ -172,7 +171,7 @@ impl Draft {
         place: usize,
     ) -> Result<bool, AllocError> {
         if self.place_call(history, cpu, place)? {
-            self.place_looks(history, place)?;
+            self.place_looks(history, cpu, place)?;
             return Ok(true);
         }
         for related in [true, false] {
@@ -222,11 +221,11 @@ impl Draft {
         if !self.place_call(history, first, place)? {
             return Ok(false);
         }
-        self.place_looks(history, place)?;
+        self.place_looks(history, first, place)?;
         if self.open.waits(cpu) && !self.place_call(history, cpu, place)? {
             return Ok(false);
         }
-        self.place_looks(history, place)?;
+        self.place_looks(history, cpu, place)?;
         Ok(true)
     }
 
@@ -244,9 +243,14 @@ impl Draft {
         command_at(history, call.called as usize)
     }
 
-    // Puts in each open call that changes nothing and is given its reply now.
-    fn place_looks(&mut self, history: &History, place: usize) -> Result<(), AllocError> {
-        if !self.open.has_looks() {
+    // Puts in each open call that changes nothing and is given its reply now, after a CPU's call that may have changed something.
+    fn place_looks(
+        &mut self,
+        history: &History,
+        after: usize,
+        place: usize,
+    ) -> Result<(), AllocError> {
+        if !self.open.has_looks() || self.open.is_look(after) {
             return Ok(());
         }
         for cpu in 0..CPUS {

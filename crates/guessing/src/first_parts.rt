@@ -4,7 +4,7 @@ use crate::draft::Draft;
 use crate::guessed::{DraftSoFar, drafted};
 use crate::solving::order_found;
 use crate::tries::Tries;
-use history::History;
+use history::{EventRef, History};
 use std::alloc::{AllocError, Global};
 use std::cmp::min;
 
@@ -63,7 +63,7 @@ impl<'h> FirstParts<'h> {
         let mut draft = self.draft.copy(alloc, until)?;
         for place in self.from..min(count, self.history.len()) {
             let event = self.history.event(place);
-            if !draft.take(alloc, self.history, place, &event)? {
+            if !draft.take(alloc, self.history, place, EventRef::of(&event))? {
                 return Ok(false);
             }
         }

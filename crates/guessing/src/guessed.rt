@@ -58,7 +58,7 @@ pub(crate) fn drafted(
         let Some(event) = events.next() else {
             break;
         };
-        if !draft.take(alloc, history, place, &event.to_event())? {
+        if !draft.take(alloc, history, place, event)? {
             unexplained = u32::try_from(place).ok();
             break;
         }

@@ -74,7 +74,7 @@ impl Draft {
             return Ok(false);
         }
         self.machine = machine;
-        self.note(placing, first.saturating_add(index), next.at as usize)?;
+        self.note(&placing, first.saturating_add(index), next.at as usize)?;
         Ok(true)
     }
 

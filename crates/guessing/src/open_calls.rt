@@ -53,6 +53,14 @@ impl OpenCalls {
         self.looks > 0
     }
 
+    /// Whether the CPU's open call changes nothing.
+    pub(crate) fn is_look(&self, cpu: usize) -> bool {
+        match self.calls.get(cpu) {
+            Some(Some(call)) => call.is_look,
+            _ => false,
+        }
+    }
+
     /// Whether the CPU has an open call that doesn't stand in the order.
     pub(crate) fn waits(&self, cpu: usize) -> bool {
         match self.calls.get(cpu) {

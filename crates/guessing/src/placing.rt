@@ -50,7 +50,7 @@ impl Draft {
             return Ok(false);
         }
         let index = self.steps.len();
-        self.note(placing, index, place)?;
+        self.note(&placing, index, place)?;
         Ok(true)
     }
 
@@ -76,7 +76,7 @@ impl Draft {
     /// Notes that the call stands in the order, where it was put in at the place and comes before the step of that index.
     pub(crate) fn note(
         &mut self,
-        placing: Placing<'_>,
+        placing: &Placing<'_>,
         index: usize,
         place: usize,
     ) -> Result<(), AllocError> {
@@ -85,7 +85,7 @@ impl Draft {
             command,
             reply,
             register,
-        } = placing;
+        } = *placing;
         self.open.put(OpenCall {
             is_placed: true,
             register,

@@ -18,6 +18,7 @@ mod reader;
 mod reading;
 mod subhistory;
 
+pub use event_ref::EventRef;
 pub use events::Events;
 pub use fault::HistoryFault;
 pub use history::{Answer, Call, History, MOST_LINES, Places};

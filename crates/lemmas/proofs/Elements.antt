@@ -19,6 +19,13 @@ slice_get-take (suc n) [] i x is = absurd (none-some x is)
 slice_get-take (suc n) (y ∷ xs) zero x is = (omega arith, is)
 slice_get-take (suc n) (y ∷ xs) (suc i) x is = let rest = slice_get-take n xs i x is in (omega (arith, rest.0), rest.1)
 
+-- an element before a front's end is one of the front
+pub slice_get-front : {X : Type 0} (n : ℕ) (xs : List X) (i : ℕ) (x : X) → i < n → slice_get xs i ≡ Some x → slice_get (take n xs) i ≡ Some x
+slice_get-front zero xs i x below is = absurd (omega (arith, below))
+slice_get-front (suc n) [] i x below is = is
+slice_get-front (suc n) (y ∷ xs) zero x below is = is
+slice_get-front (suc n) (y ∷ xs) (suc i) x below is = slice_get-front n xs i x (omega (arith, below)) is
+
 -- the front with one more element
 take-suc_at : {X : Type 0} (xs : List X) (i : ℕ) (x : X) → slice_get xs i ≡ Some x → take (suc i) xs ≡ take i xs ++ x ∷ []
 take-suc_at [] i x is = absurd (none-some x is)

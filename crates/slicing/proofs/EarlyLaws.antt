@@ -8,10 +8,9 @@ use Rattle.rmm_spec.specs.declared.event.Event.TheVariants.{Called, Returned}
 use Rattle.rmm_spec.specs.declared.reply.Reply.{Reply}
 use Rattle.rmm_spec.specs.HistoryText.{History, IsHistory, cpu_of, rank}
 use Rattle.rmm_spec.specs.Linearization.{IsCalled, IsReturned}
-use Rattle.lemmas.proofs.Elements.{slice_get-take}
+use Rattle.lemmas.proofs.Elements.{slice_get-front, slice_get-take}
 use Rattle.spec_lemmas.proofs.Places.{IsFinished-below, IsKnown-below, below-IsFinished, below-IsKnown, length-subhistory_of-lt, rank-slice_get}
 use Rattle.verdict_laws.specs.Slices.{IsBack}
-use Rattle.slicing.proofs.FirstEvents.{slice_get-front}
 
 module _ (history : History) (is_history : IsHistory history) where
   -- of two events of a CPU, the one of the lower rank doesn't come behind the other

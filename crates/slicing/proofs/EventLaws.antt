@@ -3,14 +3,13 @@ use Rattle.std.proofs.Common.{◌≡◌, ℕ, ◌+◌, ◌<◌, ◌≤◌, suc, 
 use Rattle.std.proofs.lemmas.List.{append-nil, length-take, take_all}
 use Rattle.std.proofs.lemmas.Option.{slice_get_cases, slice_get_within}
 use Rattle.std.specs.List.{slice_get}
-use Rattle.lemmas.proofs.Elements.{take-next_at}
+use Rattle.lemmas.proofs.Elements.{slice_get-front, take-next_at}
 use Rattle.rmm_spec.specs.declared.event.Event.{Event}
 use Rattle.rmm_spec.specs.declared.event.Event.TheVariants.{Called, Returned}
 use Rattle.rmm_spec.specs.Rows.{ok}
 use Rattle.verdict_laws.specs.Slices.{delegation, events_from, lending_events, numbered, with_number}
 use Rattle.slicing.specs.declared.plan.Plan.{Plan}
 use Rattle.slicing.specs.Plans.{number_at}
-use Rattle.slicing.proofs.FirstEvents.{slice_get-front}
 use Rattle.slicing.proofs.PlanLaws.{number_at-before}
 
 -- a front up to an element has so many

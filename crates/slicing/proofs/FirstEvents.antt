@@ -1,20 +1,11 @@
 -- The first events of a history, so many.
-use Rattle.std.proofs.Common.{◌≡◌, ℕ, zero, suc, ◌<◌, ◌≤◌, List, [], ◌∷◌, Some, take, arith}
-use Rattle.std.specs.List.{slice_get}
+use Rattle.std.proofs.Common.{ℕ, ◌≤◌, take, arith}
 use Rattle.rmm_spec.specs.declared.event.Event.TheVariants.{Returned}
 use Rattle.rmm_spec.specs.declared.reply.Reply.{Reply}
 use Rattle.rmm_spec.specs.HistoryText.{History, IsHistory}
 use Rattle.rmm_spec.specs.Linearization.{IsReturned, IsFinished}
 use Rattle.lemmas.proofs.Elements.{slice_get-take}
 use Rattle.spec_lemmas.proofs.Places.{one_return_place}
-
--- an element before a front's end is one of the front
-pub slice_get-front : {X : Type 0} (count : ℕ) (xs : List X) (i : ℕ) (x : X) → i < count → slice_get xs i ≡ Some x
-    → slice_get (take count xs) i ≡ Some x
-slice_get-front zero xs i x before is = absurd (omega (arith, before))
-slice_get-front (suc count) [] i x before is = is
-slice_get-front (suc count) (y ∷ xs) zero x before is = is
-slice_get-front (suc count) (y ∷ xs) (suc i) x before is = slice_get-front count xs i x (omega (arith, before)) is
 
 -- a call that returns behind the first events isn't finished among them
 pub unfinished_to : (history : History) → IsHistory history → (count cpu number place : ℕ)

@@ -1,5 +1,5 @@
 -- What is looked at of a call.
-use Rattle.std.specs.Prelude.{◌≡◌, ℕ, ◌+◌, ◌⊎◌, true, false, List, MatchOption, Option, Some, None, IfSome, take}
+use Rattle.std.specs.Prelude.{◌≡◌, ℕ, ◌+◌, ◌<◌, ◌⊎◌, true, false, List, MatchOption, Option, Some, None, IfSome, take}
 use Rattle.rmi_view.specs.Seen.{reply_seen}
 use Rattle.rmm_spec.specs.declared.command.Command.{Command}
 use Rattle.rmm_spec.specs.declared.event.Event.{Event}
@@ -7,7 +7,7 @@ use Rattle.rmm_spec.specs.Call.{call_of}
 use Rattle.rmm_spec.specs.Linearization.{IsCalled, IsFinished, IsReturned}
 use Rattle.rmm_spec.specs.Ownership.{is_accepted}
 use Rattle.verdict_laws.specs.Looking.{is_looking_function}
-use Rattle.verdict_laws.specs.Slices.{shows_names}
+use Rattle.verdict_laws.specs.Slices.{IsBack, shows_names}
 use Rattle.slicing.specs.declared.call_at.Answer.{Answer}
 use Rattle.slicing.specs.declared.call_at.CallAt.{CallAt}
 use Rattle.slicing.specs.declared.last_return.LastReturn.{LastReturn}
@@ -15,6 +15,11 @@ use Rattle.slicing.specs.declared.last_return.LastReturn.{LastReturn}
 -- the first events, so many
 abbrev pub events_to : ℕ → List Event → List Event
 events_to count events = take count events
+
+-- each call that was made before one place returned before another
+abbrev pub AreBack : List Event → ℕ → ℕ → Type 0
+AreBack events from first = (place cpu number : ℕ) (command : Command) → IsCalled events place cpu number command → place < from
+    → IsBack events cpu number first
 
 -- the call returned so, or not at all
 abbrev pub HasAnswer : List Event → ℕ → ℕ → Option Answer → Type 0

@@ -11,7 +11,7 @@ use Rattle.rmm_spec.specs.Step.Terms.{named}
 use Rattle.verdict_laws.specs.Slices as slices
 use Rattle.slicing.specs.declared.call_at.CallAt.{CallAt}
 use Rattle.slicing.specs.declared.plan.Plan.{Plan}
-use Rattle.slicing.specs.Calls.{ChangesNothing, IsCall, ShowsNames, back_of}
+use Rattle.slicing.specs.Calls.{AreBack, ChangesNothing, IsCall, ShowsNames, back_of}
 use Rattle.slicing.specs.Plans.{AreNoted, entered_at, mark_of, number_at}
 
 -- ---- kept calls
@@ -30,8 +30,7 @@ IsFreshTo plan c n = AreNoted plan → (n.tag ≡ slices.unused_tag (slices.is_l
 
 -- each call that was made before the plan's first place returned before each kept call was made, and what it stands on
 abbrev pub AreEarly : List Event → Plan → Type 0
-AreEarly events plan = (place cpu number : ℕ) (command : Command) → IsCalled events place cpu number command → place < plan.from
-    → slices.IsBack events cpu number plan.first
+AreEarly events plan = AreBack events plan.from plan.first
 
 -- at the place of the call the granule is unused as the plan has it, unless a kept call has changed it
 abbrev pub IsUnusedTo : List Event → Plan → CallAt → ℕ → Type 0

@@ -8,7 +8,7 @@ ghost use Rattle.slicing.specs.Cuts.{CallFits, ChangesLater, EventFits, FitsNumb
 ghost use Rattle.slicing.specs.Plans.{AreNoted, entered_at, mark_of, number_at};
 
 use crate::call_at::{CallAt, call_at};
-use crate::early::are_early;
+use crate::early::are_back;
 use crate::entered::is_entered;
 use crate::kinds::{changeable, changes, goes_by_names, is_hosts};
 use crate::plan::Plan;
@@ -26,7 +26,9 @@ pub(crate) fn is_cut(history: &History, count: u32, plan: &Plan) -> bool
         (number_at plan.now) plan.now.lent.items (entered_at plan.now) }
 {
     let _fact = history.well_formed();
-    are_lent(history, plan) && are_early(history, count, plan) && events_fit(history, count, plan)
+    are_lent(history, plan)
+        && are_back(history, count, plan.from, plan.first)
+        && events_fit(history, count, plan)
 }
 
 /// Whether each event from the plan's first place on fits.

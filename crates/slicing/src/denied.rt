@@ -1,7 +1,7 @@
 //! Whether a reply is denied by what calls made before: nothing else may have ended it since.
 
-ghost use Rattle.std.specs.Prelude.{◌<◌, ◌≤◌, ℕ, [], length, IfSome, IsTrue};
-ghost use Rattle.slicing.specs.Calls.{IsLastReturn, events_to};
+ghost use Rattle.std.specs.Prelude.{◌<◌, ◌≡◌, ◌≤◌, ℕ, [], length, IfNone, IfSome, IsTrue};
+ghost use Rattle.slicing.specs.Calls.{AreBack, IsLastReturn, events_to};
 ghost use Rattle.slicing.specs.Facts.{IsLeftOrEarly, LeavesAt};
 ghost use Rattle.verdict_laws.specs.Facts as laws;
 ghost use Rattle.verdict_laws.specs.Order.{LeadsNowhere};
@@ -10,10 +10,11 @@ ghost use Rattle.verdict_laws.specs.Parts.{first_part};
 use crate::call_at::{CallAt, call_at};
 use crate::denying::denies;
 use crate::done::{done_before, is_no_later};
+use crate::early::{are_back, open_from};
 use crate::ending::is_left;
 use crate::last_return::{LastReturn, last_return};
 use crate::making::{begins, makes};
-use crate::supposing::{maker_before, supposed, supposed_entry, supposed_tag};
+use crate::supposing::{maker_before, supposed, supposed_entry, supposed_page, supposed_tag};
 use history::History;
 use verdict_laws::{Fact, nowhere_denied};
 
@@ -27,6 +28,7 @@ pub fn is_denied(history: &History, count: u32) -> bool
     is_denied_by(history, count, &last, supposed(history, count, &last))
         || is_denied_by(history, count, &last, supposed_entry(&last))
         || is_denied_by(history, count, &last, supposed_tag(history, count, &last))
+        || is_denied_by(history, count, &last, supposed_page(history, count, &last))
 }
 
 /// Whether the reply denies the fact, where one is supposed, and this holds.
@@ -77,12 +79,29 @@ fn are_left(history: &History, count: u32, place: u32, fact: Fact, maker: Option
     requires { count ≤ length history.now.recorded.events }
     ensures { IsTrue result → (at : ℕ) → IsLeftOrEarly fact (events_to count history.now.recorded.events) place maker at }
 {
-    for at in 0..count {
+    for at in looked_from(history, count, maker)..count {
         if !is_left_or_early(history, count, place, fact, maker, at) {
             return false;
         }
     }
     true
+}
+
+/// A place before which each call that was made returned before the one that makes the fact.
+fn looked_from(history: &History, count: u32, maker: Option<u32>) -> u32
+    requires { count ≤ length history.now.recorded.events }
+    ensures made { IfSome maker (AreBack (events_to count history.now.recorded.events) result) }
+    ensures none { IfNone maker (result ≡ 0) }
+{
+    let Some(maker) = maker else {
+        return 0;
+    };
+    let from = open_from(history, maker);
+    if are_back(history, count, from, maker) {
+        from
+    } else {
+        0
+    }
 }
 
 /// Whether the call that is made at a place, if one is, is such.

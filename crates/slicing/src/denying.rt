@@ -4,7 +4,7 @@ ghost use Rattle.std.specs.Prelude.{◌≡◌, true, IsTrue};
 ghost use Rattle.rmi_view.specs.Seen.{reply_seen};
 ghost use Rattle.rmm_spec.specs.Step.Terms.{way_of};
 ghost use Rattle.verdict_laws.specs.Facts as laws;
-ghost use Rattle.verdict_laws.specs.declared.facts.Fact.TheVariants.{Tagged};
+ghost use Rattle.verdict_laws.specs.declared.facts.Fact.TheVariants.{Assigned, Tagged};
 
 use crate::call_at::shows_names;
 use crate::given_back::freed;
@@ -33,6 +33,7 @@ pub(crate) fn denies(fact: Fact, call: &Call, reply: ReplyRef<'_>) -> bool
             ReplyRef::Err(4, _) => sets_from(call, rd, ipa),
             _ => false,
         },
+        Fact::Assigned { rd, ipa, page } => denies_page(call, reply, rd, ipa, page),
     }
 }
 
@@ -88,6 +89,21 @@ fn denies_tag(call: &Call, reply: ReplyRef<'_>, granule: u64, tag: Tag) -> bool
     let is_page = is_tag(tag, Tag::Data) || is_tag(tag, Tag::Rtt);
     shows_names(reply) && needs_other(named(call).as_slice(), granule, tag)
         || freed(call, reply) == Some(granule) && !is_page
+}
+
+/// Whether the reply shows that the page is none, or it isn't the one that is taken back from its address.
+fn denies_page(call: &Call, reply: ReplyRef<'_>, rd: u64, ipa: u64, page: u64) -> bool
+    ensures { IsTrue result → laws.denies (Assigned rd ipa page) call.now (reply_seen reply.entry) ≡ true }
+{
+    if shows_names(reply) && needs_other(named(call).as_slice(), page, Tag::Data) {
+        return true;
+    }
+    frees_entry(call, rd, ipa)
+        && match reply {
+            ReplyRef::Ok(_) => freed(call, reply) != Some(page),
+            ReplyRef::Err(status, _) => status == 4,
+            ReplyRef::Misplaced => false,
+        }
 }
 
 /// Whether one of these needs another tag of the granule.

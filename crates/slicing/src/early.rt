@@ -1,26 +1,25 @@
-//! Calls that were made before a plan's first place.
+//! Calls that were made before a place, and returned before another.
 
 ghost use Rattle.std.specs.Prelude.{◌≡◌, ◌<◌, ◌≤◌, ℕ, false, length, IsTrue};
 ghost use Rattle.rmm_spec.specs.declared.command.Command.{Command};
 ghost use Rattle.rmm_spec.specs.Linearization.{IsCalled};
 ghost use Rattle.verdict_laws.specs.Slices.{IsBack};
-ghost use Rattle.slicing.specs.Calls.{events_to};
-ghost use Rattle.slicing.specs.Cuts.{AreEarly};
+ghost use Rattle.slicing.specs.Calls.{AreBack, events_to};
 
-use crate::plan::Plan;
-use history::History;
+use history::{History, Places};
+use std::cmp::min;
 
 /// How often the calls of a CPU are halved to find one of a million.
 const HALVES: u32 = 20;
 
-/// Whether each call that was made before the plan's first place returned before each kept call was made.
-pub(crate) fn are_early(history: &History, count: u32, plan: &Plan) -> bool
+/// Whether each call that was made before one place returned before another.
+pub(crate) fn are_back(history: &History, count: u32, from: u32, first: u32) -> bool
     requires { count ≤ length history.now.recorded.events }
-    ensures { IsTrue result → AreEarly (events_to count history.now.recorded.events) plan.now }
+    ensures { IsTrue result → AreBack (events_to count history.now.recorded.events) from first }
 {
     let _fact = history.well_formed();
     for cpu in 0..history.config().cpus() {
-        if !is_early(history, count, plan, cpu) {
+        if !is_back(history, count, from, first, cpu) {
             return false;
         }
     }
@@ -28,15 +27,15 @@ pub(crate) fn are_early(history: &History, count: u32, plan: &Plan) -> bool
 }
 
 /// Whether each call of a CPU is so: the last of them is.
-fn is_early(history: &History, count: u32, plan: &Plan, cpu: u8) -> bool
+fn is_back(history: &History, count: u32, from: u32, first: u32, cpu: u8) -> bool
     requires { count ≤ length history.now.recorded.events }
     ensures { IsTrue result → (place number : ℕ) (command : Command)
-        → IsCalled (events_to count history.now.recorded.events) place cpu number command → place < plan.now.from
-        → IsBack (events_to count history.now.recorded.events) cpu number plan.now.first }
+        → IsCalled (events_to count history.now.recorded.events) place cpu number command → place < from
+        → IsBack (events_to count history.now.recorded.events) cpu number first }
 {
     let _fact = history.well_formed();
-    let made = calls_before(history, cpu, plan.from);
-    if is_made_before(history, cpu, made, plan.from) {
+    let made = calls_before(history, cpu, from);
+    if is_made_before(history, cpu, made, from) {
         return false;
     }
     let Some(last) = made.checked_sub(1) else {
@@ -44,10 +43,33 @@ fn is_early(history: &History, count: u32, plan: &Plan, cpu: u8) -> bool
     };
     match history.places_of(cpu, last) {
         Some(places) => match places.returned {
-            Some(returned) => returned < plan.first && returned < count,
+            Some(returned) => returned < first && returned < count,
             None => false,
         },
         None => false,
+    }
+}
+
+/// A place before which each call that was made returned before the place: where the first of the calls was made that are open there.
+pub(crate) fn open_from(history: &History, place: u32) -> u32 {
+    let mut from = place;
+    for cpu in 0..history.config().cpus() {
+        from = min(from, open_call(history, cpu, place));
+    }
+    from
+}
+
+/// Where the CPU's call was made that is open at the place, or the place where none is.
+fn open_call(history: &History, cpu: u8, place: u32) -> u32 {
+    let Some(last) = calls_before(history, cpu, place).checked_sub(1) else {
+        return place;
+    };
+    match history.places_of(cpu, last) {
+        Some(Places { called, returned }) => match returned {
+            Some(returned) if returned < place => place,
+            _ => called,
+        },
+        None => place,
     }
 }
 

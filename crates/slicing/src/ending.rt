@@ -9,7 +9,7 @@ ghost use Rattle.verdict_laws.specs.declared.facts.Fact.TheVariants.{Tagged};
 use crate::call_at::CallAt;
 use crate::given_back::freed;
 use crate::kinds::changeable;
-use crate::making::{is_one_entry, is_one_table};
+use crate::making::{frees_entry, is_one_entry, is_one_table};
 use command_words::{Name, is_tag};
 use rmm_spec::{Call, Tag};
 use verdict_laws::Fact;
@@ -24,6 +24,9 @@ pub(crate) fn is_left(fact: Fact, call: &CallAt<'_>) -> bool
         Fact::Covered { rd, level, ipa } => !may_uncover(&call.call, rd, level, ipa),
         Fact::Wide { rd, .. } => !may_narrow(&call.call, rd),
         Fact::Unassigned { rd, ipa } => !may_assign(&call.call, rd, ipa),
+        Fact::Assigned { rd, ipa, .. } => {
+            !may_assign(&call.call, rd, ipa) && !frees_entry(&call.call, rd, ipa)
+        }
     }
 }
 

@@ -1,10 +1,11 @@
 //! What calls make of facts.
 
-ghost use Rattle.std.specs.Prelude.{◌≡◌};
+ghost use Rattle.std.specs.Prelude.{◌≡◌, ◌^◌, ◌&&◌, nat_lt};
 ghost use Rattle.rmi_view.specs.Seen.{reply_seen};
 ghost use Rattle.verdict_laws.specs.Facts as laws;
 
 use crate::given_back::leaves_unused;
+use crate::replying::SMALLEST_HALF;
 use command_words::is_tag;
 use memory_map::{entry_number, table_number};
 use rmi_view::ReplyRef;
@@ -18,7 +19,10 @@ pub(crate) fn begins(fact: Fact) -> bool
     match fact {
         Fact::NewRealm { .. } => true,
         Fact::Tagged { tag, .. } => is_tag(Tag::Undelegated, tag),
-        Fact::Covered { .. } | Fact::Wide { .. } | Fact::Unassigned { .. } => false,
+        Fact::Covered { .. }
+        | Fact::Wide { .. }
+        | Fact::Unassigned { .. }
+        | Fact::Assigned { .. } => false,
     }
 }
 
@@ -31,7 +35,8 @@ pub(crate) fn makes(fact: Fact, call: &Call, reply: ReplyRef<'_>) -> bool
         Fact::Tagged { granule, tag } => tags(call, reply, granule, tag),
         Fact::Covered { rd, level, ipa } => makes_table(call, rd, level, ipa),
         Fact::Wide { rd, width } => makes_wide(call, rd, width),
-        Fact::Unassigned { rd, ipa } => frees_entry(call, rd, ipa),
+        Fact::Unassigned { rd, ipa } => frees_entry(call, rd, ipa) || begins_entry(call, rd, ipa),
+        Fact::Assigned { rd, ipa, page } => gives_entry(call, rd, ipa, page),
     }
 }
 
@@ -106,6 +111,34 @@ fn makes_wide(call: &Call, rd: u64, width: u64) -> bool
             width: its_width,
             ..
         } => rd == *other && width == *its_width,
+        _ => false,
+    }
+}
+
+/// Whether the call makes the table of the last level of an address which is protected in each realm.
+fn begins_entry(call: &Call, rd: u64, ipa: u64) -> bool
+    ensures { result ≡ (laws.makes_table call.now rd 3 ipa && nat_lt ipa (2 ^ 38)) }
+{
+    makes_table(call, rd, 3, ipa) && ipa < SMALLEST_HALF
+}
+
+/// Whether the call gives the page to the address.
+#[tactic(auto, unfolding(verdict_laws::specs::Facts::gives_entry))]
+fn gives_entry(call: &Call, rd: u64, ipa: u64, page: u64) -> bool
+    ensures { result ≡ laws.gives_entry call.now rd ipa page }
+{
+    match call {
+        Call::DataCreate {
+            rd: other,
+            granule,
+            ipa: at,
+            ..
+        }
+        | Call::DataCreateUnknown {
+            rd: other,
+            granule,
+            ipa: at,
+        } => rd == *other && is_one_entry(ipa, *at) && page == *granule,
         _ => false,
     }
 }

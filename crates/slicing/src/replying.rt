@@ -9,6 +9,9 @@ use command_words::{is_page, words_allow};
 use rmi_view::ReplyRef;
 use rmm_spec::Call;
 
+/// The addresses of the smallest realm's protected half: each realm has addresses of 39 bits at least.
+pub(crate) const SMALLEST_HALF: u64 = 1 << 38;
+
 /// Whether a call that is given may be replied so: where its own words aren't allowed it is refused for them.
 pub(crate) fn may_answer(call: &Call, reply: ReplyRef<'_>) -> bool
     ensures { result ≡ laws.may_answer call.now (reply_seen reply.entry) }
@@ -16,7 +19,9 @@ pub(crate) fn may_answer(call: &Call, reply: ReplyRef<'_>) -> bool
     match reply {
         ReplyRef::Ok(words) => words_allow(call) && gives(call, words),
         ReplyRef::Err(status, index) => {
-            status == 1 && index == 0 || words_allow(call) && refuses_with(call, status, index)
+            let is_allowed = words_allow(call);
+            status == 1 && index == 0 && (has_input_row(call) || !is_allowed)
+                || is_allowed && refuses_with(call, status, index)
         }
         ReplyRef::Misplaced => false,
     }
@@ -73,6 +78,25 @@ fn refuses_with(call: &Call, status: u8, index: u8) -> bool
         3 => index == 0 && has_rec_row(call),
         4 => has_row_at_level(call, index),
         _ => false,
+    }
+}
+
+/// Whether rows on what it finds may refuse the call as they do its own words.
+#[tactic(auto, unfolding(verdict_laws::specs::Replying::has_input_row))]
+fn has_input_row(call: &Call) -> bool
+    ensures { result ≡ laws.has_input_row call.now }
+{
+    match call {
+        Call::IpaStateSet { top, .. } => *top > SMALLEST_HALF,
+        Call::IpaStateGet { ipa } => *ipa >= SMALLEST_HALF,
+        Call::MeasurementRead { .. }
+        | Call::MeasurementExtend { .. }
+        | Call::RealmConfig
+        | Call::HostCall { .. }
+        | Call::CpuOff
+        | Call::SystemOff
+        | Call::Exit => false,
+        _ => true,
     }
 }
 

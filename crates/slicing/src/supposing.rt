@@ -32,6 +32,37 @@ pub(crate) fn supposed_entry(last: &LastReturn<'_>) -> Option<Fact> {
     }
 }
 
+/// The page of an entry that the reply denies, as the latest call says that gave it.
+pub(crate) fn supposed_page(history: &History, count: u32, last: &LastReturn<'_>) -> Option<Fact> {
+    for back in 1..last.called.saturating_add(1) {
+        let at = last.called.saturating_sub(back);
+        if let Some(fact) = page_given(history, count, last.called, at) {
+            if denies(fact, &last.call, last.reply) {
+                return Some(fact);
+            }
+        }
+    }
+    None
+}
+
+/// That an entry has a page, where the call that is made at one place gives it and returned before another.
+fn page_given(history: &History, count: u32, place: u32, at: u32) -> Option<Fact> {
+    match done_at(history, count, place, at)?.call {
+        Call::DataCreate {
+            rd,
+            granule,
+            ipa,
+            ..
+        }
+        | Call::DataCreateUnknown { rd, granule, ipa } => Some(Fact::Assigned {
+            rd,
+            ipa,
+            page: granule,
+        }),
+        _ => None,
+    }
+}
+
 /// What a refusal may deny of a realm or of its tables.
 pub(crate) fn supposed(history: &History, count: u32, last: &LastReturn<'_>) -> Option<Fact> {
     match last.reply {

@@ -18,7 +18,6 @@ pub mod Alike
 mod PlacedCells
 pub mod Slots
 pub mod BesideChanged
-pub mod KeptLists
 pub mod Memory
 pub mod Reached
 pub mod Machines

@@ -7,7 +7,6 @@ pub mod View
 pub mod Found
 pub mod Walks
 pub mod Searches
-pub mod Kept
 pub mod Memory
 pub mod Lending
 pub mod Offers

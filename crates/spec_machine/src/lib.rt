@@ -1,6 +1,6 @@
 //! The specification machine as a program: a cell for each granule, decided on by the rows of commands, and changed by what they accept.
 //! It promises to accept an offer exactly where the definitions have a step, unless memory is refused, and then to hold the next state.
-//! An offer that isn't accepted leaves the state as it was. Only `new`, made tables, copies, kept states and logs take memory.
+//! An offer that isn't accepted leaves the state as it was. Only `new`, made tables, copies and logs take memory.
 //! What a clause sees of it is `state_of`, a flat state that its cells stand for; tables are found by links, as a monitor finds them.
 //! The checker, the journal of commits and the search of orders depend on it.
 #![tactic(auto)]
@@ -11,7 +11,6 @@ mod change;
 mod copies;
 mod granules;
 mod inside;
-mod keeping;
 mod lending;
 mod logged;
 mod machine;
@@ -33,7 +32,6 @@ mod unmeasured;
 mod walks;
 
 pub use granule_cells::{Cell, CpuPlace, Side};
-pub use keeping::KeptState;
 pub use machine::Machine;
 pub use patch::Patch;
 pub use rmm_spec::{Accepted, Command, FunctionId, Reply};

@@ -6,28 +6,8 @@ ghost use Rattle.spec_machine.specs.Unmeasured.{unmeasured_realm};
 
 use crate::slot_list::SlotList;
 use granule_cells::{Cell, CellView};
-use memory_map::Config;
 use realm_desc::{HashAlgorithm, PendingExit, Realm, Rec, Rem, RipasRequest, Space};
-use rmm_spec::{Measurement, Version};
-
-/// Whether two machines have the same size and rules.
-pub(crate) fn same_config(one: &Config, other: &Config) -> bool
-    ensures { IsTrue result → one.now ≡ other.now }
-{
-    one.granules() == other.granules()
-        && one.cpus() == other.cpus()
-        && same_version(one.version(), other.version())
-}
-
-fn same_version(one: Version, other: Version) -> bool
-    ensures { IsTrue result → one ≡ other }
-{
-    match one {
-        Version::One => matches!(other, Version::One),
-        Version::Two => matches!(other, Version::Two),
-        Version::Large => matches!(other, Version::Large),
-    }
-}
+use rmm_spec::Measurement;
 
 impl SlotList {
     ghost use Rattle.std.specs.Prelude.{◌≡◌, ◌<◌, length, IsTrue};

@@ -3,7 +3,7 @@ use Rattle.std.proofs.Common.{◌≡◌, ℕ, zero, suc, ◌<◌, ◌≤◌, ◌
 use Rattle.std.specs.List.{slice_get}
 use Rattle.std.proofs.lemmas.Bool.{eqb-true, eq-eqb, cases_Bool, cases_lt}
 use Rattle.std.proofs.lemmas.Option.{none-some}
-use Rattle.lemmas.proofs.Elements.{slice_get-append, slice_get-take}
+use Rattle.lemmas.proofs.Elements.{slice_get-append, slice_get-front, slice_get-take}
 use Rattle.lemmas.proofs.Tests.{both_ways}
 use Rattle.rmm_spec.specs.declared.command.Command.{Command}
 use Rattle.rmm_spec.specs.declared.event.Event.{Event}
@@ -14,7 +14,6 @@ use Rattle.rmm_spec.specs.HistoryText.{History, IsHistory}
 use Rattle.rmm_spec.specs.Linearization.{IsCalled, IsReturned, IsFinished, NamesCall, cpu_named, number_named}
 use Rattle.verdict_laws.proofs.CallOrder.{call_before_return}
 use Rattle.verdict_laws.proofs.Moves.{Each, Pairs, Each-at}
-use Rattle.verdict_laws.proofs.OneFault.{slice_get-front}
 use Rattle.verdict_laws.proofs.Settled.{Apart}
 use Rattle.verdict_laws.specs.Parts.{first_part}
 use Rattle.verdict_laws.proofs.Steps.{apart_places}

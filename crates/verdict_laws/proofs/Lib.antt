@@ -82,6 +82,8 @@ pub mod RealmFacts
 pub mod TableFacts
 pub mod TagFacts
 pub mod WideFacts
+pub mod EntryChanges
 pub mod EntryFacts
+pub mod PageFacts
 pub mod FactKinds
 pub mod FactOrders

@@ -2,7 +2,7 @@
 use Rattle.std.proofs.Common.{◌≡◌, ℕ, zero, suc, ◌<◌, ◌⊎◌, inl, inr, List, [], ◌∷◌, take, Some, refl, sym, ◌∙◌, ap, subst, arith, ⊎_elim}
 use Rattle.std.specs.List.{slice_get}
 use Rattle.std.proofs.lemmas.Bool.{cases_order}
-use Rattle.std.proofs.lemmas.Option.{none-some, same_Some}
+use Rattle.std.proofs.lemmas.Option.{same_Some}
 use Rattle.rmm_spec.specs.declared.event.Event.{Event}
 use Rattle.rmm_spec.specs.declared.event.Event.TheVariants.{Called}
 use Rattle.rmm_spec.specs.declared.line.Line.{Line}
@@ -11,7 +11,7 @@ use Rattle.rmm_spec.specs.declared.verdict.Reason.TheVariants as reason
 use Rattle.rmm_spec.specs.HistoryText.{History}
 use Rattle.rmm_spec.specs.State.{State, opening}
 use Rattle.rmm_spec.specs.FirstFault.{Passes, FailsBy, FailsAt, IsFirstMissing, IsMissing, FirstFault}
-use Rattle.lemmas.proofs.Elements.{slice_get-take}
+use Rattle.lemmas.proofs.Elements.{slice_get-front, slice_get-take}
 use Rattle.spec_lemmas.proofs.Calls.{HasOnePlaces}
 use Rattle.rmm_laws.proofs.EntryRuns.{not-IsRefused}
 
@@ -66,13 +66,6 @@ not-FailsBy history one reason.Reply lines index line old last is before fails a
     not-IsRefused history.events one lines all.entries (opening history.config) last all.run.claimed all.run.run
     index line before.entries old is before.run.claimed before.run.run fails.4
 not-FailsBy history one (reason.Missing cpu number) lines index line old last is before fails all = fails
-
--- an element that isn't behind a front is one of the front
-pub slice_get-front : {X : Type 0} (n : ℕ) (xs : List X) (i : ℕ) (x : X) → i < n → slice_get xs i ≡ Some x → slice_get (take n xs) i ≡ Some x
-slice_get-front zero xs i x below is = absurd (omega (arith, below))
-slice_get-front (suc n) [] i x below is = absurd (none-some x is)
-slice_get-front (suc n) (y ∷ xs) zero x below is = is
-slice_get-front (suc n) (y ∷ xs) (suc i) x below is = slice_get-front n xs i x (omega (arith, below)) is
 
 -- the shorter front of a longer one
 take-front : {X : Type 0} (i n : ℕ) (xs : List X) → i < n → take i (take n xs) ≡ take i xs

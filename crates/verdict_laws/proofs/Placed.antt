@@ -144,7 +144,8 @@ may_be_replied-step s cpu command given new sound step = by (is_placed s cpu cla
         → may_be_replied (call_of command) (standing_of s cpu) given ≡ true
     by true is carried =
         may_be_replied-given (call_of command) (standing_of s cpu) given (sym is)
-        (may_answer-placed s cpu (call_of command) given new (step_sound s cpu command given new sound step) carried)
+        (may_answer-placed s cpu (call_of command) given new sound (is_placed-given s cpu class sound ∙ sym is)
+        (step_sound s cpu command given new sound step) carried)
     by false is carried = ap (may_be_replied (call_of command) (standing_of s cpu)) carried.0 ∙ ap not (sym is)
 
 -- ---- behind a change

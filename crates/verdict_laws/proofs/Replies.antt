@@ -1,8 +1,8 @@
 -- What a placed call is replied is what it may be in some state: a refusal for its words, or that of another row or the words of what it does.
-use Rattle.std.proofs.Common.{◌≡◌, ℕ, ◌+◌, ◌-◌, ◌*◌, ◌%◌, ◌^◌, ◌≤◌, ◌==◌, nat_le, Bool, true, false, if◌then◌else◌, List, [], ◌∷◌, Option, Some, refl, sym, ◌∙◌, ap, subst, arith, eq-eqb}
-use Rattle.std.specs.Prelude.{◌&&◌, Result, Err}
+use Rattle.std.proofs.Common.{◌≡◌, ℕ, ◌+◌, ◌-◌, ◌*◌, ◌%◌, ◌^◌, ◌≤◌, ◌==◌, nat_le, Bool, true, false, if◌then◌else◌, List, [], ◌∷◌, ◌⊎◌, inl, inr, Option, Some, IsTrue, refl, sym, ◌∙◌, ap, subst, arith, eq-eqb}
+use Rattle.std.specs.Prelude.{◌&&◌, ◌||◌, Result, Err}
 use Rattle.std.specs.List.{list_all}
-use Rattle.std.proofs.lemmas.Bool.{and_from, and_parts, le-leb, lt-ltb, true_from_ne_false}
+use Rattle.std.proofs.lemmas.Bool.{and_from, and_parts, cases_Bool, le-leb, leb-false, lt-ltb, ltb-false, not_from_false, or_cases, or_left, or_right, true_from_ne_false}
 use Rattle.std.proofs.Math.Nat.{mul-le-mul_left}
 use Rattle.std.proofs.lemmas.Nat.{pow-add}
 use Rattle.rmm_spec.specs.declared.accepted.Accepted.{Accepted}
@@ -10,6 +10,8 @@ use Rattle.rmm_spec.specs.declared.accepted.Accepted.TheVariants.{Done, Reaches}
 use Rattle.rmm_spec.specs.declared.accepted.Stretch.{Stretch}
 use Rattle.rmm_spec.specs.declared.call.Call.{Call}
 use Rattle.rmm_spec.specs.declared.call.Call.TheVariants as call
+use Rattle.rmm_spec.specs.declared.condition.Condition.{Condition}
+use Rattle.rmm_spec.specs.declared.condition.Condition.TheVariants.{IpaBound, RgnBound}
 use Rattle.rmm_spec.specs.declared.measurement.Measurement.{Measurement}
 use Rattle.rmm_spec.specs.declared.measurement.Measurement.TheVariants.{Sha256, Sha512}
 use Rattle.rmm_spec.specs.declared.refusal.Refusal.{Refusal}
@@ -17,53 +19,91 @@ use Rattle.rmm_spec.specs.declared.refusal.Refusal.TheVariants.{Input}
 use Rattle.rmm_spec.specs.declared.reply.Reply.{Reply}
 use Rattle.rmm_spec.specs.declared.tag.Tag.{Tag}
 use Rattle.rmm_spec.specs.declared.tag.Tag.TheVariants.{Undelegated, Delegated}
+use Rattle.rmm_spec.specs.Call.{ByRealm, class_of}
 use Rattle.rmm_spec.specs.Change.{changed}
-use Rattle.rmm_spec.specs.Lookup.{is_granule}
+use Rattle.rmm_spec.specs.Lookup.{is_granule, is_inside, realm_at, rec_at, rec_inside}
 use Rattle.rmm_spec.specs.Measure.{first_words, measurement_words}
-use Rattle.rmm_spec.specs.Rows.{Row, Word, all_allowed, decided, inputs, reply_of, tagged}
+use Rattle.rmm_spec.specs.Rows.{Row, Word, all_allowed, decided, input, input_error, inputs, reply_of, tagged}
 use Rattle.rmm_spec.specs.Sound.{IsSound}
-use Rattle.rmm_spec.specs.State.{Pending, Psci, Request, State}
-use Rattle.rmm_spec.specs.Step.{CarriesOut, answer_of}
+use Rattle.rmm_spec.specs.State.{Pending, Psci, RealmRecord, Request, State}
+use Rattle.rmm_spec.specs.Step.{CarriesOut, answer_of, is_placed}
 use Rattle.rmm_spec.specs.Step.RealmCall.{exit_words}
 use Rattle.rmm_spec.specs.Step.Ripas.{IsReached}
-use Rattle.rmm_spec.specs.Step.Terms.{is_page, named, words_of}
-use Rattle.rmm_spec.specs.Walk.{entry_address, entry_size, reach, walk}
+use Rattle.rmm_spec.specs.Step.Terms.{is_page, is_space, named, words_of}
+use Rattle.rmm_spec.specs.Walk.{entry_address, entry_size, half, reach, walk}
+use Rattle.lemmas.proofs.Tests.{both_ways}
+use Rattle.rmm_laws.proofs.Applies.{inside_running}
 use Rattle.rmm_laws.proofs.Cases.{at_itself}
-use Rattle.rmm_laws.proofs.Spaces.{entry_size-pos}
+use Rattle.rmm_laws.proofs.Searches.{realm_there}
+use Rattle.rmm_laws.proofs.Spaces.{entry_size-pos, space_cases}
 use Rattle.spec_lemmas.proofs.Behind.{behind}
 use Rattle.spec_lemmas.proofs.WalkLaws.{reach-le}
-use Rattle.verdict_laws.specs.Replying.{gives, has_rec_row, has_row_at_level, may_answer, may_end, realm_indices}
+use Rattle.verdict_laws.specs.Replying.{gives, has_input_row, has_rec_row, has_row_at_level, may_answer, may_end, realm_indices}
 
 -- ---- refusals
 
--- whether each of the rows refuses with what the call may be replied
+-- a call whose own words aren't all allowed may be refused for them
+may_answer-input_error : (c : Call) → all_allowed (words_of c) ≡ false → may_answer c input_error ≡ true
+may_answer-input_error c wrong = or_left _ _ (or_right (has_input_row c) _ (not_from_false _ wrong))
+
+-- whether each of the rows refuses with what the call may be replied, or holds
 abbrev refuse : Call → List Row → Bool
-refuse c rows = list_all (λ (r : Row). may_answer c (reply_of r.otherwise)) rows
+refuse c rows = list_all (λ (r : Row). may_answer c (reply_of r.otherwise) || r.holds) rows
+
+-- so does a row that refuses as words do, if it holds where the call has none such
+refuse-input : (c : Call) (condition : Condition) (holds : Bool) → (has_input_row c ≡ false → holds ≡ true)
+    → refuse c (input condition holds ∷ []) ≡ true
+refuse-input c condition holds near = elim (cases_Bool (has_input_row c)) [
+  | inl has ↦ rw has refl
+  | inr none ↦ and_from _ true (or_right _ holds (near none)) refl
+]
+
+-- a realm's protected half is of 2 ^ 38 addresses at least
+pub half-least : (r : RealmRecord) → IsTrue (is_space r.width r.start_level) → 2 ^ 38 ≤ half r
+half-least r space = elim (space_cases r.width r.start_level space) [
+  | inl small ↦ rw small.0 (omega arith)
+  | inr large ↦ rw large.0 (omega arith)
+]
+
+-- so it is with the realm whose call is placed
+inside_half : (s : State) (cpu : ℕ) → IsSound s → is_placed s cpu ByRealm ≡ true → 2 ^ 38 ≤ half (realm_at s (rec_at s (rec_inside s cpu)).owner)
+inside_half s cpu sound placed =
+    let rd = (rec_at s (rec_inside s cpu)).owner in
+    let rec = inside_running s cpu sound (and_parts (is_inside s cpu) _ placed).0 in
+    half-least (realm_at s rd) (sound.realms.spaces rd (realm_at s rd) (realm_there s rd sound rec.owner))
 
 -- a walk up to a level ends by each that isn't above it
 walk_within : (s : State) (rd ipa max level : ℕ) → max ≤ level → nat_le (reach s rd ipa max) level ≡ true
 walk_within s rd ipa max level within = le-leb _ _ (omega (arith, reach-le s rd ipa max))
 
--- where its words are allowed each of the rows behind them does
-refuse-behind : (s : State) (cpu : ℕ) (c : Call) → all_allowed (words_of c) ≡ true → refuse c (tagged s (named c) (behind s cpu c).0) ≡ true
-unfolding behind named realm_indices has_rec_row has_row_at_level
-refuse-behind s cpu (call.DataCreate rd granule ipa source flags digest) allowed = rw (allowed, walk_within s rd ipa 3 3 (omega arith)) refl
-refuse-behind s cpu (call.DataCreateUnknown rd granule ipa) allowed = rw (allowed, walk_within s rd ipa 3 3 (omega arith)) refl
-refuse-behind s cpu (call.DataDestroy rd ipa) allowed = rw (allowed, walk_within s rd ipa 3 3 (omega arith)) refl
-refuse-behind s cpu (call.RttCreate rd rtt ipa level) allowed =
+-- where a placed call's words are allowed each of the rows behind them does
+refuse-behind : (s : State) (cpu : ℕ) (c : Call) → IsSound s → is_placed s cpu (class_of c) ≡ true → all_allowed (words_of c) ≡ true
+    → refuse c (tagged s (named c) (behind s cpu c).0) ≡ true
+unfolding behind class_of named has_input_row realm_indices has_rec_row has_row_at_level
+refuse-behind s cpu (call.DataCreate rd granule ipa source flags digest) sound placed allowed =
+    rw (allowed, walk_within s rd ipa 3 3 (omega arith)) refl
+refuse-behind s cpu (call.DataCreateUnknown rd granule ipa) sound placed allowed = rw (allowed, walk_within s rd ipa 3 3 (omega arith)) refl
+refuse-behind s cpu (call.DataDestroy rd ipa) sound placed allowed = rw (allowed, walk_within s rd ipa 3 3 (omega arith)) refl
+refuse-behind s cpu (call.RttCreate rd rtt ipa level) sound placed allowed =
     rw (allowed, walk_within s rd ipa (level - 1) (level - 1) (omega arith), le-leb (level - 1) (level - 1) (omega arith)) refl
-refuse-behind s cpu (call.RttRemove removal rd ipa level) allowed =
+refuse-behind s cpu (call.RttRemove removal rd ipa level) sound placed allowed =
     rw (allowed, walk_within s rd ipa (level - 1) level (omega arith), le-leb level level (omega arith)) refl
-refuse-behind s cpu (call.RttMapUnprotected rd ipa page) allowed = rw (allowed, walk_within s rd ipa 3 3 (omega arith)) refl
-refuse-behind s cpu (call.RttUnmapUnprotected rd ipa) allowed = rw (allowed, walk_within s rd ipa 3 3 (omega arith)) refl
-refuse-behind s cpu (call.RttInitRipas rd base top) allowed = rw (allowed, walk_within s rd base 3 3 (omega arith)) refl
-refuse-behind s cpu (call.RttSetRipas rd rec base top) allowed = rw (allowed, walk_within s rd base 3 3 (omega arith)) refl
-refuse-behind s cpu (call.RealmActivate rd) allowed = rw allowed refl
-refuse-behind s cpu (call.RealmDestroy rd) allowed = rw allowed refl
-refuse-behind s cpu (call.RecCreate rd rec mpidr flags aux0 aux1) allowed = rw allowed refl
-refuse-behind s cpu (call.RecDestroy rec) allowed = rw allowed refl
-refuse-behind s cpu (call.RecEnter rec) allowed = rw allowed refl
-refuse-behind s cpu _ allowed = refl
+refuse-behind s cpu (call.RttMapUnprotected rd ipa page) sound placed allowed = rw (allowed, walk_within s rd ipa 3 3 (omega arith)) refl
+refuse-behind s cpu (call.RttUnmapUnprotected rd ipa) sound placed allowed = rw (allowed, walk_within s rd ipa 3 3 (omega arith)) refl
+refuse-behind s cpu (call.RttInitRipas rd base top) sound placed allowed = rw (allowed, walk_within s rd base 3 3 (omega arith)) refl
+refuse-behind s cpu (call.RttSetRipas rd rec base top) sound placed allowed = rw (allowed, walk_within s rd base 3 3 (omega arith)) refl
+refuse-behind s cpu (call.RealmActivate rd) sound placed allowed = rw allowed refl
+refuse-behind s cpu (call.RealmDestroy rd) sound placed allowed = rw allowed refl
+refuse-behind s cpu (call.RecCreate rd rec mpidr flags aux0 aux1) sound placed allowed = rw allowed refl
+refuse-behind s cpu (call.RecDestroy rec) sound placed allowed = rw allowed refl
+refuse-behind s cpu (call.RecEnter rec) sound placed allowed = rw allowed refl
+refuse-behind s cpu (call.IpaStateSet base top ripas) sound placed allowed =
+    refuse-input (call.IpaStateSet base top ripas) RgnBound _
+    (λ near. le-leb _ _ (omega (arith, ltb-false (2 ^ 38) top near, inside_half s cpu sound placed)))
+refuse-behind s cpu (call.IpaStateGet ipa) sound placed allowed =
+    refuse-input (call.IpaStateGet ipa) IpaBound _
+    (λ near. lt-ltb _ _ (omega (arith, leb-false (2 ^ 38) ipa near, inside_half s cpu sound placed)))
+refuse-behind s cpu _ sound placed allowed = refl
 
 -- ---- words
 
@@ -127,19 +167,23 @@ module _ (s new : State) (c : Call) (given : Reply) where
   abbrev IsAnswered : Result Accepted Refusal → Type 0
   IsAnswered led = CarriesOut led s given new → may_answer c given ≡ true
 
-  -- so it is with rows on words, if it is with those behind them where the words are allowed
-  IsAnswered-inputs : (words : List Word) (rows : List Row) (found : Accepted) → (all_allowed words ≡ true → IsAnswered (decided rows found))
-      → IsAnswered (decided (inputs words rows) found)
-  IsAnswered-inputs [] rows found later = later refl
-  IsAnswered-inputs (word ∷ words) rows found later = by word.allowed (IsAnswered-inputs words rows found) later
-    where
-      by : (b : Bool) → ((all_allowed words ≡ true → IsAnswered (decided rows found)) → IsAnswered (decided (inputs words rows) found))
-          → ((b && all_allowed words) ≡ true → IsAnswered (decided rows found))
-          → IsAnswered (if b then decided (inputs words rows) found else Err (Input word.condition))
-      by true rest later = rest later
-      by false rest later = λ carried. ap (may_answer c) carried.0
+  -- what rows on words leave to show: one that isn't allowed may be refused, and where all are it is so with what stands behind
+  abbrev Leaves : Bool → Result Accepted Refusal → Type 0
+  Leaves all led = (all ≡ false → may_answer c input_error ≡ true) × (all ≡ true → IsAnswered led)
 
-  -- and with rows that each refuse so, where the words are allowed and the next state is sound
+  -- so it is with rows on words
+  IsAnswered-inputs : (words : List Word) (rows : List Row) (found : Accepted) → Leaves (all_allowed words) (decided rows found)
+      → IsAnswered (decided (inputs words rows) found)
+  IsAnswered-inputs [] rows found left = left.1 refl
+  IsAnswered-inputs (word ∷ words) rows found left = by word.allowed (IsAnswered-inputs words rows found) left
+    where
+      by : (b : Bool) → (Leaves (all_allowed words) (decided rows found) → IsAnswered (decided (inputs words rows) found))
+          → Leaves (b && all_allowed words) (decided rows found)
+          → IsAnswered (if b then decided (inputs words rows) found else Err (Input word.condition))
+      by true rest left = rest left
+      by false rest left = λ carried. ap (may_answer c) carried.0 ∙ left.0 refl
+
+  -- and with rows that each refuse so, or hold, where the words are allowed and the next state is sound
   IsAnswered-decided : (rows : List Row) (found : Accepted) → IsSound new → all_allowed (words_of c) ≡ true → Gives s c found
       → refuse c rows ≡ true → IsAnswered (decided rows found)
   IsAnswered-decided [] (Done words change) sound allowed gives_so all = λ carried.
@@ -147,20 +191,24 @@ module _ (s new : State) (c : Call) (given : Reply) where
   IsAnswered-decided [] (Reaches stretch) sound allowed gives_so all = λ (top, (reached, is_ok, is_next)).
       ap (may_answer c) is_ok ∙ and_from _ _ allowed (gives_so top reached)
   IsAnswered-decided (row ∷ rows) found sound allowed gives_so all =
-      let parts = and_parts (may_answer c (reply_of row.otherwise)) (refuse c rows) all in
-      by row.holds parts.0 (IsAnswered-decided rows found sound allowed gives_so parts.1)
+      let parts = and_parts (may_answer c (reply_of row.otherwise) || row.holds) (refuse c rows) all in
+      by row.holds (or_cases _ row.holds parts.0) (IsAnswered-decided rows found sound allowed gives_so parts.1)
     where
-      by : (b : Bool) → may_answer c (reply_of row.otherwise) ≡ true → IsAnswered (decided rows found)
+      by : (b : Bool) → (may_answer c (reply_of row.otherwise) ≡ true) ⊎ (b ≡ true) → IsAnswered (decided rows found)
           → IsAnswered (if b then decided rows found else Err row.otherwise)
       by true here later = later
-      by false here later = λ carried. ap (may_answer c) carried.0 ∙ here
+      by false (inl here) later = λ carried. ap (may_answer c) carried.0 ∙ here
+      by false (inr holds) later = both_ways holds refl
 
--- a placed call may be replied so, whose next state is sound
-pub may_answer-placed : (s : State) (cpu : ℕ) (c : Call) (given : Reply) (new : State) → IsSound new → CarriesOut (answer_of s cpu c) s given new
-    → may_answer c given ≡ true
-may_answer-placed s cpu c given new sound carried =
+-- a placed call may be replied so, whose state and next state are sound
+pub may_answer-placed : (s : State) (cpu : ℕ) (c : Call) (given : Reply) (new : State) → IsSound s → is_placed s cpu (class_of c) ≡ true
+    → IsSound new → CarriesOut (answer_of s cpu c) s given new → may_answer c given ≡ true
+may_answer-placed s cpu c given new old_sound placed sound carried =
     let rest = behind s cpu c in
     let rows = tagged s (named c) rest.0 in
-    IsAnswered-inputs s new c given (words_of c) rows rest.1
-    (λ allowed. IsAnswered-decided s new c given rows rest.1 sound allowed (Gives-behind s cpu c) (refuse-behind s cpu c allowed))
+    IsAnswered-inputs s new c given (words_of c) rows rest.1 (
+      may_answer-input_error c,
+      λ allowed. IsAnswered-decided s new c given rows rest.1 sound allowed (Gives-behind s cpu c)
+          (refuse-behind s cpu c old_sound placed allowed),
+    )
     (subst (λ found. CarriesOut found s given new) rest.2 carried)

@@ -6,6 +6,7 @@ use Rattle.rmm_spec.specs.declared.call.Call.{Call}
 use Rattle.rmm_spec.specs.declared.call.Call.TheVariants as call
 use Rattle.rmm_spec.specs.declared.command.Command.{Command}
 use Rattle.rmm_spec.specs.declared.entry.Entry.{Entry}
+use Rattle.rmm_spec.specs.declared.entry.Entry.TheVariants as entry
 use Rattle.rmm_spec.specs.declared.event.Event.{Event}
 use Rattle.rmm_spec.specs.declared.reply.Reply.{Reply}
 use Rattle.rmm_spec.specs.declared.reply.Reply.TheVariants as reply
@@ -20,7 +21,7 @@ use Rattle.rmm_spec.specs.State.{RealmRecord, State}
 use Rattle.rmm_spec.specs.Step.Terms.{Way, named, way_of, words_of}
 use Rattle.rmm_spec.specs.Walk.{entry_number, is_unassigned, table_number}
 use Rattle.verdict_laws.specs.declared.facts.Fact.{Fact}
-use Rattle.verdict_laws.specs.declared.facts.Fact.TheVariants.{NewRealm, Tagged, Covered, Wide, Unassigned}
+use Rattle.verdict_laws.specs.declared.facts.Fact.TheVariants.{NewRealm, Tagged, Covered, Wide, Unassigned, Assigned}
 use Rattle.verdict_laws.specs.Separate.{is_freed}
 use Rattle.verdict_laws.specs.Slices.{ChangesNothing, IsBack, IsDoneBefore, changeable, leaves_unused, shows_names}
 
@@ -56,10 +57,16 @@ abbrev pub is_free : Option Entry → Bool
 is_free None = false
 is_free (Some entry) = is_unassigned entry
 
+-- whether there is an entry, which has the page
+abbrev pub has_page : Option Entry → ℕ → Bool
+has_page (Some (entry.Assigned ripas at)) page = page == at
+has_page _ page = false
+
 -- whether the fact holds
 abbrev pub holds : Fact → State → Bool
 holds (Wide rd width) s = has_width (s.realm rd) width
 holds (Unassigned rd ipa) s = is_free (s.leaf rd 3 (entry_number 3 ipa))
+holds (Assigned rd ipa page) s = has_page (s.leaf rd 3 (entry_number 3 ipa)) page
 holds (NewRealm rd) s = is_still_new (s.realm rd)
 holds (Tagged granule tag) s = is_tag (s.tag granule) tag
 holds (Covered rd level ipa) s = is_covered s rd level ipa
@@ -71,6 +78,7 @@ begins (Tagged granule tag) = is_tag Undelegated tag
 begins (Covered rd level ipa) = false
 begins (Wide rd width) = false
 begins (Unassigned rd ipa) = false
+begins (Assigned rd ipa page) = false
 
 -- ---- calls that make it
 
@@ -95,6 +103,12 @@ unfoldable pub makes_wide : Call → ℕ → ℕ → Bool
 makes_wide (call.RealmCreate other root its_width level vmid algo) rd width = rd == other && width == its_width
 makes_wide _ rd width = false
 
+-- whether the call gives the page to the address
+unfoldable pub gives_entry : Call → ℕ → ℕ → ℕ → Bool
+gives_entry (call.DataCreate other granule at source flags digest) rd ipa page = rd == other && is_one_entry ipa at && page == granule
+gives_entry (call.DataCreateUnknown other granule at) rd ipa page = rd == other && is_one_entry ipa at && page == granule
+gives_entry _ rd ipa page = false
+
 -- whether the call takes the page at the address back
 unfoldable pub frees_entry : Call → ℕ → ℕ → Bool
 frees_entry (call.DataDestroy other at) rd ipa = rd == other && is_one_entry ipa at
@@ -110,13 +124,15 @@ tags c given granule RecAux = false
 tags c given granule Data = gives_page c granule
 tags c given granule Rtt = false
 
--- whether the call makes the fact, where it is carried out with that reply
+-- Whether the call makes the fact, where it is carried out with that reply. Each realm has addresses of 39 bits at least, and the lower half of
+-- them is protected, so below 2 ^ 38 a new table of the last level has unassigned entries alone.
 abbrev pub makes : Fact → Call → Reply → Bool
 makes (NewRealm rd) c given = makes_realm c rd
 makes (Tagged granule tag) c given = tags c given granule tag
 makes (Covered rd level ipa) c given = makes_table c rd level ipa
 makes (Wide rd width) c given = makes_wide c rd width
-makes (Unassigned rd ipa) c given = frees_entry c rd ipa
+makes (Unassigned rd ipa) c given = frees_entry c rd ipa || (makes_table c rd 3 ipa && nat_lt ipa (2 ^ 38))
+makes (Assigned rd ipa page) c given = gives_entry c rd ipa page
 
 -- ---- calls that may end it
 
@@ -172,6 +188,7 @@ may_end (Tagged granule tag) c given = may_retag c given granule tag
 may_end (Covered rd level ipa) c given = may_uncover c rd level ipa
 may_end (Wide rd width) c given = may_narrow c rd
 may_end (Unassigned rd ipa) c given = may_assign c rd ipa
+may_end (Assigned rd ipa page) c given = may_assign c rd ipa || frees_entry c rd ipa
 
 -- ---- replies that deny it
 
@@ -223,6 +240,9 @@ denies (Tagged granule tag) c given =
 denies (Covered rd level ipa) c given = is_refused_above level given && goes_to (way_of c) rd level ipa
 denies (Wide rd width) c given = is_refused_with 1 given && all_allowed (words_of c) && lies_in c rd width
 denies (Unassigned rd ipa) c given = (is_accepted given && frees_entry c rd ipa) || (is_refused_with 4 given && sets_from c rd ipa)
+denies (Assigned rd ipa page) c given =
+    (shows_names given && needs_other (named c) page Data)
+    || (frees_entry c rd ipa && (is_refused_with 4 given || (is_accepted given && not (is_freed c given page))))
 
 -- ---- in a history
 

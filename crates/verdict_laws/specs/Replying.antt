@@ -1,5 +1,5 @@
 -- What a call may be replied in any state: the words of one that is carried out, and the statuses that its rows refuse with. This project's own.
-use Rattle.std.specs.Prelude.{ℕ, ◌-◌, ◌==◌, ◌&&◌, ◌||◌, nat_lt, nat_le, Bool, true, false, List, [], ◌∷◌, length}
+use Rattle.std.specs.Prelude.{ℕ, ◌-◌, ◌^◌, ◌==◌, ◌&&◌, ◌||◌, nat_lt, nat_le, Bool, true, false, not, List, [], ◌∷◌, length}
 use Rattle.rmm_spec.specs.declared.call.Call.{Call}
 use Rattle.rmm_spec.specs.declared.call.Call.TheVariants as call
 use Rattle.rmm_spec.specs.declared.reply.Reply.{Reply}
@@ -35,6 +35,20 @@ gives call.Exit words = length words == 4
 gives _ words = length words == 0
 
 -- ---- statuses
+
+-- whether rows on what it finds may refuse the call as they do its own words; a realm's call is refused so only for addresses beyond its
+-- realm's protected half, and that is of 2 ^ 38 addresses at least, as each realm has addresses of 39 bits at least
+unfoldable pub has_input_row : Call → Bool
+has_input_row (call.MeasurementRead index) = false
+has_input_row (call.MeasurementExtend index size values) = false
+has_input_row call.RealmConfig = false
+has_input_row (call.IpaStateSet base top ripas) = nat_lt (2 ^ 38) top
+has_input_row (call.IpaStateGet ipa) = nat_le (2 ^ 38) ipa
+has_input_row (call.HostCall imm) = false
+has_input_row call.CpuOff = false
+has_input_row call.SystemOff = false
+has_input_row call.Exit = false
+has_input_row _ = true
 
 -- with how many indices, from 0 on, rows on the realm refuse the call
 unfoldable pub realm_indices : Call → ℕ
@@ -78,5 +92,7 @@ refuses_with c status index =
 -- whether a call that is given may be replied so; where its own words aren't allowed it is refused for them
 abbrev pub may_answer : Call → Reply → Bool
 may_answer c (reply.Ok words) = all_allowed (words_of c) && gives c words.items
-may_answer c (reply.Err status index) = (status == 1 && index == 0) || (all_allowed (words_of c) && refuses_with c status index)
+may_answer c (reply.Err status index) =
+    (status == 1 && index == 0 && (has_input_row c || not (all_allowed (words_of c))))
+    || (all_allowed (words_of c) && refuses_with c status index)
 may_answer c reply.Misplaced = false

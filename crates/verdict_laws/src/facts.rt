@@ -23,6 +23,8 @@ pub enum Fact {
     Wide { rd: u64, width: u64 },
     /// The address has an entry of the last level, which is unassigned and protected.
     Unassigned { rd: u64, ipa: u64 },
+    /// The address has an entry of the last level, with the page.
+    Assigned { rd: u64, ipa: u64, page: u64 },
     /// A table of the realm's level covers the address.
     Covered { rd: u64, level: u8, ipa: u64 },
 }

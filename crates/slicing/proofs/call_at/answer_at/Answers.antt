@@ -2,8 +2,9 @@
 use Rattle.std.proofs.Common.{arith}
 use Rattle.rmm_spec.specs.declared.event.Event.TheVariants.{Returned}
 use Rattle.rmi_view.specs.Seen.{reply_seen}
+use Rattle.lemmas.proofs.Elements.{slice_get-front}
 use Rattle.spec_lemmas.proofs.Calls.{told_at_return}
-use Rattle.slicing.proofs.FirstEvents.{slice_get-front, unfinished_to}
+use Rattle.slicing.proofs.FirstEvents.{unfinished_to}
 use Rattle.slicing.proofs.call_at.answer_at.Goals as goal
 
 pub returns-then-place-count : goal.returns-then-place-count

@@ -6,7 +6,7 @@ use Rattle.rmm_spec.specs.Linearization.{IsCalled}
 use Rattle.spec_lemmas.proofs.HistoryGrammar.{IsHistory-take}
 use Rattle.slicing.specs.Calls.{events_to}
 use Rattle.slicing.proofs.EnteredLaws.{entered_behind}
-use Rattle.slicing.proofs.FirstEvents.{slice_get-front}
+use Rattle.lemmas.proofs.Elements.{slice_get-front}
 use Rattle.slicing.proofs.entered.is_entered.Goals as goal
 
 pub returns-in-Some-call_at : goal.returns-in-Some-call_at

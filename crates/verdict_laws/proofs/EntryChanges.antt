@@ -1,0 +1,178 @@
+-- Entries of the last level, by any test that a change of RIPAS keeps: one that meets it does so until a call may replace it, and a walk for its
+-- address finds it.
+use Rattle.std.proofs.Common.{◌≡◌, ℕ, ◌/◌, ◌==◌, ◌&&◌, nat_le, nat_lt, Bool, true, false, not, Option, Some, None, is_some, inl, inr, refl, sym, ◌∙◌, ap, subst, eqb-true, arith, option_map}
+use Rattle.std.proofs.Math.Bool.{and-true}
+use Rattle.std.specs.Prelude.{Ok}
+use Rattle.std.proofs.lemmas.Bool.{and_parts, and_right, cases_Bool, eq-eqb, false_from_ne_true}
+use Rattle.rmm_spec.specs.declared.accepted.Accepted.{Accepted}
+use Rattle.rmm_spec.specs.declared.accepted.Accepted.TheVariants.{Done, Reaches}
+use Rattle.rmm_spec.specs.declared.call.Call.{Call}
+use Rattle.rmm_spec.specs.declared.call.Call.TheVariants as call
+use Rattle.rmm_spec.specs.declared.change.Change.{Change}
+use Rattle.rmm_spec.specs.declared.change.Change.TheVariants.{RealmMade, RealmDestroyed, RecordsChanged, TableMade, TableDestroyed, EntriesChanged}
+use Rattle.rmm_spec.specs.declared.change.EntryChange.TheVariants.{Replaced, RipasSet}
+use Rattle.rmm_spec.specs.declared.change.RealmChange.{RealmChange}
+use Rattle.rmm_spec.specs.declared.change.RecChange.{RecChange}
+use Rattle.rmm_spec.specs.declared.change.TagChange.{TagChange}
+use Rattle.rmm_spec.specs.declared.command.Command.{Command}
+use Rattle.rmm_spec.specs.declared.entry.Entry.{Entry}
+use Rattle.rmm_spec.specs.declared.entry.Entry.TheVariants.{Unassigned}
+use Rattle.rmm_spec.specs.declared.reply.Reply.{Reply}
+use Rattle.rmm_spec.specs.declared.tag.Ripas.{Ripas}
+use Rattle.rmm_spec.specs.Applicable.{CanApply}
+use Rattle.rmm_spec.specs.Call.{call_of}
+use Rattle.rmm_spec.specs.Change.{changed}
+use Rattle.rmm_spec.specs.Ownership.{is_accepted}
+use Rattle.rmm_spec.specs.Sound.{IsSound}
+use Rattle.rmm_spec.specs.State.{State}
+use Rattle.rmm_spec.specs.Step.{CarriesOut, Step, outcome}
+use Rattle.rmm_spec.specs.Step.Data.{ripas_after_data}
+use Rattle.rmm_spec.specs.Step.Ripas.{reached_change}
+use Rattle.rmm_spec.specs.Update.{entry_with_ripas, is_same_entry, is_same_table}
+use Rattle.rmm_spec.specs.Walk.{entry_at, entry_number, entry_ripas, is_table, reach, table_number, walk}
+use Rattle.lemmas.proofs.Tests.{both_ways}
+use Rattle.spec_lemmas.proofs.Behind.{behind}
+use Rattle.spec_lemmas.proofs.WalkLaws.{reach-covers, reach-le}
+use Rattle.rmm_laws.proofs.Applies.{Applies}
+use Rattle.rmm_laws.proofs.Cases.{choice, spot_level}
+use Rattle.rmm_laws.proofs.Keeps.{records-leaf, with_records}
+use Rattle.rmm_laws.proofs.Spaces.{space_cases}
+use Rattle.rmm_laws.proofs.StepLaws.{step-refuses}
+use Rattle.rmm_laws.proofs.Walked.{table_number-entry}
+use Rattle.verdict_laws.specs.Facts.{frees_entry, is_one_entry, may_assign}
+use Rattle.verdict_laws.proofs.FactSteps.{IsDoneSo}
+use Rattle.verdict_laws.proofs.TagFacts.{carried_by}
+
+-- ---- places
+
+-- entries of the last level are one by their realm and number
+pub same_entry-last : (rd ipa other at : ℕ)
+    → is_same_entry other 3 (entry_number 3 at) rd 3 (entry_number 3 ipa) ≡ (rd == other && is_one_entry ipa at)
+same_entry-last rd ipa other at = ap (λ b. b && is_one_entry ipa at) (and-true (rd == other))
+
+-- a table of the last level is one by the number of its entries
+last_table : (is : Bool) (level n ipa at : ℕ) → n / 512 ≡ table_number 3 ipa → (is && level == 3 && table_number 3 ipa == table_number 3 at) ≡ false
+    → (is && 3 == level && n / 512 == table_number level at) ≡ false
+last_table is level n ipa at number apart = false_from_ne_true _ (λ hit.
+    let parts = and_parts (is && 3 == level) (n / 512 == table_number level at) hit in
+    let outer = and_parts is (3 == level) parts.0 in
+    let last = eqb-true 3 level outer.1 in
+    let same = eqb-true (n / 512) (table_number level at) parts.1 ∙ ap (λ l. table_number l at) (sym last) in
+    both_ways (rw (outer.0, eq-eqb level 3 (sym last), eq-eqb (table_number 3 ipa) (table_number 3 at) (sym number ∙ same)) refl) apart)
+
+-- ---- where a walk for one ends
+
+module _ (s : State) (sound : IsSound s) (rd ipa : ℕ) (e : Entry) (is : s.leaf rd 3 (entry_number 3 ipa) ≡ Some e)
+    (other at : ℕ) (same : (rd == other && is_one_entry ipa at) ≡ true) where
+  -- each address of the entry has it
+  leaf_at : s.leaf other 3 (entry_number 3 at) ≡ Some e
+  leaf_at =
+      let parts = and_parts (rd == other) (is_one_entry ipa at) same in
+      sym (λ i. s.leaf (eqb-true rd other parts.0 i) 3 (eqb-true (entry_number 3 ipa) (entry_number 3 at) parts.1 i)) ∙ is
+
+  -- the walk goes as far as the last level
+  pub leaf_reached : reach s other at 3 ≡ 3
+  leaf_reached =
+      let covers = ap (λ number. is_some (s.table other 3 number)) (table_number-entry 3 at (omega arith))
+      ∙ sound.leaves.placed other 3 (entry_number 3 at) e leaf_at in
+      omega (arith, reach-le s other at 3, (reach-covers s other at 3 3 covers (omega arith)).0)
+
+  -- and finds the entry, if that is no link
+  pub leaf_found : is_table e ≡ false → (walk s other at 3).entry ≡ e
+  unfolding entry_at
+  leaf_found unlinked = subst (λ l. entry_at s other l (entry_number l at) ≡ e) (sym leaf_reached) (rw (leaf_at, unlinked) refl)
+
+-- ---- entries that meet a test
+
+-- what is put there meets the test, unless the entry is replaced
+put_met : (meets here : Bool) → (not meets && here) ≡ false → here ≡ true → meets ≡ true
+put_met true here stays is = refl
+put_met false here stays is = both_ways is stays
+
+module _ (test : Option Entry → Bool) where
+  -- whether the change puts anything in place of an entry of the last level that doesn't meet the test
+  abbrev is_replaced_by : Change → ℕ → ℕ → Bool
+  is_replaced_by (RealmDestroyed other root) rd n = rd == other
+  is_replaced_by (TableMade other level number rtt entry) rd n = is_same_table other level number rd 3 (n / 512)
+  is_replaced_by (TableDestroyed other level number rtt entry) rd n = is_same_table other level number rd 3 (n / 512)
+  is_replaced_by (EntriesChanged other level (Replaced number entry) page realm rec) rd n =
+      not (test (Some entry)) && is_same_entry other level number rd 3 n
+  is_replaced_by _ rd n = false
+
+  module _ (keeps : (ripas : Ripas) (found : Option Entry) → test found ≡ true → test (option_map (entry_with_ripas ripas) found) ≡ true)
+      (rd n : ℕ) (s : State) (met : test (s.leaf rd 3 n) ≡ true) where
+    -- an entry that meets it does so behind the tag of a page and the records of a realm and of a REC
+    records_met : (page : Option TagChange) (realm : Option RealmChange) (rec : Option RecChange)
+        → test ((with_records s page realm rec).leaf rd 3 n) ≡ true
+    records_met page realm rec =
+        ap (λ (leaves : ℕ → ℕ → ℕ → Option Entry). test (leaves rd 3 n)) (records-leaf s page realm rec) ∙ met
+
+    -- and behind a change that the state can take and that doesn't replace it
+    changed_met : (change : Change) → IsSound s → CanApply s change → is_replaced_by change rd n ≡ false
+        → test ((changed s change).leaf rd 3 n) ≡ true
+    unfolding changed
+    changed_met (RealmMade other root width level vmid algo) sound can stays =
+        let above : 3 ≡ level → ⊥ = λ last. elim (space_cases width level can.space) [
+          | inl small ↦ omega (arith, last, small.1)
+          | inr large ↦ omega (arith, large.1)
+        ] in
+        rw (spot_level other level 0 rd 3 (n / 512) above) met
+    changed_met (RealmDestroyed other root) sound can stays = rw stays met
+    changed_met (RecordsChanged realm rec) sound can stays = records_met None realm rec
+    changed_met (TableMade other level number rtt entry) sound can stays =
+        let last = can.place.last in
+        rw (stays, spot_level other level number rd 4 n (λ same. omega (arith, last, same))) met
+    changed_met (TableDestroyed other level number rtt entry) sound can stays =
+        let last = (sound.tables.owned other level number rtt can.there).2.last in
+        rw (stays, spot_level other level number rd 4 n (λ same. omega (arith, last, same))) met
+    changed_met (EntriesChanged other level (Replaced number entry) page realm rec) sound can stays =
+        choice (λ found. test found ≡ true) _ (is_same_entry other level number rd 3 n) (Some entry) _ refl
+        (put_met (test (Some entry)) _ stays) (λ _. records_met page realm rec)
+    changed_met (EntriesChanged other level (RipasSet first last ripas) page realm rec) sound can stays =
+        choice (λ found. test found ≡ true) _ (rd == other && 3 == level && nat_le first n && nat_lt n last) _ _ refl
+        (λ _. keeps ripas _ (records_met page realm rec)) (λ _. records_met page realm rec)
+    changed_met _ sound can stays = met
+
+    -- so it does behind what is done
+    carried_met : (new : State) (given : Reply) (found : Accepted) → IsSound s → IsDoneSo (λ change. is_replaced_by change rd n ≡ false) found
+        → Applies s found → CarriesOut (Ok found) s given new → test (new.leaf rd 3 n) ≡ true
+    carried_met new given (Done words change) sound stays can carried = rw carried.1 (changed_met change sound can stays)
+    carried_met new given (Reaches stretch) sound stays can (top, (reached, is_ok, is_next)) =
+        rw is_next (changed_met (reached_change stretch top) sound (can top reached) (stays top))
+
+  -- a call that can't replace it, nor take back a page that the test asks for, makes no change that does
+  behind_leaves : (rd ipa : ℕ) (s : State) (cpu : ℕ) (c : Call) → may_assign c rd ipa ≡ false
+      → ((ripas : Ripas) → (not (test (Some (Unassigned ripas))) && frees_entry c rd ipa) ≡ false)
+      → IsDoneSo (λ change. is_replaced_by change rd (entry_number 3 ipa) ≡ false) (behind s cpu c).1
+  unfolding behind may_assign frees_entry reached_change
+  behind_leaves rd ipa s cpu (call.DataCreate other granule at source flags digest) stays freed =
+      and_right _ _ (same_entry-last rd ipa other at ∙ stays)
+  behind_leaves rd ipa s cpu (call.DataCreateUnknown other granule at) stays freed = and_right _ _ (same_entry-last rd ipa other at ∙ stays)
+  behind_leaves rd ipa s cpu (call.DataDestroy other at) stays freed =
+      let ripas = ripas_after_data (entry_ripas (walk s other at 3).entry) in
+      ap (λ b. not (test (Some (Unassigned ripas))) && b) (same_entry-last rd ipa other at) ∙ freed ripas
+  behind_leaves rd ipa s cpu (call.RttMapUnprotected other at page) stays freed = and_right _ _ (same_entry-last rd ipa other at ∙ stays)
+  behind_leaves rd ipa s cpu (call.RttUnmapUnprotected other at) stays freed = and_right _ _ (same_entry-last rd ipa other at ∙ stays)
+  behind_leaves rd ipa s cpu (call.RttCreate other rtt at level) stays freed =
+      last_table (rd == other) level (entry_number 3 ipa) ipa at (sym (table_number-entry 3 ipa (omega arith))) stays
+  behind_leaves rd ipa s cpu (call.RttRemove removal other at level) stays freed =
+      last_table (rd == other) level (entry_number 3 ipa) ipa at (sym (table_number-entry 3 ipa (omega arith))) stays
+  behind_leaves rd ipa s cpu (call.RealmDestroy other) stays freed = stays
+  behind_leaves rd ipa s cpu (call.RttInitRipas other base top) stays freed = λ end. refl
+  behind_leaves rd ipa s cpu (call.RttSetRipas other rec base top) stays freed = λ end. refl
+  behind_leaves rd ipa s cpu _ stays freed = refl
+
+  -- so an entry that meets the test does so behind a step, but by a call that may replace it or take such a page back
+  pub leaf-left : ((ripas : Ripas) (found : Option Entry) → test found ≡ true → test (option_map (entry_with_ripas ripas) found) ≡ true)
+      → (rd ipa : ℕ) (s new : State) (cpu : ℕ) (command : Command) (given : Reply) → IsSound s → Step s cpu command given new
+      → may_assign (call_of command) rd ipa ≡ false
+      → ((ripas : Ripas) → (not (test (Some (Unassigned ripas))) && frees_entry (call_of command) rd ipa) ≡ false)
+      → test (s.leaf rd 3 (entry_number 3 ipa)) ≡ true → test (new.leaf rd 3 (entry_number 3 ipa)) ≡ true
+  leaf-left keeps rd ipa s new cpu command given sound step stays freed met = elim (cases_Bool (is_accepted given)) [
+    | inl accepted ↦
+        (let c = call_of command in
+        let carried = carried_by s cpu command given new (outcome s cpu c) sound accepted refl step in
+        let left = behind_leaves rd ipa s cpu c stays freed in
+        carried_met keeps rd (entry_number 3 ipa) s met new given (behind s cpu c).1 sound left carried.can carried.done)
+    | inr refused ↦ ap (λ (t : State). test (t.leaf rd 3 (entry_number 3 ipa))) (step-refuses s new cpu command given step refused) ∙ met
+  ]
