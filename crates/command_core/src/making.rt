@@ -218,8 +218,8 @@ fn fits_cells(held: &HeldPairs, change: &Change) -> bool
             number,
             rtt,
             ..
-        } => holds_two(held, *rd, *level, *number, *rtt),
-        Change::TableDestroyed {
+        }
+        | Change::TableDestroyed {
             rd,
             level,
             number,

@@ -134,16 +134,7 @@ fn write_cause(
         } => {
             write_call(lines, error(paths.certificate, step), call, why)?;
             write_lines_of(lines, paths, call)?;
-            write_place(
-                lines,
-                note(paths.certificate, *earlier),
-                "the step of the later call",
-            )?;
-            write_place(
-                lines,
-                history_note(paths, other.call.called),
-                "the later call",
-            )
+            write_later_call(lines, paths, *earlier, other)
         }
         Cause::Reply(line) => {
             write_call(lines, error(paths.certificate, step), &line.call, why)?;
@@ -168,6 +159,25 @@ fn write_call(
         "{file}:{line}: {grade}: {command} (call {number} of CPU {cpu}): {why}\n"
     )?;
     Ok(())
+}
+
+// The step that names a call which was made too late for its place, and where that was.
+fn write_later_call(
+    lines: &mut String,
+    paths: Paths<'_>,
+    step: u64,
+    later: &NamedCall,
+) -> Result<(), AllocError> {
+    write_place(
+        lines,
+        note(paths.certificate, step),
+        "the step of the later call",
+    )?;
+    write_place(
+        lines,
+        history_note(paths, later.call.called),
+        "the later call",
+    )
 }
 
 fn write_lines_of(

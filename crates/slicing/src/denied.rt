@@ -8,13 +8,15 @@ ghost use Rattle.verdict_laws.specs.Order.{LeadsNowhere};
 ghost use Rattle.verdict_laws.specs.Parts.{first_part};
 
 use crate::call_at::{CallAt, call_at};
-use crate::denying::denies;
+use crate::denying::deny;
 use crate::done::{done_before, is_no_later};
 use crate::early::{are_back, open_from};
 use crate::ending::is_left;
 use crate::last_return::{LastReturn, last_return};
 use crate::making::{begins, makes};
-use crate::supposing::{maker_before, supposed, supposed_entry, supposed_page, supposed_tag};
+use crate::supposing::{
+    maker_before, supposed, supposed_entry, supposed_page, supposed_tag, supposed_together,
+};
 use history::History;
 use verdict_laws::{Fact, nowhere_denied};
 
@@ -29,19 +31,46 @@ pub fn is_denied(history: &History, count: u32) -> bool
         || is_denied_by(history, count, &last, supposed_entry(&last))
         || is_denied_by(history, count, &last, supposed_tag(history, count, &last))
         || is_denied_by(history, count, &last, supposed_page(history, count, &last))
+        || are_denying(
+            history,
+            count,
+            &last,
+            supposed_together(history, count, &last).as_slice(),
+        )
 }
 
-/// Whether the reply denies the fact, where one is supposed, and this holds.
+/// Whether the fact, where one is supposed, denies the reply and holds.
 fn is_denied_by(history: &History, count: u32, last: &LastReturn<'_>, fact: Option<Fact>) -> bool
+    requires { IsLastReturn history.now.recorded.events count last.now }
+    ensures { IsTrue result → LeadsNowhere (first_part count history.now.recorded) [] }
+{
+    match fact {
+        Some(fact) => are_denying(history, count, last, &[fact]),
+        None => false,
+    }
+}
+
+/// Whether the facts deny the reply, and all hold.
+fn are_denying(history: &History, count: u32, last: &LastReturn<'_>, facts: &[Fact]) -> bool
     requires { IsLastReturn history.now.recorded.events count last.now }
     ensures { IsTrue result → LeadsNowhere (first_part count history.now.recorded) [] }
 {
     let _fact = history.well_formed();
     let _law = nowhere_denied();
-    let Some(fact) = fact else {
-        return false;
-    };
-    denies(fact, &last.call, last.reply) && is_held(history, count, last.called, fact)
+    deny(&history.config(), facts, &last.call, last.reply)
+        && are_held(history, count, last.called, facts)
+}
+
+/// Whether all the facts hold while the call may take effect that is made at the place.
+fn are_held(history: &History, count: u32, place: u32, facts: &[Fact]) -> bool
+    ensures { IsTrue result → laws.AreHeldAt facts.now (events_to count history.now.recorded.events) place }
+{
+    for fact in facts {
+        if !is_held(history, count, place, *fact) {
+            return false;
+        }
+    }
+    true
 }
 
 /// Whether the fact holds while the call may take effect that is made at the place.

@@ -24,6 +24,11 @@ pub(crate) fn is_left(fact: Fact, call: &CallAt<'_>) -> bool
         Fact::Covered { rd, level, ipa } => !may_uncover(&call.call, rd, level, ipa),
         Fact::Wide { rd, .. } => !may_narrow(&call.call, rd),
         Fact::Unassigned { rd, ipa } => !may_assign(&call.call, rd, ipa),
+        Fact::UnassignedRam { rd, ipa } => {
+            !may_assign(&call.call, rd, ipa)
+                && !frees_entry(&call.call, rd, ipa)
+                && !may_set_ripas(&call.call, rd)
+        }
         Fact::Assigned { rd, ipa, .. } => {
             !may_assign(&call.call, rd, ipa) && !frees_entry(&call.call, rd, ipa)
         }
@@ -102,6 +107,16 @@ fn may_assign(call: &Call, rd: u64, ipa: u64) -> bool
             ..
         } => rd == *other && *level == 3 && is_one_table(3, ipa, *at),
         Call::RealmDestroy { rd: other } => rd == *other,
+        _ => false,
+    }
+}
+
+#[tactic(auto, unfolding(verdict_laws::specs::Facts::may_set_ripas))]
+fn may_set_ripas(call: &Call, rd: u64) -> bool
+    ensures { result ≡ laws.may_set_ripas call.now rd }
+{
+    match call {
+        Call::RttSetRipas { rd: other, .. } => rd == *other,
         _ => false,
     }
 }

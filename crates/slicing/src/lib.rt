@@ -1,6 +1,6 @@
 //! Slices of a history: the calls on which one of its returns depends.
 //! It promises that the events up to the return have no order where the slice has none, nor where its reply isn't given where its CPU is
-//! (`placing`), nor where it denies what earlier calls made (`denied`).
+//! (`placing`), nor where facts that earlier calls made deny it (`denied`).
 //! Which calls are kept is chosen without a promise, backwards from the return (`keeping`), and then checked call by call (`cut`).
 //! Where a granule's first kept call needs it unused, or calls that aren't kept left it so (`unused`), what was done with it before is left out.
 //! The search for an order looks at slices first, so that it needn't go through all that came before.

@@ -12,6 +12,9 @@ use rmi_view::ReplyRef;
 use rmm_spec::{Call, Tag};
 use verdict_laws::Fact;
 
+/// How many bytes of addresses a table of the last level covers.
+const LAST_TABLE_BYTES: u64 = 0x20_0000;
+
 /// Whether the fact holds before the first call.
 pub(crate) fn begins(fact: Fact) -> bool
     ensures { result ≡ laws.begins fact }
@@ -22,6 +25,7 @@ pub(crate) fn begins(fact: Fact) -> bool
         Fact::Covered { .. }
         | Fact::Wide { .. }
         | Fact::Unassigned { .. }
+        | Fact::UnassignedRam { .. }
         | Fact::Assigned { .. } => false,
     }
 }
@@ -36,6 +40,7 @@ pub(crate) fn makes(fact: Fact, call: &Call, reply: ReplyRef<'_>) -> bool
         Fact::Covered { rd, level, ipa } => makes_table(call, rd, level, ipa),
         Fact::Wide { rd, width } => makes_wide(call, rd, width),
         Fact::Unassigned { rd, ipa } => frees_entry(call, rd, ipa) || begins_entry(call, rd, ipa),
+        Fact::UnassignedRam { rd, ipa } => sets_ram(call, reply, rd, ipa),
         Fact::Assigned { rd, ipa, page } => gives_entry(call, rd, ipa, page),
     }
 }
@@ -120,6 +125,32 @@ fn begins_entry(call: &Call, rd: u64, ipa: u64) -> bool
     ensures { result ≡ (laws.makes_table call.now rd 3 ipa && nat_lt ipa (2 ^ 38)) }
 {
     makes_table(call, rd, 3, ipa) && ipa < SMALLEST_HALF
+}
+
+/// Whether the call, carried out with that reply, makes the address RAM by an entry of the last level.
+#[tactic(auto, unfolding(verdict_laws::specs::Facts::sets_ram))]
+fn sets_ram(call: &Call, reply: ReplyRef<'_>, rd: u64, ipa: u64) -> bool
+    ensures { result ≡ laws.sets_ram call.now (reply_seen reply.entry) rd ipa }
+{
+    match call {
+        Call::RttInitRipas {
+            rd: other,
+            base,
+            ..
+        } => rd == *other && *base <= ipa && ends_past(*base, ipa, reply),
+        _ => false,
+    }
+}
+
+/// Whether the reply has an end past the address, and not as far from the base as whole tables of the last level.
+#[tactic(auto, unfolding(rmm_spec::specs::Walk::table_size))]
+fn ends_past(base: u64, ipa: u64, reply: ReplyRef<'_>) -> bool
+    ensures { result ≡ laws.is_told_past base ipa (reply_seen reply.entry) }
+{
+    match reply {
+        ReplyRef::Ok([top]) => ipa < *top && top.saturating_sub(base) % LAST_TABLE_BYTES != 0,
+        _ => false,
+    }
 }
 
 /// Whether the call gives the page to the address.

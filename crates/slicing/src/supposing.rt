@@ -1,4 +1,4 @@
-//! Which fact a reply may deny, and which call made it. What is found isn't promised: it is checked.
+//! Which facts may deny a reply, and which call made each. What is found isn't promised: it is checked.
 
 use crate::denying::denies;
 use crate::done::{Done, done_before};
@@ -20,13 +20,49 @@ const TAGS: [Tag; 5] = [
     Tag::Data,
 ];
 
+/// How many facts are supposed together at most: the tag of each granule that a call names, and how wide its realm is.
+const MOST_FACTS: usize = 5;
+
+/// Facts that are supposed together: the first of these, so many.
+#[derive(Clone, Copy)]
+pub(crate) struct Together {
+    facts: [Fact; MOST_FACTS],
+    count: usize,
+}
+
+impl Together {
+    /// None.
+    fn new() -> Self {
+        Together {
+            facts: [Fact::NewRealm { rd: 0 }; MOST_FACTS],
+            count: 0,
+        }
+    }
+
+    /// The facts.
+    pub(crate) fn as_slice(&self) -> &[Fact] {
+        &self.facts[..self.count.min(MOST_FACTS)]
+    }
+
+    /// Takes one more, where there is room.
+    fn push(&mut self, fact: Fact) {
+        if let Some(place) = self.facts.get_mut(self.count) {
+            *place = fact;
+            self.count = self.count.saturating_add(1);
+        }
+    }
+}
+
 /// How many bits a realm's addresses may have.
 const WIDTHS: [u64; 2] = [0x27, 0x30];
 
 /// What a reply may deny of an entry, where it may.
 pub(crate) fn supposed_entry(last: &LastReturn<'_>) -> Option<Fact> {
     match last.call {
-        Call::DataDestroy { rd, ipa } => Some(Fact::Unassigned { rd, ipa }),
+        Call::DataCreateUnknown { rd, ipa, .. } | Call::DataDestroy { rd, ipa } => {
+            Some(Fact::Unassigned { rd, ipa })
+        }
+        Call::DataCreate { rd, ipa, .. } => Some(Fact::UnassignedRam { rd, ipa }),
         Call::RttInitRipas { rd, base, .. } => Some(Fact::Unassigned { rd, ipa: base }),
         _ => None,
     }
@@ -77,11 +113,27 @@ pub(crate) fn supposed(history: &History, count: u32, last: &LastReturn<'_>) -> 
     }
 }
 
-/// How many bits the addresses have of the realm that is named, as the latest call says that made it.
+/// What may deny together that a call is refused for what it says and names.
+pub(crate) fn supposed_together(history: &History, count: u32, last: &LastReturn<'_>) -> Together {
+    let mut facts = Together::new();
+    if !matches!(last.reply, ReplyRef::Err(1, _)) {
+        return facts;
+    }
+    for name in named(&last.call).as_slice() {
+        facts.push(tag_before(history, count, last.called, name.granule));
+    }
+    if let Some(fact) = wide_before(history, count, last) {
+        facts.push(fact);
+    }
+    facts
+}
+
+/// How many bits the addresses have of the realm in whose tables the call walks, as the latest call says that made it.
 fn wide_before(history: &History, count: u32, last: &LastReturn<'_>) -> Option<Fact> {
-    let (Call::DataDestroy { rd, .. } | Call::RttInitRipas { rd, .. }) = last.call else {
+    if !words_allow(&last.call) {
         return None;
-    };
+    }
+    let rd = way_of(&last.call)?.rd;
     for width in WIDTHS {
         let fact = Fact::Wide { rd, width };
         if maker_before(history, count, last.called, fact).is_some() {

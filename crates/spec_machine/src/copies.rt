@@ -63,9 +63,7 @@ impl CellList {
 }
 
 impl SlotList {
-    ghost use Rattle.std.specs.Prelude.{◌≡◌, ◌<◌, length, IfOk};
-    ghost use Rattle.granule_cells.specs.Seen.{cell_of};
-    ghost use Rattle.spec_machine.specs.Held.{cell_at};
+    ghost use Rattle.std.specs.Prelude.{◌≡◌, IfOk};
 
     /// The same cells once more, with as much room.
     pub(crate) fn copy(&self, alloc: Global) -> Result<SlotList, AllocError>
@@ -75,14 +73,6 @@ impl SlotList {
         let slots = copied_slots(alloc, self.slots.as_slice(), room)?;
         let recs = copied_recs(alloc, self.recs.as_slice(), room)?;
         Ok(SlotList { slots, recs })
-    }
-
-    /// A copy of the cell at a place.
-    pub(crate) fn copied_cell(&self, alloc: Global, place: usize) -> Result<Cell, AllocError>
-        requires { place < length self.now.items }
-        ensures { IfOk result (λ cell. cell_of cell ≡ cell_at self.now place) }
-    {
-        copied_view(alloc, self.cell(place))
     }
 }
 

@@ -1,6 +1,6 @@
--- Entries of the last level, by any test that a change of RIPAS keeps: one that meets it does so until a call may replace it, and a walk for its
--- address finds it.
-use Rattle.std.proofs.Common.{◌≡◌, ℕ, ◌/◌, ◌==◌, ◌&&◌, nat_le, nat_lt, Bool, true, false, not, Option, Some, None, is_some, inl, inr, refl, sym, ◌∙◌, ap, subst, eqb-true, arith, option_map}
+-- Entries of the last level, by any test: one that meets it does so until a call may replace it, or set a RIPAS with which it doesn't, and a walk for
+-- its address finds it.
+use Rattle.std.proofs.Common.{◌≡◌, ℕ, ◌/◌, ◌==◌, ◌&&◌, nat_le, nat_lt, Bool, true, false, not, IsTrue, Option, Some, None, is_some, inl, inr, refl, sym, ◌∙◌, ap, subst, eqb-true, arith, option_map}
 use Rattle.std.proofs.Math.Bool.{and-true}
 use Rattle.std.specs.Prelude.{Ok}
 use Rattle.std.proofs.lemmas.Bool.{and_parts, and_right, cases_Bool, eq-eqb, false_from_ne_true}
@@ -19,9 +19,11 @@ use Rattle.rmm_spec.specs.declared.entry.Entry.{Entry}
 use Rattle.rmm_spec.specs.declared.entry.Entry.TheVariants.{Unassigned}
 use Rattle.rmm_spec.specs.declared.reply.Reply.{Reply}
 use Rattle.rmm_spec.specs.declared.tag.Ripas.{Ripas}
+use Rattle.rmm_spec.specs.declared.tag.Ripas.TheVariants.{Ram}
 use Rattle.rmm_spec.specs.Applicable.{CanApply}
 use Rattle.rmm_spec.specs.Call.{call_of}
 use Rattle.rmm_spec.specs.Change.{changed}
+use Rattle.rmm_spec.specs.Lookup.{rec_at, request_of}
 use Rattle.rmm_spec.specs.Ownership.{is_accepted}
 use Rattle.rmm_spec.specs.Sound.{IsSound}
 use Rattle.rmm_spec.specs.State.{State}
@@ -39,7 +41,7 @@ use Rattle.rmm_laws.proofs.Keeps.{records-leaf, with_records}
 use Rattle.rmm_laws.proofs.Spaces.{space_cases}
 use Rattle.rmm_laws.proofs.StepLaws.{step-refuses}
 use Rattle.rmm_laws.proofs.Walked.{table_number-entry}
-use Rattle.verdict_laws.specs.Facts.{frees_entry, is_one_entry, may_assign}
+use Rattle.verdict_laws.specs.Facts.{frees_entry, is_one_entry, may_assign, may_set_ripas}
 use Rattle.verdict_laws.proofs.FactSteps.{IsDoneSo}
 use Rattle.verdict_laws.proofs.TagFacts.{carried_by}
 
@@ -90,25 +92,29 @@ put_met true here stays is = refl
 put_met false here stays is = both_ways is stays
 
 module _ (test : Option Entry → Bool) where
-  -- whether the change puts anything in place of an entry of the last level that doesn't meet the test
-  abbrev is_replaced_by : Change → ℕ → ℕ → Bool
-  is_replaced_by (RealmDestroyed other root) rd n = rd == other
-  is_replaced_by (TableMade other level number rtt entry) rd n = is_same_table other level number rd 3 (n / 512)
-  is_replaced_by (TableDestroyed other level number rtt entry) rd n = is_same_table other level number rd 3 (n / 512)
-  is_replaced_by (EntriesChanged other level (Replaced number entry) page realm rec) rd n =
-      not (test (Some entry)) && is_same_entry other level number rd 3 n
-  is_replaced_by _ rd n = false
+  -- what meets the test does so with the RIPAS
+  abbrev Keeps : Ripas → Type 0
+  Keeps ripas = (found : Option Entry) → test found ≡ true → test (option_map (entry_with_ripas ripas) found) ≡ true
 
-  module _ (keeps : (ripas : Ripas) (found : Option Entry) → test found ≡ true → test (option_map (entry_with_ripas ripas) found) ≡ true)
-      (rd n : ℕ) (s : State) (met : test (s.leaf rd 3 n) ≡ true) where
+  -- the change puts nothing that doesn't meet the test in place of an entry of the last level, and sets no RIPAS with which that doesn't
+  abbrev Stays : Change → ℕ → ℕ → Type 0
+  Stays (RealmDestroyed other root) rd n = (rd == other) ≡ false
+  Stays (TableMade other level number rtt entry) rd n = is_same_table other level number rd 3 (n / 512) ≡ false
+  Stays (TableDestroyed other level number rtt entry) rd n = is_same_table other level number rd 3 (n / 512) ≡ false
+  Stays (EntriesChanged other level (Replaced number entry) page realm rec) rd n =
+      (not (test (Some entry)) && is_same_entry other level number rd 3 n) ≡ false
+  Stays (EntriesChanged other level (RipasSet first last ripas) page realm rec) rd n = IsTrue (rd == other) → Keeps ripas
+  Stays _ rd n = Unit {0}
+
+  module _ (rd n : ℕ) (s : State) (met : test (s.leaf rd 3 n) ≡ true) where
     -- an entry that meets it does so behind the tag of a page and the records of a realm and of a REC
     records_met : (page : Option TagChange) (realm : Option RealmChange) (rec : Option RecChange)
         → test ((with_records s page realm rec).leaf rd 3 n) ≡ true
     records_met page realm rec =
         ap (λ (leaves : ℕ → ℕ → ℕ → Option Entry). test (leaves rd 3 n)) (records-leaf s page realm rec) ∙ met
 
-    -- and behind a change that the state can take and that doesn't replace it
-    changed_met : (change : Change) → IsSound s → CanApply s change → is_replaced_by change rd n ≡ false
+    -- and behind a change that the state can take and that leaves it so
+    changed_met : (change : Change) → IsSound s → CanApply s change → Stays change rd n
         → test ((changed s change).leaf rd 3 n) ≡ true
     unfolding changed
     changed_met (RealmMade other root width level vmid algo) sound can stays =
@@ -130,49 +136,52 @@ module _ (test : Option Entry → Bool) where
         (put_met (test (Some entry)) _ stays) (λ _. records_met page realm rec)
     changed_met (EntriesChanged other level (RipasSet first last ripas) page realm rec) sound can stays =
         choice (λ found. test found ≡ true) _ (rd == other && 3 == level && nat_le first n && nat_lt n last) _ _ refl
-        (λ _. keeps ripas _ (records_met page realm rec)) (λ _. records_met page realm rec)
+        (λ hit. stays (and_parts _ _ (and_parts _ _ (and_parts _ _ hit).0).0).0 _ (records_met page realm rec)) (λ _. records_met page realm rec)
     changed_met _ sound can stays = met
 
     -- so it does behind what is done
-    carried_met : (new : State) (given : Reply) (found : Accepted) → IsSound s → IsDoneSo (λ change. is_replaced_by change rd n ≡ false) found
+    carried_met : (new : State) (given : Reply) (found : Accepted) → IsSound s → IsDoneSo (λ change. Stays change rd n) found
         → Applies s found → CarriesOut (Ok found) s given new → test (new.leaf rd 3 n) ≡ true
     carried_met new given (Done words change) sound stays can carried = rw carried.1 (changed_met change sound can stays)
     carried_met new given (Reaches stretch) sound stays can (top, (reached, is_ok, is_next)) =
         rw is_next (changed_met (reached_change stretch top) sound (can top reached) (stays top))
 
-  -- a call that can't replace it, nor take back a page that the test asks for, makes no change that does
-  behind_leaves : (rd ipa : ℕ) (s : State) (cpu : ℕ) (c : Call) → may_assign c rd ipa ≡ false
-      → ((ripas : Ripas) → (not (test (Some (Unassigned ripas))) && frees_entry c rd ipa) ≡ false)
-      → IsDoneSo (λ change. is_replaced_by change rd (entry_number 3 ipa) ≡ false) (behind s cpu c).1
-  unfolding behind may_assign frees_entry reached_change
-  behind_leaves rd ipa s cpu (call.DataCreate other granule at source flags digest) stays freed =
-      and_right _ _ (same_entry-last rd ipa other at ∙ stays)
-  behind_leaves rd ipa s cpu (call.DataCreateUnknown other granule at) stays freed = and_right _ _ (same_entry-last rd ipa other at ∙ stays)
-  behind_leaves rd ipa s cpu (call.DataDestroy other at) stays freed =
-      let ripas = ripas_after_data (entry_ripas (walk s other at 3).entry) in
-      ap (λ b. not (test (Some (Unassigned ripas))) && b) (same_entry-last rd ipa other at) ∙ freed ripas
-  behind_leaves rd ipa s cpu (call.RttMapUnprotected other at page) stays freed = and_right _ _ (same_entry-last rd ipa other at ∙ stays)
-  behind_leaves rd ipa s cpu (call.RttUnmapUnprotected other at) stays freed = and_right _ _ (same_entry-last rd ipa other at ∙ stays)
-  behind_leaves rd ipa s cpu (call.RttCreate other rtt at level) stays freed =
-      last_table (rd == other) level (entry_number 3 ipa) ipa at (sym (table_number-entry 3 ipa (omega arith))) stays
-  behind_leaves rd ipa s cpu (call.RttRemove removal other at level) stays freed =
-      last_table (rd == other) level (entry_number 3 ipa) ipa at (sym (table_number-entry 3 ipa (omega arith))) stays
-  behind_leaves rd ipa s cpu (call.RealmDestroy other) stays freed = stays
-  behind_leaves rd ipa s cpu (call.RttInitRipas other base top) stays freed = λ end. refl
-  behind_leaves rd ipa s cpu (call.RttSetRipas other rec base top) stays freed = λ end. refl
-  behind_leaves rd ipa s cpu _ stays freed = refl
+  -- A call can't replace the entry, nor take back a page that the test asks for, nor set a RIPAS with which the test isn't met.
+  pub record IsLeft (c : Call) (rd ipa : ℕ) : Type 0 where
+    pub stays : may_assign c rd ipa ≡ false
+    pub freed : (ripas : Ripas) → (not (test (Some (Unassigned ripas))) && frees_entry c rd ipa) ≡ false
+    pub init : Keeps Ram
+    pub requested : (ripas : Ripas) → IsTrue (may_set_ripas c rd) → Keeps ripas
 
-  -- so an entry that meets the test does so behind a step, but by a call that may replace it or take such a page back
-  pub leaf-left : ((ripas : Ripas) (found : Option Entry) → test found ≡ true → test (option_map (entry_with_ripas ripas) found) ≡ true)
-      → (rd ipa : ℕ) (s new : State) (cpu : ℕ) (command : Command) (given : Reply) → IsSound s → Step s cpu command given new
-      → may_assign (call_of command) rd ipa ≡ false
-      → ((ripas : Ripas) → (not (test (Some (Unassigned ripas))) && frees_entry (call_of command) rd ipa) ≡ false)
-      → test (s.leaf rd 3 (entry_number 3 ipa)) ≡ true → test (new.leaf rd 3 (entry_number 3 ipa)) ≡ true
-  leaf-left keeps rd ipa s new cpu command given sound step stays freed met = elim (cases_Bool (is_accepted given)) [
+  -- then it makes no change that does
+  behind_leaves : (rd ipa : ℕ) (s : State) (cpu : ℕ) (c : Call) → IsLeft c rd ipa
+      → IsDoneSo (λ change. Stays change rd (entry_number 3 ipa)) (behind s cpu c).1
+  unfolding behind may_assign frees_entry may_set_ripas reached_change
+  behind_leaves rd ipa s cpu (call.DataCreate other granule at source flags digest) left =
+      and_right _ _ (same_entry-last rd ipa other at ∙ left.stays)
+  behind_leaves rd ipa s cpu (call.DataCreateUnknown other granule at) left = and_right _ _ (same_entry-last rd ipa other at ∙ left.stays)
+  behind_leaves rd ipa s cpu (call.DataDestroy other at) left =
+      let ripas = ripas_after_data (entry_ripas (walk s other at 3).entry) in
+      ap (λ b. not (test (Some (Unassigned ripas))) && b) (same_entry-last rd ipa other at) ∙ left.freed ripas
+  behind_leaves rd ipa s cpu (call.RttMapUnprotected other at page) left = and_right _ _ (same_entry-last rd ipa other at ∙ left.stays)
+  behind_leaves rd ipa s cpu (call.RttUnmapUnprotected other at) left = and_right _ _ (same_entry-last rd ipa other at ∙ left.stays)
+  behind_leaves rd ipa s cpu (call.RttCreate other rtt at level) left =
+      last_table (rd == other) level (entry_number 3 ipa) ipa at (sym (table_number-entry 3 ipa (omega arith))) left.stays
+  behind_leaves rd ipa s cpu (call.RttRemove removal other at level) left =
+      last_table (rd == other) level (entry_number 3 ipa) ipa at (sym (table_number-entry 3 ipa (omega arith))) left.stays
+  behind_leaves rd ipa s cpu (call.RealmDestroy other) left = left.stays
+  behind_leaves rd ipa s cpu (call.RttInitRipas other base top) left = λ end _. left.init
+  behind_leaves rd ipa s cpu (call.RttSetRipas other rec base top) left = λ end. left.requested (request_of (rec_at s rec)).ripas
+  behind_leaves rd ipa s cpu _ left = tt
+
+  -- so an entry that meets the test does so behind its step
+  pub leaf-left : (rd ipa : ℕ) (s new : State) (cpu : ℕ) (command : Command) (given : Reply) → IsSound s → Step s cpu command given new
+      → IsLeft (call_of command) rd ipa → test (s.leaf rd 3 (entry_number 3 ipa)) ≡ true → test (new.leaf rd 3 (entry_number 3 ipa)) ≡ true
+  leaf-left rd ipa s new cpu command given sound step left met = elim (cases_Bool (is_accepted given)) [
     | inl accepted ↦
         (let c = call_of command in
         let carried = carried_by s cpu command given new (outcome s cpu c) sound accepted refl step in
-        let left = behind_leaves rd ipa s cpu c stays freed in
-        carried_met keeps rd (entry_number 3 ipa) s met new given (behind s cpu c).1 sound left carried.can carried.done)
+        let stays = behind_leaves rd ipa s cpu c left in
+        carried_met rd (entry_number 3 ipa) s met new given (behind s cpu c).1 sound stays carried.can carried.done)
     | inr refused ↦ ap (λ (t : State). test (t.leaf rd 3 (entry_number 3 ipa))) (step-refuses s new cpu command given step refused) ∙ met
   ]

@@ -1,6 +1,6 @@
 -- Entries of the last level that are unassigned: one that a call takes a page from, or makes in protected memory, is so behind it, stays so until a
 -- call may replace it, and is found so.
-use Rattle.std.proofs.Common.{◌≡◌, ℕ, ◌+◌, ◌-◌, ◌*◌, ◌/◌, ◌^◌, ◌<◌, ◌==◌, ◌&&◌, ◌||◌, nat_le, nat_lt, Bool, true, false, Option, Some, None, inl, inr, refl, sym, ◌∙◌, ap, subst, eqb-true, eq-eqb, arith, option_map}
+use Rattle.std.proofs.Common.{◌≡◌, ℕ, ◌+◌, ◌-◌, ◌*◌, ◌/◌, ◌^◌, ◌<◌, ◌==◌, ◌&&◌, ◌||◌, nat_le, nat_lt, Bool, true, false, IsTrue, Option, Some, None, inl, inr, refl, sym, ◌∙◌, ap, subst, eqb-true, eq-eqb, arith, option_map}
 use Rattle.std.proofs.Math.Bool.{or-false}
 use Rattle.std.proofs.lemmas.Bool.{and_from, and_parts, ltb-true, or_cases}
 use Rattle.std.proofs.lemmas.Bool.Decides.{nat_tests}
@@ -8,9 +8,10 @@ use Rattle.rmm_spec.specs.declared.call.Call.{Call}
 use Rattle.rmm_spec.specs.declared.call.Call.TheVariants as call
 use Rattle.rmm_spec.specs.declared.command.Command.{Command}
 use Rattle.rmm_spec.specs.declared.entry.Entry.{Entry}
-use Rattle.rmm_spec.specs.declared.entry.Entry.TheVariants.{Unassigned, Table, UnassignedNs}
+use Rattle.rmm_spec.specs.declared.entry.Entry.TheVariants.{Unassigned, Assigned, Table, UnassignedNs, AssignedNs}
 use Rattle.rmm_spec.specs.declared.reply.Reply.{Reply}
 use Rattle.rmm_spec.specs.declared.tag.Ripas.{Ripas}
+use Rattle.rmm_spec.specs.declared.tag.Ripas.TheVariants.{Ram}
 use Rattle.rmm_spec.specs.Applicable.{CanMakeTable}
 use Rattle.rmm_spec.specs.Call.{call_of}
 use Rattle.rmm_spec.specs.Change.{changed}
@@ -21,13 +22,13 @@ use Rattle.rmm_spec.specs.State.{RealmRecord, State}
 use Rattle.rmm_spec.specs.Step.{Step, outcome}
 use Rattle.rmm_spec.specs.Step.Terms.{is_page, words_of}
 use Rattle.rmm_spec.specs.Update.{entry_with_ripas}
-use Rattle.rmm_spec.specs.Walk.{entry_number, entry_size, half, is_assigned, is_table, is_unassigned, table_number}
+use Rattle.rmm_spec.specs.Walk.{entry_number, entry_size, half, is_assigned, is_table, is_unassigned, reach, table_number, walk}
 use Rattle.lemmas.proofs.Tests.{both_ways}
 use Rattle.spec_lemmas.proofs.Behind.{behind}
 use Rattle.rmm_laws.proofs.Ends.{table_number-above}
 use Rattle.rmm_laws.proofs.Entries.{leaf_fits, leaf_there}
 use Rattle.rmm_laws.proofs.Walked.{entry_starts, table_number-entry}
-use Rattle.verdict_laws.specs.Facts.{frees_entry, is_free, is_one_entry, is_one_table, is_refused_with, makes_table, may_assign, sets_from}
+use Rattle.verdict_laws.specs.Facts.{frees_entry, is_free, is_one_entry, is_one_table, is_refused_with, makes_table, may_assign, needs_free}
 use Rattle.verdict_laws.proofs.EntryChanges.{leaf-left, leaf_found, leaf_reached, same_entry-last}
 use Rattle.verdict_laws.proofs.FactSteps.{are_told, step-untold_allowed}
 use Rattle.verdict_laws.proofs.Replies.{half-least}
@@ -49,13 +50,14 @@ free_there None free = both_ways free refl
 
 -- ---- new tables
 
--- a leaf of the protected half above the last level is unassigned
-unassigned_above : (e : Entry) (r : RealmRecord) (level number : ℕ) → level < 3 → number * entry_size level < half r → IsLeafOf e r level number
-    → is_unassigned e ≡ true
-unassigned_above (Unassigned ripas) r level number above lower fits = refl
-unassigned_above UnassignedNs r level number above lower fits = absurd (omega (arith, fits))
-unassigned_above (Table granule) r level number above lower fits = absurd fits
-unassigned_above _ r level number above lower fits = absurd (omega (arith, fits.1))
+-- a leaf of the protected half is unassigned, unless it has a page
+pub unassigned_lower : (e : Entry) (r : RealmRecord) (level number : ℕ) → (IsTrue (is_assigned e) → level ≡ 3 → ⊥)
+    → number * entry_size level < half r → IsLeafOf e r level number → is_unassigned e ≡ true
+unassigned_lower (Unassigned ripas) r level number no_page lower fits = refl
+unassigned_lower (Assigned ripas granule) r level number no_page lower fits = absurd (no_page refl fits.1)
+unassigned_lower (Table granule) r level number no_page lower fits = absurd fits
+unassigned_lower UnassignedNs r level number no_page lower fits = absurd (omega (arith, fits))
+unassigned_lower (AssignedNs page) r level number no_page lower fits = absurd (omega (arith, fits.0))
 
 module _ (s : State) (rd level number rtt : ℕ) (entry : Entry) (sound : IsSound s) (can : CanMakeTable s rd level number rtt entry) where
   -- what a new table is made of is a leaf of the table above
@@ -71,7 +73,7 @@ module _ (s : State) (rd level number rtt : ℕ) (entry : Entry) (sound : IsSoun
       let wide = half-least fits.0 (sound.realms.spaces rd fits.0 fits.1) in
       let up : entry_number (level - 1) ipa ≡ number = sym (table_number-above level ipa (omega (arith, can.below_root))) ∙ same in
       let starts = rw up at (entry_starts (level - 1) ipa) in
-      unassigned_above entry fits.0 (level - 1) number (omega (arith, can.place.last)) (omega arith) fits.2
+      unassigned_lower entry fits.0 (level - 1) number (λ _ last. omega (arith, last, can.place.last)) (omega arith) fits.2
 
 -- a table of the last level has the entry of each of its addresses, and covers them all
 last_table-has : (is : Bool) (level ipa at : ℕ) → (is && 3 == level && is_one_table 3 ipa at) ≡ true
@@ -103,27 +105,27 @@ made_free rd ipa s new cpu given (call.RttCreate other rtt at level) sound carri
 made_free rd ipa s new cpu given _ sound carried makes = both_ways makes refl
 
 module _ (rd ipa : ℕ) (s : State) (cpu : ℕ) (sound : IsSound s) (free : is_free (s.leaf rd 3 (entry_number 3 ipa)) ≡ true) where
-  -- so RTT_INIT_RIPAS isn't refused for it, if its words are allowed
-  behind_sets : (c : Call) → all_allowed (words_of c) ≡ true
-      → are_told (λ given. is_refused_with 4 given && sets_from c rd ipa) (behind s cpu c).0 ≡ false
-  unfolding behind sets_from entry_size words_of
-  behind_sets (call.RttInitRipas other base top) allowed = by (rd == other && is_one_entry ipa base) refl
-    where
-      by : (b : Bool) → (rd == other && is_one_entry ipa base) ≡ b
-          → are_told (λ given. is_refused_with 4 given && b) (behind s cpu (call.RttInitRipas other base top)).0 ≡ false
-      by false apart = refl
-      by true same =
-          let words = and_parts (is_page base) (is_page top && (nat_lt base top && true)) allowed in
-          let ends = and_parts (is_page top) (nat_lt base top && true) words.1 in
-          let ordered = and_parts (nat_lt base top) true ends.1 in
-          let there = free_there (s.leaf rd 3 (entry_number 3 ipa)) free in
-          rw (
-            leaf_found s sound rd ipa (Unassigned there.0) there.1 other base same refl,
-            leaf_reached s sound rd ipa (Unassigned there.0) there.1 other base same,
-            words.0,
-            one_page base top words.0 ends.0 ordered.0,
-          ) refl
-  behind_sets _ allowed = refl
+  -- a walk for one of its addresses finds it, at the last level
+  free_found : (other at : ℕ) → (rd == other && is_one_entry ipa at) ≡ true
+      → (ripas : Ripas) × ((walk s other at 3).entry ≡ Unassigned ripas) × (reach s other at 3 ≡ 3)
+  free_found other at same =
+      let there = free_there (s.leaf rd 3 (entry_number 3 ipa)) free in
+      let e = Unassigned there.0 in
+      (there.0, leaf_found s sound rd ipa e there.1 other at same refl, leaf_reached s sound rd ipa e there.1 other at same)
+
+  -- so neither DATA_CREATE_UNKNOWN nor RTT_INIT_RIPAS is refused for it, if its words are allowed
+  behind_free : (c : Call) → needs_free c rd ipa ≡ true → all_allowed (words_of c) ≡ true
+      → are_told (is_refused_with 4) (behind s cpu c).0 ≡ false
+  unfolding behind needs_free entry_size words_of
+  behind_free (call.DataCreateUnknown other granule at) same allowed =
+      let found = free_found other at same in rw (found.1, found.2) refl
+  behind_free (call.RttInitRipas other base top) same allowed =
+      let words = and_parts (is_page base) (is_page top && (nat_lt base top && true)) allowed in
+      let ends = and_parts (is_page top) (nat_lt base top && true) words.1 in
+      let ordered = and_parts (nat_lt base top) true ends.1 in
+      let found = free_found other base same in
+      rw (found.1, found.2, words.0, one_page base top words.0 ends.0 ordered.0) refl
+  behind_free _ same allowed = both_ways same refl
 
 -- ---- steps
 
@@ -140,7 +142,8 @@ pub entry-left : (rd ipa : ℕ) (s new : State) (cpu : ℕ) (command : Command) 
     → may_assign (call_of command) rd ipa ≡ false → is_free (s.leaf rd 3 (entry_number 3 ipa)) ≡ true
     → is_free (new.leaf rd 3 (entry_number 3 ipa)) ≡ true
 entry-left rd ipa s new cpu command given sound step stays =
-    leaf-left is_free ripas_free rd ipa s new cpu command given sound step stays (λ ripas. refl)
+    leaf-left is_free rd ipa s new cpu command given sound step
+    (record { stays = stays; freed = λ ripas. refl; init = ripas_free Ram; requested = λ ripas _. ripas_free ripas })
 
 -- no page is taken back from it
 destroy_denied : (rd ipa : ℕ) (s new : State) (cpu : ℕ) (given : Reply) (c : Call) → IsSound s → IsCarried s cpu c given new
@@ -151,18 +154,19 @@ destroy_denied rd ipa s new cpu given (call.DataDestroy other at) sound carried 
     both_ways carried.rows.1.1.0 (ap is_assigned (leaf_found s sound rd ipa (Unassigned there.0) there.1 other at frees refl))
 destroy_denied rd ipa s new cpu given _ sound carried free frees = both_ways frees refl
 
--- nor is its RIPAS refused to be set
+-- nor is it refused to be given a page, or its RIPAS to be set
 pub entry-denied : (rd ipa : ℕ) (s new : State) (cpu : ℕ) (command : Command) (given : Reply) → IsSound s → Step s cpu command given new
     → is_free (s.leaf rd 3 (entry_number 3 ipa)) ≡ true
-    → ((is_accepted given && frees_entry (call_of command) rd ipa) || (is_refused_with 4 given && sets_from (call_of command) rd ipa)) ≡ true → ⊥
+    → ((is_accepted given && frees_entry (call_of command) rd ipa) || (is_refused_with 4 given && needs_free (call_of command) rd ipa)) ≡ true → ⊥
 entry-denied rd ipa s new cpu command given sound step free denied =
     let c = call_of command in
-    elim (or_cases (is_accepted given && frees_entry c rd ipa) (is_refused_with 4 given && sets_from c rd ipa) denied) [
+    elim (or_cases (is_accepted given && frees_entry c rd ipa) (is_refused_with 4 given && needs_free c rd ipa) denied) [
       | inl taken ↦
           (let parts = and_parts (is_accepted given) (frees_entry c rd ipa) taken in
           let carried = carried_by s cpu command given new (outcome s cpu c) sound parts.0 refl step in
           destroy_denied rd ipa s new cpu given c sound carried free parts.1)
       | inr refused ↦
-          both_ways refused (step-untold_allowed (λ r. is_refused_with 4 r && sets_from c rd ipa) (λ words. refl) refl refl s new cpu command given
-          (behind_sets rd ipa s cpu sound free c) step)
+          (let parts = and_parts (is_refused_with 4 given) (needs_free c rd ipa) refused in
+          both_ways parts.0 (step-untold_allowed (is_refused_with 4) (λ words. refl) refl refl s new cpu command given
+          (behind_free rd ipa s cpu sound free c parts.1) step))
     ]

@@ -1,8 +1,9 @@
 -- What holds behind a step, by the change that its call makes, and what a step isn't replied, by the rows of its call.
 use Rattle.std.proofs.Common.{◌≡◌, ℕ, ◌&&◌, Bool, true, false, not, if◌then◌else◌, List, [], ◌∷◌, refl, sym, ◌∙◌, ap, subst}
 use Rattle.std.specs.Prelude.{Result, Ok, Err}
-use Rattle.std.specs.List.{list_any}
-use Rattle.std.proofs.lemmas.Bool.{and_from, false_from_ne_true, or_parts}
+use Rattle.std.specs.List.{list_all, list_any}
+use Rattle.std.proofs.Math.Bool.{and-false}
+use Rattle.std.proofs.lemmas.Bool.{and_from, and_parts, false_from_ne_true, or_parts}
 use Rattle.rmm_spec.specs.declared.accepted.Accepted.{Accepted}
 use Rattle.rmm_spec.specs.declared.accepted.Accepted.TheVariants.{Done, Reaches}
 use Rattle.rmm_spec.specs.declared.call.Call.{Call}
@@ -14,7 +15,7 @@ use Rattle.rmm_spec.specs.declared.reply.Reply.{Reply}
 use Rattle.rmm_spec.specs.declared.reply.Reply.TheVariants as reply
 use Rattle.rmm_spec.specs.Call.{call_of, class_of}
 use Rattle.rmm_spec.specs.Change.{changed}
-use Rattle.rmm_spec.specs.Lookup.{is_inside}
+use Rattle.rmm_spec.specs.Lookup.{has_tag, is_inside}
 use Rattle.rmm_spec.specs.Ownership.{is_accepted}
 use Rattle.rmm_spec.specs.Rows.{Needed, Row, Word, all_allowed, decided, input_error, inputs, reply_of, tagged}
 use Rattle.rmm_spec.specs.State.{State}
@@ -56,6 +57,26 @@ is_told says row = says (reply_of row.otherwise) && not row.holds
 -- whether one of the rows is
 abbrev pub are_told : (Reply → Bool) → List Row → Bool
 are_told says rows = list_any (is_told says) rows
+
+-- whether each granule that is named has its tag
+abbrev pub are_tagged : State → List Needed → Bool
+are_tagged s names = list_all (λ (n : Needed). has_tag s n.granule n.tag) names
+
+-- rows on words that are allowed refuse nothing
+are_told-allowed : (says : Reply → Bool) (words : List Word) (rows : List Row) → all_allowed words ≡ true
+    → are_told says (inputs words rows) ≡ are_told says rows
+are_told-allowed says [] rows allowed = refl
+are_told-allowed says (word ∷ words) rows allowed =
+    let parts = and_parts word.allowed (all_allowed words) allowed in
+    rw (parts.0, and-false (says input_error)) (are_told-allowed says words rows parts.1)
+
+-- nor do those on tags that are there
+are_told-there : (says : Reply → Bool) (s : State) (names : List Needed) (rows : List Row) → are_tagged s names ≡ true
+    → are_told says (tagged s names rows) ≡ are_told says rows
+are_told-there says s [] rows there = refl
+are_told-there says s (name ∷ names) rows there =
+    let parts = and_parts (has_tag s name.granule name.tag) (are_tagged s names) there in
+    rw (parts.0, and-false (says input_error)) (are_told-there says s names rows parts.1)
 
 module _ (says : Reply → Bool) (of_accepted : (words : _) → says (reply.Ok words) ≡ false) (of_misplaced : says reply.Misplaced ≡ false) where
   -- what a call leads to is refused with no such reply
@@ -99,10 +120,20 @@ module _ (says : Reply → Bool) (of_accepted : (words : _) → says (reply.Ok w
       carried-untold (outcome s cpu (call_of command)) s new given (IsUntold-outcome s cpu (call_of command) untold)
 
   -- one whose call has no row that is refused so
-  pub front-untold : (s new : State) (cpu : ℕ) (command : Command) (given : Reply)
+  front-untold : (s new : State) (cpu : ℕ) (command : Command) (given : Reply)
       → are_told says (with_front s (call_of command) (behind s cpu (call_of command)).0) ≡ false → Step s cpu command given new
       → says given ≡ false
   front-untold s new cpu command given none = answer-untold s new cpu command given (IsUntold-decided _ (behind s cpu (call_of command)).1 none)
+
+  -- or, where its words are allowed and what it names has its tags, none behind those
+  pub step-untold_there : (s new : State) (cpu : ℕ) (command : Command) (given : Reply) → all_allowed (words_of (call_of command)) ≡ true
+      → are_tagged s (named (call_of command)) ≡ true → are_told says (behind s cpu (call_of command)).0 ≡ false → Step s cpu command given new
+      → says given ≡ false
+  step-untold_there s new cpu command given allowed there none =
+      let c = call_of command in
+      let rows = (behind s cpu c).0 in
+      front-untold s new cpu command given
+      (are_told-allowed says (words_of c) (tagged s (named c) rows) allowed ∙ are_told-there says s (named c) rows there ∙ none)
 
   module _ (of_input : says input_error ≡ false) where
     -- the rows on words add none

@@ -85,5 +85,7 @@ pub mod WideFacts
 pub mod EntryChanges
 pub mod EntryFacts
 pub mod PageFacts
+pub mod RamFacts
 pub mod FactKinds
+pub mod ManyFacts
 pub mod FactOrders

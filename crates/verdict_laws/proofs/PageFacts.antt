@@ -9,6 +9,7 @@ use Rattle.rmm_spec.specs.declared.entry.Entry.{Entry}
 use Rattle.rmm_spec.specs.declared.entry.Entry.TheVariants.{Assigned}
 use Rattle.rmm_spec.specs.declared.reply.Reply.{Reply}
 use Rattle.rmm_spec.specs.declared.tag.Ripas.{Ripas}
+use Rattle.rmm_spec.specs.declared.tag.Ripas.TheVariants.{Ram}
 use Rattle.rmm_spec.specs.declared.tag.Tag.TheVariants.{Data}
 use Rattle.rmm_spec.specs.Call.{call_of}
 use Rattle.rmm_spec.specs.Change.{changed}
@@ -96,7 +97,8 @@ pub page-left : (rd ipa page : ℕ) (s new : State) (cpu : ℕ) (command : Comma
     → has_page (s.leaf rd 3 (entry_number 3 ipa)) page ≡ true → has_page (new.leaf rd 3 (entry_number 3 ipa)) page ≡ true
 page-left rd ipa page s new cpu command given sound step stays =
     let parts = or_parts (may_assign (call_of command) rd ipa) (frees_entry (call_of command) rd ipa) stays in
-    leaf-left (λ found. has_page found page) (ripas_page page) rd ipa s new cpu command given sound step parts.0 (λ ripas. parts.1)
+    leaf-left (λ found. has_page found page) rd ipa s new cpu command given sound step
+    (record { stays = parts.0; freed = λ ripas. parts.1; init = ripas_page page Ram; requested = λ ripas _. ripas_page page ripas })
 
 -- and no reply shows its granule with another tag, or gives another back for it
 pub page-denied : (rd ipa page : ℕ) (s new : State) (cpu : ℕ) (command : Command) (given : Reply) → IsSound s → Step s cpu command given new

@@ -48,11 +48,11 @@ use Rattle.verdict_laws.proofs.MaskedCalls.{outcome-found, refused_named}
 -- ---- tags
 
 -- a tag is itself
-tag-is_tag : (one other : Tag) → one ≡ other → is_tag one other ≡ true
+pub tag-is_tag : (one other : Tag) → one ≡ other → is_tag one other ≡ true
 tag-is_tag one other same = eq-eqb (tag_number one) (tag_number other) (ap tag_number same)
 
 -- and no other
-tag-from_is_tag : (one other : Tag) → is_tag one other ≡ true → one ≡ other
+pub tag-from_is_tag : (one other : Tag) → is_tag one other ≡ true → one ≡ other
 tag-from_is_tag one other is = tag_number-injective one other (eqb-true (tag_number one) (tag_number other) is)
 
 -- ---- calls that are carried out

@@ -1,5 +1,5 @@
 -- Realms of so many bits of addresses: one that a call makes is so behind it, is so until it is destroyed, and none of its addresses is refused.
-use Rattle.std.proofs.Common.{◌≡◌, ℕ, ◌-◌, ◌^◌, ◌==◌, ◌&&◌, nat_le, nat_lt, if◌then◌else◌, Bool, true, false, List, [], ◌∷◌, is_some, Option, Some, None, refl, sym, ◌∙◌, ap, eqb-true, eq-eqb}
+use Rattle.std.proofs.Common.{◌≡◌, ℕ, ◌-◌, ◌^◌, ◌==◌, ◌&&◌, nat_le, nat_lt, if◌then◌else◌, Bool, true, false, is_some, Option, Some, None, refl, sym, ◌∙◌, ap, eqb-true, eq-eqb}
 use Rattle.std.specs.Prelude.{unwrap_or}
 use Rattle.std.proofs.lemmas.Bool.{and_parts}
 use Rattle.rmm_spec.specs.declared.call.Call.{Call}
@@ -19,7 +19,7 @@ use Rattle.rmm_spec.specs.Call.{call_of}
 use Rattle.rmm_spec.specs.Change.{changed, realm_updated, with_realm_change, with_tag_change}
 use Rattle.rmm_spec.specs.Lookup.{has_tag, no_realm, realm_at}
 use Rattle.rmm_spec.specs.Ownership.{is_accepted}
-use Rattle.rmm_spec.specs.Rows.{Row, Word, all_allowed, inputs, tagged}
+use Rattle.rmm_spec.specs.Rows.{all_allowed}
 use Rattle.rmm_spec.specs.Sound.{IsSound}
 use Rattle.rmm_spec.specs.State.{RealmRecord, State}
 use Rattle.rmm_spec.specs.Step.{Step}
@@ -30,7 +30,7 @@ use Rattle.spec_lemmas.proofs.Behind.{behind}
 use Rattle.rmm_laws.proofs.Cases.{by_address}
 use Rattle.rmm_laws.proofs.Keeps.{rec_change-rest, tag_change-rest, with_records}
 use Rattle.verdict_laws.specs.Facts.{has_width, is_refused_with, lies_in, makes_wide, may_narrow}
-use Rattle.verdict_laws.proofs.FactSteps.{IsDoneSo, are_told, front-untold, step-has}
+use Rattle.verdict_laws.proofs.FactSteps.{IsDoneSo, are_tagged, are_told, step-has, step-untold_there}
 
 -- ---- behind a change
 
@@ -54,9 +54,13 @@ found_wide (Some realm) width is = (refl, eqb-true realm.width width is)
 
 module _ (rd width : ℕ) (s : State) (is : has_width (s.realm rd) width ≡ true) where
   -- what is read of the realm
-  read_wide : (other : ℕ) → rd ≡ other → (realm_at s other).width ≡ width
+  pub read_wide : (other : ℕ) → rd ≡ other → (realm_at s other).width ≡ width
   unfolding realm_at
   read_wide other same = ap (λ g. (unwrap_or (s.realm g) no_realm).width) (sym same) ∙ (found_wide (s.realm rd) width is).1
+
+  -- its granule has its tag
+  pub rd_tagged : IsSound s → (other : ℕ) → rd ≡ other → has_tag s other Rd ≡ true
+  rd_tagged sound other same = ap (λ g. has_tag s g Rd) (sym same) ∙ sym (sound.realms.tagged rd) ∙ (found_wide (s.realm rd) width is).0
 
   -- where a record is updated, its own or another, it is as wide
   updated_wide : (other : ℕ) (update : RealmUpdate)
@@ -93,13 +97,6 @@ changed_wide rd width s _ keeps is = is
 
 -- ---- behind a call
 
--- rows on words that are allowed refuse nothing
-inputs-allowed : (words : List Word) (rows : List Row) → all_allowed words ≡ true
-    → are_told (is_refused_with 1) (inputs words rows) ≡ are_told (is_refused_with 1) rows
-inputs-allowed [] rows allowed = refl
-inputs-allowed (word ∷ words) rows allowed =
-    let parts = and_parts word.allowed (all_allowed words) allowed in rw parts.0 (inputs-allowed words rows parts.1)
-
 module _ (rd width : ℕ) (s : State) (cpu : ℕ) where
   -- REALM_CREATE makes it so wide
   behind_makes : (c : Call) → makes_wide c rd width ≡ true
@@ -119,25 +116,21 @@ module _ (rd width : ℕ) (s : State) (cpu : ℕ) where
   behind_leaves (call.RttSetRipas other rec base top) keeps = λ end. refl
   behind_leaves _ keeps = refl
 
-  module _ (sound : IsSound s) (is : has_width (s.realm rd) width ≡ true) where
-    -- the realm's granule has its tag
-    rd_tagged : (other : ℕ) → rd ≡ other → has_tag s other Rd ≡ true
-    rd_tagged other same = ap (λ g. has_tag s g Rd) (sym same) ∙ sym (sound.realms.tagged rd) ∙ (found_wide (s.realm rd) width is).0
-
-    -- so a call that lies in it isn't refused for its realm's granule, nor for its addresses
-    behind_lies : (c : Call) → lies_in c rd width ≡ true → are_told (is_refused_with 1) (tagged s (named c) (behind s cpu c).0) ≡ false
-    unfolding behind named lies_in
-    behind_lies (call.DataDestroy other ipa) lies =
-        let parts = and_parts (rd == other) (nat_lt ipa (2 ^ (width - 1))) lies in
-        let here = eqb-true rd other parts.0 in
-        let below = ap (λ w. nat_lt ipa (2 ^ (w - 1))) (read_wide rd width s is other here) ∙ parts.1 in
-        rw (rd_tagged other here, below) refl
-    behind_lies (call.RttInitRipas other base top) lies =
-        let parts = and_parts (rd == other) (nat_le top (2 ^ (width - 1))) lies in
-        let here = eqb-true rd other parts.0 in
-        let within = ap (λ w. nat_le top (2 ^ (w - 1))) (read_wide rd width s is other here) ∙ parts.1 in
-        rw (rd_tagged other here, within) refl
-    behind_lies _ lies = both_ways lies refl
+  -- a call that lies in it finds its realm's granule, and isn't refused for its addresses
+  behind_lies : IsSound s → has_width (s.realm rd) width ≡ true → (c : Call) → lies_in c rd width ≡ true
+      → (are_tagged s (named c) ≡ true) × (are_told (is_refused_with 1) (behind s cpu c).0 ≡ false)
+  unfolding behind named lies_in
+  behind_lies sound is (call.DataDestroy other ipa) lies =
+      let parts = and_parts (rd == other) (nat_lt ipa (2 ^ (width - 1))) lies in
+      let here = eqb-true rd other parts.0 in
+      let below = ap (λ w. nat_lt ipa (2 ^ (w - 1))) (read_wide rd width s is other here) ∙ parts.1 in
+      (rw (rd_tagged rd width s is sound other here) refl, rw below refl)
+  behind_lies sound is (call.RttInitRipas other base top) lies =
+      let parts = and_parts (rd == other) (nat_le top (2 ^ (width - 1))) lies in
+      let here = eqb-true rd other parts.0 in
+      let within = ap (λ w. nat_le top (2 ^ (w - 1))) (read_wide rd width s is other here) ∙ parts.1 in
+      (rw (rd_tagged rd width s is sound other here) refl, rw within refl)
+  behind_lies sound is _ lies = both_ways lies refl
 
 -- ---- steps
 
@@ -163,6 +156,5 @@ wide-denied rd width s new cpu command given sound step is denied =
     let c = call_of command in
     let parts = and_parts (is_refused_with 1 given && all_allowed (words_of c)) (lies_in c rd width) denied in
     let refused = and_parts (is_refused_with 1 given) (all_allowed (words_of c)) parts.0 in
-    both_ways refused.0 (front-untold (is_refused_with 1) (λ words. refl) refl s new cpu command given
-    (inputs-allowed (words_of c) (tagged s (named c) (behind s cpu c).0) refused.1
-    ∙ behind_lies rd width s cpu sound is c parts.1) step)
+    let lies = behind_lies rd width s cpu sound is c parts.1 in
+    both_ways refused.0 (step-untold_there (is_refused_with 1) (λ words. refl) refl s new cpu command given refused.1 lies.0 lies.1 step)

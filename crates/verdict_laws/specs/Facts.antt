@@ -1,7 +1,8 @@
--- Facts that some calls make and others end: where one of the first makes a fact and none may have ended it since, a reply that denies it is wrong.
+-- Facts that some calls make and others end: where one of the first makes a fact and none may have ended it since, a reply that denies it, or that
+-- several such facts deny, is wrong.
 -- This project's own.
-use Rattle.std.specs.Prelude.{◌≡◌, ℕ, ◌-◌, ◌^◌, ◌==◌, ◌&&◌, ◌||◌, ◌⊎◌, nat_le, nat_lt, Bool, true, false, not, List, Option, None, Some, is_some}
-use Rattle.std.specs.List.{list_any}
+use Rattle.std.specs.Prelude.{◌≡◌, ℕ, ◌-◌, ◌^◌, ◌==◌, ◌&&◌, ◌||◌, ◌⊎◌, nat_le, nat_lt, All, Bool, true, false, not, List, [], ◌∷◌, Option, None, Some, is_some}
+use Rattle.std.specs.List.{list_all, list_any}
 use Rattle.rmm_spec.specs.declared.call.Call.{Call}
 use Rattle.rmm_spec.specs.declared.call.Call.TheVariants as call
 use Rattle.rmm_spec.specs.declared.command.Command.{Command}
@@ -14,14 +15,14 @@ use Rattle.rmm_spec.specs.declared.tag.Tag.{Tag}
 use Rattle.rmm_spec.specs.declared.tag.Tag.TheVariants.{Undelegated, Delegated, Rd, Rec, RecAux, Data, Rtt}
 use Rattle.rmm_spec.specs.Call.{call_of}
 use Rattle.rmm_spec.specs.Linearization.{IsCalled, IsReturned}
-use Rattle.rmm_spec.specs.Lookup.{is_new, tag_number}
+use Rattle.rmm_spec.specs.Lookup.{is_granule, is_new, tag_number}
 use Rattle.rmm_spec.specs.Ownership.{is_accepted}
 use Rattle.rmm_spec.specs.Rows.{Needed, all_allowed}
 use Rattle.rmm_spec.specs.State.{RealmRecord, State}
 use Rattle.rmm_spec.specs.Step.Terms.{Way, named, way_of, words_of}
-use Rattle.rmm_spec.specs.Walk.{entry_number, is_unassigned, table_number}
+use Rattle.rmm_spec.specs.Walk.{entry_number, entry_ripas, is_multiple, is_ram, is_unassigned, table_number, table_size}
 use Rattle.verdict_laws.specs.declared.facts.Fact.{Fact}
-use Rattle.verdict_laws.specs.declared.facts.Fact.TheVariants.{NewRealm, Tagged, Covered, Wide, Unassigned, Assigned}
+use Rattle.verdict_laws.specs.declared.facts.Fact.TheVariants.{NewRealm, Tagged, Covered, Wide, Unassigned, UnassignedRam, Assigned}
 use Rattle.verdict_laws.specs.Separate.{is_freed}
 use Rattle.verdict_laws.specs.Slices.{ChangesNothing, IsBack, IsDoneBefore, changeable, leaves_unused, shows_names}
 
@@ -62,10 +63,16 @@ abbrev pub has_page : Option Entry → ℕ → Bool
 has_page (Some (entry.Assigned ripas at)) page = page == at
 has_page _ page = false
 
+-- whether there is an entry, which is unassigned RAM
+abbrev pub is_free_ram : Option Entry → Bool
+is_free_ram None = false
+is_free_ram (Some entry) = is_unassigned entry && is_ram (entry_ripas entry)
+
 -- whether the fact holds
 abbrev pub holds : Fact → State → Bool
 holds (Wide rd width) s = has_width (s.realm rd) width
 holds (Unassigned rd ipa) s = is_free (s.leaf rd 3 (entry_number 3 ipa))
+holds (UnassignedRam rd ipa) s = is_free_ram (s.leaf rd 3 (entry_number 3 ipa))
 holds (Assigned rd ipa page) s = has_page (s.leaf rd 3 (entry_number 3 ipa)) page
 holds (NewRealm rd) s = is_still_new (s.realm rd)
 holds (Tagged granule tag) s = is_tag (s.tag granule) tag
@@ -78,6 +85,7 @@ begins (Tagged granule tag) = is_tag Undelegated tag
 begins (Covered rd level ipa) = false
 begins (Wide rd width) = false
 begins (Unassigned rd ipa) = false
+begins (UnassignedRam rd ipa) = false
 begins (Assigned rd ipa page) = false
 
 -- ---- calls that make it
@@ -114,6 +122,21 @@ unfoldable pub frees_entry : Call → ℕ → ℕ → Bool
 frees_entry (call.DataDestroy other at) rd ipa = rd == other && is_one_entry ipa at
 frees_entry _ rd ipa = false
 
+-- whether a stretch from the one address is told to end at another which isn't as far as whole tables of the last level, and past a third one
+abbrev pub ends_past : ℕ → ℕ → List ℕ → Bool
+ends_past base ipa (top ∷ []) = nat_lt ipa top && not (is_multiple (top - base) (table_size 3))
+ends_past base ipa _ = false
+
+abbrev pub is_told_past : ℕ → ℕ → Reply → Bool
+is_told_past base ipa (reply.Ok words) = ends_past base ipa words.items
+is_told_past base ipa _ = false
+
+-- Whether the call, carried out with that reply, makes the address RAM by an entry of the last level: entries of other levels span whole tables
+-- of the last.
+unfoldable pub sets_ram : Call → Reply → ℕ → ℕ → Bool
+sets_ram (call.RttInitRipas other base top) given rd ipa = rd == other && nat_le base ipa && is_told_past base ipa given
+sets_ram _ given rd ipa = false
+
 -- whether the call, carried out with that reply, leaves the granule with the tag
 abbrev pub tags : Call → Reply → ℕ → Tag → Bool
 tags c given granule Undelegated = leaves_unused c given granule false
@@ -132,6 +155,7 @@ makes (Tagged granule tag) c given = tags c given granule tag
 makes (Covered rd level ipa) c given = makes_table c rd level ipa
 makes (Wide rd width) c given = makes_wide c rd width
 makes (Unassigned rd ipa) c given = frees_entry c rd ipa || (makes_table c rd 3 ipa && nat_lt ipa (2 ^ 38))
+makes (UnassignedRam rd ipa) c given = sets_ram c given rd ipa
 makes (Assigned rd ipa page) c given = gives_entry c rd ipa page
 
 -- ---- calls that may end it
@@ -162,6 +186,11 @@ may_assign (call.RttRemove removal other at level) rd ipa = rd == other && level
 may_assign (call.RealmDestroy other) rd ipa = rd == other
 may_assign _ rd ipa = false
 
+-- whether the call may set the RIPAS of the realm's entries as a REC asked
+unfoldable pub may_set_ripas : Call → ℕ → Bool
+may_set_ripas (call.RttSetRipas other rec base top) rd = rd == other
+may_set_ripas _ rd = false
+
 -- whether one of these needs the tag of the granule
 abbrev pub needs : List Needed → ℕ → Tag → Bool
 needs names granule tag = list_any (λ (n : Needed). n.granule == granule && is_tag n.tag tag) names
@@ -188,6 +217,7 @@ may_end (Tagged granule tag) c given = may_retag c given granule tag
 may_end (Covered rd level ipa) c given = may_uncover c rd level ipa
 may_end (Wide rd width) c given = may_narrow c rd
 may_end (Unassigned rd ipa) c given = may_assign c rd ipa
+may_end (UnassignedRam rd ipa) c given = may_assign c rd ipa || frees_entry c rd ipa || may_set_ripas c rd
 may_end (Assigned rd ipa page) c given = may_assign c rd ipa || frees_entry c rd ipa
 
 -- ---- replies that deny it
@@ -226,10 +256,16 @@ is_refused_with asked (reply.Ok words) = false
 is_refused_with asked (reply.Err status index) = status == asked
 is_refused_with asked reply.Misplaced = false
 
--- whether it sets the RIPAS from the address on
-unfoldable pub sets_from : Call → ℕ → ℕ → Bool
-sets_from (call.RttInitRipas other base top) rd ipa = rd == other && is_one_entry ipa base
-sets_from _ rd ipa = false
+-- whether the call is refused where the address's entry isn't unassigned, and by no other row on its table
+unfoldable pub needs_free : Call → ℕ → ℕ → Bool
+needs_free (call.DataCreateUnknown other granule at) rd ipa = rd == other && is_one_entry ipa at
+needs_free (call.RttInitRipas other base top) rd ipa = rd == other && is_one_entry ipa base
+needs_free _ rd ipa = false
+
+-- whether DATA_CREATE gives the address a page
+unfoldable pub creates_page : Call → ℕ → ℕ → Bool
+creates_page (call.DataCreate other granule at source flags digest) rd ipa = rd == other && is_one_entry ipa at
+creates_page _ rd ipa = false
 
 -- whether such a reply isn't given where the fact holds
 abbrev pub denies : Fact → Call → Reply → Bool
@@ -239,10 +275,56 @@ denies (Tagged granule tag) c given =
     || (is_freed c given granule && not (is_tag tag Data) && not (is_tag tag Rtt))
 denies (Covered rd level ipa) c given = is_refused_above level given && goes_to (way_of c) rd level ipa
 denies (Wide rd width) c given = is_refused_with 1 given && all_allowed (words_of c) && lies_in c rd width
-denies (Unassigned rd ipa) c given = (is_accepted given && frees_entry c rd ipa) || (is_refused_with 4 given && sets_from c rd ipa)
+denies (Unassigned rd ipa) c given = (is_accepted given && frees_entry c rd ipa) || (is_refused_with 4 given && needs_free c rd ipa)
+denies (UnassignedRam rd ipa) c given = is_refused_with 4 given && creates_page c rd ipa
 denies (Assigned rd ipa page) c given =
     (shows_names given && needs_other (named c) page Data)
     || (frees_entry c rd ipa && (is_refused_with 4 given || (is_accepted given && not (is_freed c given page))))
+
+-- ---- replies that several deny
+
+-- whether the fact says that a granule has the tag which a call needs
+abbrev pub gives_tag : Needed → Fact → Bool
+gives_tag n (Tagged granule tag) = n.granule == granule && is_tag n.tag tag
+gives_tag n (Wide rd width) = n.granule == rd && is_tag n.tag Rd
+gives_tag n _ = false
+
+-- whether it is one of so many granules, and one of the facts says so; addresses of none are Undelegated too
+abbrev pub give_tag : ℕ → List Fact → Needed → Bool
+give_tag granules facts n = is_granule granules n.granule && list_any (gives_tag n) facts
+
+-- whether the fact says that the realm is there, and the address lies in its protected half
+abbrev pub gives_half : ℕ → ℕ → Fact → Bool
+gives_half rd ipa (Wide other width) = rd == other && nat_lt ipa (2 ^ (width - 1))
+gives_half rd ipa _ = false
+
+-- whether one of the facts says so
+abbrev pub give_half : List Fact → ℕ → ℕ → Bool
+give_half facts rd ipa = list_any (gives_half rd ipa) facts
+
+-- Whether no row behind those on words and tags refuses the call with ERROR_INPUT where the facts hold. A realm's tables begin at level 0 or 1.
+unfoldable pub are_within : List Fact → Call → Bool
+are_within facts (call.GranuleDelegate granule) = true
+are_within facts (call.GranuleUndelegate granule) = true
+are_within facts (call.DataCreate rd granule ipa source flags digest) = give_half facts rd ipa
+are_within facts (call.DataCreateUnknown rd granule ipa) = give_half facts rd ipa
+are_within facts (call.RealmActivate rd) = true
+are_within facts (call.RealmDestroy rd) = true
+are_within facts (call.RecDestroy rec) = true
+are_within facts (call.RecEnter rec) = true
+are_within facts (call.RttCreate rd rtt ipa level) = nat_le 2 level && give_half facts rd ipa
+are_within facts (call.RttRemove removal rd ipa level) = nat_le 2 level && give_half facts rd ipa
+are_within facts (call.RttReadEntry rd ipa level) = nat_le 1 level && give_half facts rd ipa
+are_within facts _ = false
+
+-- whether the call is refused with ERROR_INPUT, though where the facts hold all is well that it says and names
+abbrev pub deny_input : ℕ → List Fact → Call → Reply → Bool
+deny_input granules facts c given =
+    is_refused_with 1 given && all_allowed (words_of c) && list_all (give_tag granules facts) (named c) && are_within facts c
+
+-- whether such a reply isn't given where all the facts hold, on a machine of so many granules
+abbrev pub deny : ℕ → List Fact → Call → Reply → Bool
+deny granules facts c given = list_any (λ (fact : Fact). denies fact c given) facts || deny_input granules facts c given
 
 -- ---- in a history
 
@@ -265,3 +347,7 @@ IsHeldAt fact events place =
     ⊎ ((maker : IsDoneBefore events place) × (makes fact (call_of maker.command) maker.given ≡ true)
     × ((at cpu number : ℕ) (command : Command) → IsCalled events at cpu number command
     → (at ≡ maker.called) ⊎ (IsBack events cpu number maker.called ⊎ IsLeftAt fact events place at cpu number command)))
+
+-- all of them do
+abbrev pub AreHeldAt : List Fact → List Event → ℕ → Type 0
+AreHeldAt facts events place = All (λ (fact : Fact). IsHeldAt fact events place) facts

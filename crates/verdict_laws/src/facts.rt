@@ -1,12 +1,12 @@
-//! The law of facts: a reply that denies one isn't given while it lasts.
+//! The law of facts: a reply that some deny isn't given while they last.
 
-ghost use Rattle.std.specs.Prelude.{◌≡◌, ℕ, true, [], take};
+ghost use Rattle.std.specs.Prelude.{◌≡◌, ℕ, true, List, [], take};
 ghost use Rattle.rmm_spec.specs.declared.command.Command.{Command};
 ghost use Rattle.rmm_spec.specs.declared.reply.Reply.{Reply};
 ghost use Rattle.rmm_spec.specs.Call.{call_of};
 ghost use Rattle.rmm_spec.specs.HistoryText.{History, IsHistory};
 ghost use Rattle.rmm_spec.specs.Linearization.{IsCalled, IsReturned};
-ghost use Rattle.verdict_laws.specs.Facts.{IsHeldAt, denies};
+ghost use Rattle.verdict_laws.specs.Facts.{AreHeldAt, deny};
 ghost use Rattle.verdict_laws.specs.Order.{LeadsNowhere};
 ghost use Rattle.verdict_laws.specs.Parts.{first_part};
 
@@ -23,16 +23,18 @@ pub enum Fact {
     Wide { rd: u64, width: u64 },
     /// The address has an entry of the last level, which is unassigned and protected.
     Unassigned { rd: u64, ipa: u64 },
+    /// The address has an entry of the last level, which is unassigned, protected and RAM.
+    UnassignedRam { rd: u64, ipa: u64 },
     /// The address has an entry of the last level, with the page.
     Assigned { rd: u64, ipa: u64, page: u64 },
     /// A table of the realm's level covers the address.
     Covered { rd: u64, level: u8, ipa: u64 },
 }
 
-/// First events of a history, so many, have no order where one of their replies denies a fact that holds while its call may take effect.
+/// First events of a history, so many, have no order where one of their replies is denied by facts that hold while its call may take effect.
 pub fn nowhere_denied()
-    ensures { (history : History) (count cpu number called returned : ℕ) (command : Command) (given : Reply) (fact : Fact)
+    ensures { (history : History) (count cpu number called returned : ℕ) (command : Command) (given : Reply) (facts : List Fact)
         → IsHistory history → IsCalled history.events called cpu number command
-        → IsReturned (take count history.events) returned cpu number given → IsHeldAt fact (take count history.events) called
-        → denies fact (call_of command) given ≡ true → LeadsNowhere (first_part count history) [] }
+        → IsReturned (take count history.events) returned cpu number given → AreHeldAt facts (take count history.events) called
+        → deny history.config.granules facts (call_of command) given ≡ true → LeadsNowhere (first_part count history) [] }
 {}
