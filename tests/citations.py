@@ -16,18 +16,18 @@ LAWS = {"lemmas", "spec_lemmas", "rmm_laws", "world_laws", "verdict_laws"}
 # of each other crate whose lemmas are cited, where, and why
 NAMED = {
     "certificate": ({"checker", "text_writers"}, "from one piece of a certificate to the next; a text that was written, read"),
+    "check_command": ({"file_programs"}, "what a history's reader was given, piece by piece"),
     "checker": ({"explain", "verdict_laws"}, "a check's run, line by line, with which these go on"),
     "command_core": ({"granule_lock", "world"}, "granules that are all different, and which are held"),
     "command_rows": ({"command_core", "flat_machine", "spec_machine"}, "what a row's answer is by the definitions"),
     "commit_tickets": ({"monitor"}, "the journal, gone through beside the tokens"),
     "event_queue": ({"monitor"}, "the journal's commits beside the events"),
-    "granule_places": ({"spec_machine"}, "no place is two granules'"),
     "history": ({"event_queue", "merging", "text_writers"}, "a history's index and its text, one event longer; a text that was written, read"),
     "monitor": ({"bench", "monitor_runs", "refused_memory", "thread_tests"}, "the tokens of all CPUs, with one CPU's changed"),
     "reasons": ({"explain"}, "the first condition that fails"),
     "rec_steps": ({"command_rows", "spec_machine"}, "the step that an answer inside of a REC is"),
     "rmi_codec": ({"certificate", "checker", "history", "merging", "text_writers"}, "the texts of numbers and lines, and the pieces of a line"),
-    "spec_machine": ({"explain", "reasons"}, "what holds of each machine, and where a granule is among all"),
+    "spec_machine": ({"explain", "reasons", "undo_log"}, "what holds of each machine, and where a granule is among all"),
     "text_writers": ({"merging"}, "texts written part by part"),
     "world": ({"world_runs"}, "what a turn makes is one value"),
 }

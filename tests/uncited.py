@@ -11,7 +11,6 @@ ROOT = pathlib.Path(__file__).resolve().parent.parent / "crates"
 WORD = re.compile(r"[^\s(){},;.\[\]]+")
 HEAD = re.compile(r"^(?:abbrev |unfoldable )?(?:pub )?([^\s(){},;.]+) : ")
 FOUND = {
-    "crates/spec_machine/proofs/Alike.antt": {"SameTo-nil", "SameTo-more", "SameTo-set"},
     "crates/spec_machine/proofs/Kept.antt": {"read_or"},
     "crates/rtt_table/proofs/Joined.antt": {"columns-at"},
     "crates/scenario/proofs/Worked.antt": {

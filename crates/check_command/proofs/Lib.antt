@@ -1,4 +1,3 @@
-mod HistoryReads
-mod HistoryTexts
+pub mod HistoryTexts
 mod CertificateTexts
 mod Judged

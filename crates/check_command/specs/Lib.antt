@@ -3,4 +3,3 @@ pub mod Faults
 pub mod Memory
 pub mod Judgement
 pub mod Taken
-pub mod HistoryRead

@@ -1,2 +1,3 @@
 mod Refused
 mod Lines
+mod HistoryReads

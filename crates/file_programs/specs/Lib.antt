@@ -5,3 +5,5 @@ pub mod Searches
 pub mod Texts
 pub mod Ends
 pub mod Names
+pub mod Kept
+pub mod HistoryRead

@@ -1,6 +1,6 @@
 -- What a report calls the bytes of a history that it judges.
 use Rattle.std.specs.Prelude.{ℕ, List, ◌++◌, codes, decimal, vec_len, if◌then◌else◌}
-use Rattle.check_command.specs.declared.history_text.HistoryRead.{HistoryRead}
+use Rattle.file_programs.specs.declared.history_text.HistoryRead.{HistoryRead}
 
 abbrev pub judged_name : HistoryRead → List ℕ
 judged_name read =

@@ -5,7 +5,7 @@ ghost use Rattle.file_programs.specs.declared.fault.Fault.TheVariants.{CannotRea
 ghost use Rattle.file_programs.specs.Names.{judged_name};
 
 use crate::Fault;
-use check_command::{HistoryRead, read_history};
+use crate::history_text::{HistoryRead, read_history};
 use devices::{FileSource, ReadError};
 use std::alloc::{AllocError, Global};
 use std::fs;

@@ -2,7 +2,7 @@
 use Rattle.finding.proofs.Common.{◌++◌, ◌∙◌, ◌∷◌, ◌≡◌, History, List, Some, State, [], ap, arith, length, state_of, subst, sym, ℕ}
 use Rattle.std.proofs.Common.{Bool, OnOk, Result, Ok, Err, subst₂}
 use Rattle.std.proofs.lemmas.List.Elements.{All-pop, All-push}
-use Rattle.spec_machine.specs.Patches.{Standing, patched, standing_of, state_at}
+use Rattle.undo_log.specs.Patches.{Standing, patched, standing_of, state_at}
 use Rattle.finding.specs.Begun.{MayStand, state_from}
 use Rattle.finding.specs.Waiting.{AllLeadNowhere, AllMayCome, LeadsNowhereWith, MayCome}
 use Rattle.finding.specs.declared.begun.Begun.{Begun}

@@ -5,7 +5,7 @@ use Rattle.std.proofs.Common.{◌≤◌, ℕ, false}
 use Rattle.std.specs.Option.{IfSome}
 use Rattle.std.proofs.lemmas.Bool.{false≢true}
 use Rattle.verdict_laws.specs.Unread.{ReadsNothing}
-use Rattle.spec_machine.specs.Patches.{Standing, patched, standing_of}
+use Rattle.undo_log.specs.Patches.{Standing, patched, standing_of}
 use Rattle.spec_machine.specs.declared.machine.Machine.{Machine}
 use Rattle.finding.specs.Begun.{AllShelved, AreOrders, Covers, IsLost, IsShelved, IsShelvedLost, OrdersLost, base_of}
 use Rattle.finding.specs.Survey.{IsFurther}

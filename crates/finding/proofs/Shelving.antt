@@ -6,8 +6,8 @@ use Rattle.std.proofs.lemmas.List.Elements.{All-cons, All-head, All-nil}
 use Rattle.rmm_spec.specs.State.{State}
 unfoldable pub use Rattle.spec_machine.specs.Whole.{state_in}
 use Rattle.spec_machine.specs.declared.machine.Machine.{Machine}
-unfoldable pub use Rattle.spec_machine.specs.Patches.{state_at}
-use Rattle.spec_machine.specs.Patches.{IsWhole, Standing, patched, standing_of}
+unfoldable pub use Rattle.undo_log.specs.Patches.{state_at}
+use Rattle.undo_log.specs.Patches.{IsWhole, Standing, patched, standing_of}
 use Rattle.finding.specs.Begun.{AllLost, AllShelved, AreOrders, HoldsOf, IsBegunAt, IsLost, IsLostAt, IsShelved, IsShelvedLost, OrdersLost, state_from}
 use Rattle.finding.specs.Front.{IsFront}
 use Rattle.finding.specs.declared.begun.Begun.{Begun}

@@ -6,7 +6,7 @@ use Rattle.rmm_spec.specs.declared.reply.Reply.{Reply}
 use Rattle.rmm_spec.specs.HistoryText.{History}
 use Rattle.rmm_spec.specs.Linearization.{IsOfItsKind, IsReturned, cpu_named, number_named}
 use Rattle.rmm_spec.specs.State.{State}
-use Rattle.spec_machine.specs.Patches.{IsWhole, Standing, patched, standing_of, state_at}
+use Rattle.undo_log.specs.Patches.{IsWhole, Standing, patched, standing_of, state_at}
 use Rattle.spec_machine.specs.View.{state_of}
 use Rattle.verdict_laws.specs.Order.{LeadsNowhere, Reaches, ReturnBehind}
 use Rattle.finding.specs.Choice.{IsNextCall, rank_of}

@@ -2,7 +2,7 @@
 
 ghost use Rattle.std.specs.Prelude.{◌≡◌, ◌<◌, IfOk, IsTrue, OnOk};
 ghost use Rattle.verdict_laws.specs.Unread.{ReadsNothing};
-ghost use Rattle.spec_machine.specs.Patches.{standing_of};
+ghost use Rattle.undo_log.specs.Patches.{standing_of};
 ghost use Rattle.finding.specs.Begun.{base_of, AllLost, AllShelved, IsBegun, IsLost, IsShelved, IsShelvedLost};
 
 use crate::begun::Begun;
@@ -14,6 +14,7 @@ use crate::trail::Trail;
 use history::History;
 use spec_machine::Machine;
 use std::alloc::AllocError;
+use undo_log::{are_like, are_same};
 
 /// How many of the last orders are compared with one whatever its open calls are claimed to have been answered.
 const NEAR: usize = 16;
@@ -95,9 +96,9 @@ fn is_alike(
         return false;
     }
     if unread {
-        machine.are_like(&one.patch, &other.patch)
+        are_like(machine, &one.patch, &other.patch)
     } else {
-        machine.are_same(&one.patch, &other.patch)
+        are_same(machine, &one.patch, &other.patch)
     }
 }
 

@@ -10,8 +10,9 @@ use crate::scope::Scope;
 use crate::shelved::Shelved;
 use crate::trail::Trail;
 use history::History;
-use spec_machine::{Machine, Patch};
+use spec_machine::Machine;
 use std::alloc::AllocError;
+use undo_log::Patch;
 
 /// How many calls are put in at most at a return: one of each CPU.
 const CALLS: usize = 8;
@@ -30,7 +31,7 @@ pub(crate) struct Begun {
 impl Begun {
     ghost use Rattle.std.specs.Prelude.{◌≡◌, IfOk, IsTrue, OnOk};
     ghost use Rattle.std.specs.Bool.{MatchBool};
-    ghost use Rattle.spec_machine.specs.Patches.{patched, standing_of, IsWhole};
+    ghost use Rattle.undo_log.specs.Patches.{patched, standing_of, IsWhole};
     ghost use Rattle.spec_machine.specs.View.{state_of};
     ghost use Rattle.verdict_laws.specs.Unread.{ReadsNothing};
     ghost use Rattle.finding.specs.Begun.{base_of, IsBegun, IsGrown, IsLost, Stays};
@@ -115,7 +116,7 @@ impl Begun {
         } = self;
         let mut machine = machine;
         let mut patch = undo;
-        machine.exchange(&mut patch);
+        patch.exchange(&mut machine);
         let order = Shelved {
             front,
             last,

@@ -1,7 +1,7 @@
 //! Orders that are possible still, return by return.
 
 ghost use Rattle.std.specs.Prelude.{◌≡◌, ◌+◌, ◌^◌, ◌≤◌, ◌<◌, length, min, IfOk, IsTrue};
-ghost use Rattle.spec_machine.specs.Patches.{standing_of};
+ghost use Rattle.undo_log.specs.Patches.{standing_of};
 ghost use Rattle.verdict_laws.specs.Unread.{ReadsNothing};
 ghost use Rattle.finding.specs.Begun.{AllReturned, AllShelved};
 ghost use Rattle.finding.specs.Survey.{IsFurther, IsSurvey};

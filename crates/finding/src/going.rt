@@ -6,8 +6,8 @@ use crate::offers::Offers;
 use crate::scope::Scope;
 use crate::trail::Trail;
 use history::History;
-use spec_machine::Patch;
 use std::alloc::AllocError;
+use undo_log::Patch;
 
 /// How far an order may go on: from a place up to another, until so many steps are tried.
 #[derive(Clone, Copy)]

@@ -13,7 +13,7 @@ use std::alloc::{AllocError, Global};
 
 impl Round {
     ghost use Rattle.std.specs.Prelude.{◌≡◌, IfOk, OnOk};
-    ghost use Rattle.spec_machine.specs.Patches.{standing_of};
+    ghost use Rattle.undo_log.specs.Patches.{standing_of};
     ghost use Rattle.spec_machine.specs.View.{state_of};
     ghost use Rattle.finding.specs.Begun.{base_of, state_from, Covers, IsBegun, IsLost, IsRound, IsShelved, RoundLost};
     ghost use Rattle.finding.specs.Only.{IsFirstGroup};

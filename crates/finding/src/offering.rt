@@ -8,7 +8,7 @@ ghost use Rattle.rmi_view.specs.Seen.{reply_seen};
 ghost use Rattle.history.specs.Calls.{ArePlacesOf};
 ghost use Rattle.finding.specs.Offering.{IsGiven};
 ghost use Rattle.spec_machine.specs.Offers.{one_more};
-ghost use Rattle.spec_machine.specs.Patches.{patched, standing_of};
+ghost use Rattle.undo_log.specs.Patches.{patched, standing_of};
 ghost use Rattle.spec_machine.specs.View.{state_of};
 
 use crate::choice::Choice;
@@ -16,8 +16,9 @@ use crate::offers::Offers;
 use history::History;
 use rmi_view::ReplyRef;
 use rmm_spec::Line;
-use spec_machine::{Machine, Patch};
+use spec_machine::Machine;
 use std::alloc::AllocError;
+use undo_log::Patch;
 
 /// Whether the machine gives the call its reply: the recorded one, or the one that the line claims. A log notes what the step replaces.
 pub(crate) fn offer(

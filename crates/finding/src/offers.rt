@@ -8,8 +8,9 @@ ghost use Rattle.spec_machine.specs.View.{state_of};
 
 use rmi_view::{CommandRef, ReplyRef};
 use rmm_spec::{Accepted, Reply};
-use spec_machine::{Machine, Patch};
+use spec_machine::Machine;
 use std::alloc::AllocError;
+use undo_log::Patch;
 
 /// A count of offers to machines, and of tests that show one to be refused.
 #[derive(Drop)]
@@ -19,7 +20,7 @@ pub struct Offers {
 
 impl Offers {
     ghost use Rattle.std.specs.Prelude.{◌≡◌, ◌+◌, ◌-◌, ◌^◌, ◌≤◌, ◌⊎◌, length, if◌then◌else◌, IfOk, OnOk, IsTrue, false};
-    ghost use Rattle.spec_machine.specs.Patches.{patched, standing_of};
+    ghost use Rattle.undo_log.specs.Patches.{patched, standing_of};
     ghost use Rattle.rmm_spec.specs.State.{State};
     ghost use Rattle.rmm_spec.specs.Step.{Step};
     ghost use Rattle.rmi_view.specs.Seen.{command_seen, reply_seen};
@@ -47,7 +48,7 @@ impl Offers {
         self.count = self.count.saturating_add(more);
     }
 
-    /// Offers the machine a reply to the command of this CPU, and tells whether the machine took it, as `Machine::offer_logged` does.
+    /// Offers the machine a reply to the command of this CPU, and tells whether the machine took it, as `Patch::offer_logged` does.
     pub(crate) fn make(
         &mut self,
         machine: &mut Machine,
@@ -65,7 +66,7 @@ impl Offers {
         ensures counted { self.new.count ≡ one_more self.old.count }
     {
         self.count = self.count.saturating_add(1);
-        machine.offer_logged(cpu, command, reply, log)
+        log.offer_logged(machine, cpu, command, reply)
     }
 
     /// Whether an offer of the reply is known to be refused without a step, which then counts as one.

@@ -2,7 +2,7 @@
 
 ghost use Rattle.std.specs.Prelude.{◌≡◌, IfOk, IfSome, IsTrue};
 ghost use Rattle.verdict_laws.specs.Unread.{ReadsNothing};
-ghost use Rattle.spec_machine.specs.Patches.{standing_of};
+ghost use Rattle.undo_log.specs.Patches.{standing_of};
 ghost use Rattle.finding.specs.Begun.{AllShelved, AreOrders, IsBegunAt, IsRound, OrdersLost, RoundLost};
 
 use crate::alike::{has_alike, has_beginning};
@@ -37,7 +37,7 @@ pub(crate) struct Round {
 
 impl Round {
     ghost use Rattle.std.specs.Prelude.{◌≡◌, IfOk, IfSome, IsTrue, OnOk};
-    ghost use Rattle.spec_machine.specs.Patches.{standing_of};
+    ghost use Rattle.undo_log.specs.Patches.{standing_of};
     ghost use Rattle.finding.specs.Begun.{base_of, Covers, IsBegun, IsLost, IsRound, IsShelved, IsShelvedLost, RoundLost};
 
     /// Takes an order, unless another stands for it or there is no room for it. The machine is as it was.

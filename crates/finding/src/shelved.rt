@@ -9,8 +9,9 @@ use crate::going::{Reach, Went};
 use crate::offers::Offers;
 use crate::trail::Trail;
 use history::History;
-use spec_machine::{Machine, Patch};
+use spec_machine::Machine;
 use std::alloc::{AllocError, Global};
+use undo_log::Patch;
 
 /// An order that is kept: how far it is on each CPU, its last step, and what leads to the state after its lines from where the patches of
 /// all orders lead from.
@@ -24,7 +25,7 @@ pub(crate) struct Shelved {
 
 impl Shelved {
     ghost use Rattle.std.specs.Prelude.{◌≡◌, IfOk};
-    ghost use Rattle.spec_machine.specs.Patches.{patched, standing_of, IsWhole};
+    ghost use Rattle.undo_log.specs.Patches.{patched, standing_of, IsWhole};
     ghost use Rattle.finding.specs.Begun.{base_of};
 
     /// The same order once more.
@@ -56,7 +57,7 @@ impl Shelved {
         } = self;
         let mut machine = machine;
         let mut undo = patch;
-        machine.exchange(&mut undo);
+        undo.exchange(&mut machine);
         Begun {
             front,
             machine,
@@ -88,7 +89,7 @@ impl Orders {
     ghost use Rattle.std.specs.Prelude.{◌≡◌, ◌+◌, ◌<◌, ◌≤◌, [], length, IfOk, IsTrue};
     ghost use Rattle.verdict_laws.specs.Order.{LeadsNowhere};
     ghost use Rattle.verdict_laws.specs.Unread.{ReadsNothing};
-    ghost use Rattle.spec_machine.specs.Patches.{standing_of};
+    ghost use Rattle.undo_log.specs.Patches.{standing_of};
     ghost use Rattle.finding.specs.Begun.{AllReturned, AllShelved, AreOrders, OrdersLost};
     ghost use Rattle.finding.specs.Going.{IsAhead, IsWithin};
 

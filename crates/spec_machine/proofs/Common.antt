@@ -1,5 +1,5 @@
 -- The words of the definitions, and the laws of other crates, that proofs here cite in more than one file.
-pub use Rattle.std.proofs.Common.{Bool, IsTrue, List, None, Ok, Option, Some, [], ap, arith, false, if◌then◌else◌, inl, inr, is_some, length, map, nat_lt, rc_value, refl, replicate, slice_get, slice_index_or, subst, subst₂, suc, sym, true, vec_capacity, zero, ℕ, ◌%◌, ◌*◌, ◌++◌, ◌+◌, ◌-◌, ◌/◌, ◌<◌, ◌==◌, ◌^◌, ◌||◌, ◌∙◌, ◌∷◌, ◌≡◌, ◌≤◌}
+pub use Rattle.std.proofs.Common.{Bool, IsTrue, List, None, Ok, Option, Some, [], ap, arith, false, if◌then◌else◌, inl, inr, is_some, length, map, nat_lt, refl, replicate, slice_get, slice_index_or, subst, subst₂, suc, sym, true, vec_capacity, zero, ℕ, ◌%◌, ◌*◌, ◌++◌, ◌+◌, ◌-◌, ◌/◌, ◌<◌, ◌==◌, ◌^◌, ◌||◌, ◌∙◌, ◌∷◌, ◌≡◌, ◌≤◌}
 pub use Rattle.std.proofs.lemmas.Bool.{cases_lt, eqb-true, lt-ltb}
 pub use Rattle.std.proofs.lemmas.Option.{none-some, same_Some}
 unfoldable pub use Rattle.rmm_spec.specs.{Change.changed, Flat.flat_state, Lookup.has_tag, Lookup.is_granule, Lookup.is_inside, Lookup.rec_at, Ownership.claims_opened, Step.Ripas.reached_change, Walk.entry_at, Walk.entry_number, Walk.table_number, Walk.table_size}
@@ -21,10 +21,8 @@ pub use Rattle.rmm_laws.proofs.Runs.{done_applies, reached_applies}
 pub use Rattle.rmm_laws.proofs.Searches.{rec_there}
 pub use Rattle.rmm_laws.proofs.ChangeWords.{opened}
 pub use Rattle.rmm_laws.proofs.Replays.{is_reached-reached, reached-is_reached}
-pub use Rattle.rmm_laws.specs.Whole.{cell_with_realm, entries_changed}
-pub use Rattle.granule_cells.specs.Seen.{cell_of}
-pub use Rattle.granule_places.proofs.PlaceLaws.{place-within}
-pub use Rattle.granule_places.specs.Placed.{place_in}
+pub use Rattle.spec_machine.proofs.PlaceLaws.{place-within}
+pub use Rattle.spec_machine.specs.GranulePlace.{place_in}
 unfoldable pub use Rattle.spec_machine.specs.{Whole.cells_of, Whole.places_of, Whole.state_in}
 pub use Rattle.spec_machine.specs.Whole.{IsShapedIn, config_of, whole_of}
 pub use Rattle.spec_machine.specs.Held.{AreHoused, HeldCells, seen}

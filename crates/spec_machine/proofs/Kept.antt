@@ -6,9 +6,9 @@ use Rattle.std.proofs.lemmas.Bool.{and_from, and_parts, eq-eqb, eqb-false, ltb-f
 use Rattle.std.proofs.lemmas.List.{get_or-replicate, get_or-set_other, get_or-set_same, get_or_past, length-replicate}
 use Rattle.lemmas.proofs.Tests.{both_ways}
 use Rattle.rmm_spec.specs.Cell as spec
-use Rattle.granule_places.specs.declared.places.GranulePlaces.{GranulePlaces}
-use Rattle.granule_places.specs.Placed.{count_in, IsFurther}
-use Rattle.granule_places.proofs.PlaceLaws.{place-apart}
+use Rattle.spec_machine.specs.declared.granule_places.GranulePlaces.{GranulePlaces}
+use Rattle.spec_machine.specs.GranulePlace.{count_in, IsFurther}
+use Rattle.spec_machine.proofs.PlaceLaws.{place-apart}
 use Rattle.granule_cells.specs.declared.cpu_place.CpuPlace.{CpuPlace}
 use Rattle.granule_cells.specs.declared.cpu_place.CpuPlace.TheVariants.{Outside}
 use Rattle.granule_cells.specs.Seen.{place_of}

@@ -1,4 +1,5 @@
 pub mod Common
+pub mod PlaceLaws
 pub mod Kept
 pub mod Opening
 pub mod OneCell
@@ -14,15 +15,9 @@ pub mod OneChanged
 pub mod Tagged
 pub mod CanMake
 pub mod Made
-pub mod Alike
 mod PlacedCells
 pub mod Slots
 pub mod BesideChanged
 pub mod Memory
 pub mod Reached
 pub mod Machines
-pub mod LikeStates
-pub mod Patched
-pub mod Noted
-pub mod PatchKeys
-pub mod PatchViews

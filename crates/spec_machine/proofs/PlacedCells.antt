@@ -2,7 +2,7 @@
 use Rattle.spec_machine.proofs.Common.{◌%◌, ◌*◌, ◌/◌, ◌<◌, ◌≡◌, CellList, IsTrue, None, Option, Some, arith, cells_of, is_granule, place-within, place_in, subst, sym, ℕ}
 use Rattle.std.specs.Prelude.{IfNone, IfSome}
 use Rattle.rmm_spec.specs.Cell as spec
-use Rattle.granule_places.proofs.PlaceLaws.{place-granule}
+use Rattle.spec_machine.proofs.PlaceLaws.{place-granule}
 use Rattle.spec_machine.specs.Placed.{IsPlace}
 use Rattle.spec_machine.proofs.Kept.{cells_in-none, granule_placed}
 

@@ -1,3 +1,5 @@
+pub mod Unmade
+pub mod GranulePlace
 pub mod Whole
 pub mod Held
 pub mod Placed
@@ -11,6 +13,3 @@ pub mod Memory
 pub mod Lending
 pub mod Offers
 pub mod Unmeasured
-pub mod Patches
-pub mod Noted
-pub mod PatchKeys

@@ -1,7 +1,7 @@
 -- Where the cell of a granule stands.
 use Rattle.std.specs.Prelude.{◌≡◌, ℕ, ◌/◌, ◌<◌, length, Some, IsTrue}
 use Rattle.rmm_spec.specs.Lookup.{is_granule}
-use Rattle.granule_places.specs.Placed.{place_in}
+use Rattle.spec_machine.specs.GranulePlace.{place_in}
 use Rattle.spec_machine.specs.declared.cell_list.CellList.{CellList}
 
 -- the granule at the address has its cell at the place

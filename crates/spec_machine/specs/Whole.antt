@@ -14,7 +14,7 @@ use Rattle.granule_cells.specs.declared.cpu_place.CpuPlace.{CpuPlace}
 use Rattle.granule_cells.specs.declared.cpu_place.CpuPlace.TheVariants.{Outside}
 use Rattle.granule_cells.specs.Seen.{place_of}
 use Rattle.granule_cells.specs.Sides.{side_of}
-use Rattle.granule_places.specs.Placed.{place_in}
+use Rattle.spec_machine.specs.GranulePlace.{place_in}
 use Rattle.spec_machine.specs.declared.cell_list.CellList.{CellList}
 use Rattle.spec_machine.specs.declared.granules.Granules.{Granules}
 use Rattle.spec_machine.specs.declared.places.Places.{Places}

@@ -1,11 +1,11 @@
 //! A cell for each granule.
 
 ghost use Rattle.std.specs.Prelude.{◌≡◌, ◌≤◌, length};
-ghost use Rattle.granule_places.specs.Placed.{count_in, room_in};
+ghost use Rattle.spec_machine.specs.GranulePlace.{count_in, room_in};
 
+use crate::granule_places::GranulePlaces;
 use crate::slot_list::SlotList;
 use granule_cells::{Cell, CellChange, CellStore, CellView};
-use granule_places::GranulePlaces;
 use memory_map::{Config, GRANULE_BYTES, Pa};
 use realm_desc::{Realm, Rec};
 use rmm_spec::Tag;
@@ -14,8 +14,8 @@ use std::alloc::{AllocError, Global};
 
 /// The cells of a machine's granules, each at its granule's place. A granule without a place is the host's.
 #[derive(Drop)]
-pub(crate) struct CellList {
-    pub(crate) config: Config,
+pub struct CellList {
+    pub config: Config,
     pub(crate) places: GranulePlaces,
     // with room for all, so that no further cell takes memory
     pub(crate) cells: SlotList,
@@ -32,7 +32,7 @@ impl CellList {
     ghost use Rattle.rmm_spec.specs.Lookup.{is_granule};
     ghost use Rattle.spec_machine.specs.Whole.{cells_of};
     ghost use Rattle.spec_machine.specs.Placed.{IsPlace};
-    ghost use Rattle.granule_places.specs.Placed.{place_in};
+    ghost use Rattle.spec_machine.specs.GranulePlace.{place_in};
 
     /// Granules that are all the host's.
     pub(crate) fn new(alloc: Global, config: Config) -> Result<CellList, AllocError>
@@ -152,7 +152,7 @@ impl CellList {
 
     /// The realm whose descriptor lies in the granule at the address, where one does.
     #[inline(always)]
-    pub(crate) fn realm_in(&self, address: u64) -> Option<&Realm>
+    pub fn realm_in(&self, address: u64) -> Option<&Realm>
         ensures { option_copied result ≡ realms_of (cells_of self.now) address }
     {
         match self.place(address) {
@@ -163,7 +163,7 @@ impl CellList {
 
     /// The REC whose granule is at the address, where it is one's.
     #[inline(always)]
-    pub(crate) fn rec_in(&self, address: u64) -> Option<&Rec>
+    pub fn rec_in(&self, address: u64) -> Option<&Rec>
         ensures { option_copied result ≡ recs_of (cells_of self.now) address }
     {
         match self.place(address) {

@@ -20,7 +20,7 @@ impl Machine {
     ghost use Rattle.spec_machine.specs.Whole.{config_of, whole_of};
 
     /// Makes the change. Refused memory, it leaves the state as it was.
-    pub(crate) fn apply(&mut self, change: &Change) -> Result<(), AllocError>
+    pub fn apply(&mut self, change: &Change) -> Result<(), AllocError>
         requires { CanApply (state_of self.old) change.now }
         ensures ok { OnOk result (state_of self.new ≡ changed (state_of self.old) change.now) }
         ensures size { OnOk result (config_of self.new.granules ≡ config_of self.old.granules) }
@@ -63,7 +63,7 @@ impl Machine {
 
     /// The granule of the table whose entries the change changes.
     #[inline(always)]
-    pub(crate) fn table_for(&mut self, change: &Change) -> Option<u64>
+    pub fn table_for(&mut self, change: &Change) -> Option<u64>
         ensures is { result ≡ table_found (state_of self.old).table change.now }
         ensures list { self.new.granules.list ≡ self.old.granules.list }
         ensures side { self.new.granules.side ≡ self.old.granules.side }

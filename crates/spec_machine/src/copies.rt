@@ -1,8 +1,6 @@
 //! A machine once more, with all that it keeps.
 
 ghost use Rattle.std.specs.Prelude.{◌≡◌, ◌≤◌, length, IfOk, vec_capacity};
-ghost use Rattle.granule_cells.specs.Seen.{cell_of};
-ghost use Rattle.granule_cells.specs.OneCell.{cell_seen};
 
 use crate::cell_list::CellList;
 use crate::granules::Granules;
@@ -11,7 +9,7 @@ use crate::near::Near;
 use crate::places::{CPUS, Places};
 use crate::slot::{HousedRec, Slot};
 use crate::slot_list::SlotList;
-use granule_cells::{Cell, CellView, CpuPlace, Descriptor};
+use granule_cells::{CpuPlace, Descriptor};
 use std::alloc::{AllocError, Global};
 
 impl Machine {
@@ -82,7 +80,7 @@ impl Places {
     ghost use Rattle.spec_machine.specs.Whole.{places_of};
 
     /// The same places once more.
-    pub(crate) fn copy(&self, alloc: Global) -> Result<Places, AllocError>
+    pub fn copy(&self, alloc: Global) -> Result<Places, AllocError>
         ensures { IfOk result (λ p. places_of p ≡ places_of self.now) }
     {
         let mut places = vec![in alloc; CpuPlace::Outside; CPUS]?;
@@ -126,19 +124,4 @@ fn copied_recs(alloc: Global, recs: &[HousedRec], room: usize) -> Result<Vec<Hou
     let mut copy = Vec::with_capacity(alloc, room)?;
     copy.extend_from_slice(recs)?;
     Ok(copy)
-}
-
-/// A copy of a cell that is looked at where it lies.
-pub(crate) fn copied_view(alloc: Global, view: CellView<'_>) -> Result<Cell, AllocError>
-    ensures { IfOk result (λ cell. cell_of cell ≡ cell_seen view.entry) }
-{
-    match view {
-        CellView::Undelegated => Ok(Cell::Undelegated),
-        CellView::Delegated => Ok(Cell::Delegated),
-        CellView::Rd(realm) => Ok(Cell::Rd(Descriptor::new(alloc, *realm)?)),
-        CellView::Rec(rec) => Ok(Cell::Rec(*rec)),
-        CellView::RecAux => Ok(Cell::RecAux),
-        CellView::Data => Ok(Cell::Data),
-        CellView::Rtt(table) => Ok(Cell::Rtt(table.copy(alloc)?)),
-    }
 }

@@ -13,11 +13,11 @@ use std::alloc::Global;
 
 /// A cell for each granule of a machine, the side table, and each CPU's place. Where tables were found before is no part of the state.
 #[derive(Drop)]
-pub(crate) struct Granules {
-    pub(crate) alloc: Global,
-    pub(crate) list: CellList,
-    pub(crate) side: Side,
-    pub(crate) places: Places,
+pub struct Granules {
+    pub alloc: Global,
+    pub list: CellList,
+    pub side: Side,
+    pub places: Places,
     pub(crate) near: Near,
 }
 

@@ -19,7 +19,7 @@ use std::alloc::{AllocError, Global};
 /// A state of the specification machine.
 #[derive(Drop)]
 pub struct Machine {
-    pub(crate) granules: Granules,
+    pub granules: Granules,
     // how many offers were made
     pub(crate) offers: u64,
     ghost shaped: { IsShapedIn granules } by { shaped-single granules },
@@ -187,7 +187,7 @@ impl Machine {
     }
 
     /// What the specification answers, as `outcome` does.
-    pub(crate) fn outcome_seen(&self, cpu: u8, command: CommandRef<'_>) -> Result<Accepted, Refusal>
+    pub fn outcome_seen(&self, cpu: u8, command: CommandRef<'_>) -> Result<Accepted, Refusal>
         ensures { result ≡ outcome (state_of self.now) cpu (call_of (command_seen command.entry)) }
     {
         let call = command.call();

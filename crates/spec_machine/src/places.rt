@@ -10,7 +10,7 @@ pub(crate) const CPUS: usize = 256;
 
 /// At each CPU's number its place.
 #[derive(Drop)]
-pub(crate) struct Places {
+pub struct Places {
     pub(crate) places: Vec<CpuPlace>,
     ghost cpus: { vec_len places ≡ 256 },
 }

@@ -61,7 +61,7 @@ impl Machine {
     }
 
     /// Whether a stretch may be set up to `top`.
-    pub(crate) fn is_reached(&self, stretch: &Stretch, top: u64) -> bool
+    pub fn is_reached(&self, stretch: &Stretch, top: u64) -> bool
         requires { stretch.now.level ≤ 3 }
         ensures { result ≡ is_reached (state_of self.now) stretch.now top }
     {

@@ -1,6 +1,6 @@
 -- The machine is where it was.
 use Rattle.finding.proofs.Common.{◌≡◌}
-use Rattle.spec_machine.specs.Patches.{standing_of}
+use Rattle.undo_log.specs.Patches.{standing_of}
 use Rattle.finding.proofs.alike.has_beginning.Given as goal
 
 abbrev pub invariant-orders : goal.invariant-orders

@@ -1,7 +1,7 @@
 -- Of the same calls to states that are one for what follows.
 use Rattle.finding.proofs.Common.{refl}
 use Rattle.std.proofs.Common.{subst₂}
-use Rattle.spec_machine.specs.Patches.{standing_of}
+use Rattle.undo_log.specs.Patches.{standing_of}
 use Rattle.finding.specs.Begun.{IsLostAt, state_from}
 use Rattle.finding.proofs.BegunLaws.{IsLost-like}
 use Rattle.finding.proofs.alike.is_alike.Goals as goal

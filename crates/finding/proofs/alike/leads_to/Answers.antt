@@ -1,6 +1,6 @@
 -- By a copy that is taken at hand, grows and is put down.
 use Rattle.finding.proofs.Common.{◌∙◌, ap, subst, sym}
-use Rattle.spec_machine.specs.Patches.{IsWhole, Standing, standing_of}
+use Rattle.undo_log.specs.Patches.{IsWhole, Standing, standing_of}
 use Rattle.finding.specs.Begun.{IsShelvedLost}
 use Rattle.finding.proofs.Shelving.{IsBegun-shelved, IsLost-shelved, IsShelved-begun, IsShelved-moved, IsShelvedLost-begun, IsShelvedLost-moved, standing-whole}
 use Rattle.finding.proofs.alike.leads_to.Goals as goal

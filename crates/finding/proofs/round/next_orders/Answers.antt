@@ -1,7 +1,7 @@
 -- Line by line.
 use Rattle.std.proofs.Common.{◌∙◌, ◌≡◌, arith, length, subst, sym}
 use Rattle.std.proofs.lemmas.Bool.{eqb-true}
-use Rattle.spec_machine.specs.Patches.{Standing}
+use Rattle.undo_log.specs.Patches.{Standing}
 use Rattle.finding.specs.Begun.{AllLost, AllShelved, IsRound, RoundLost}
 use Rattle.finding.proofs.Rounds.{AllLost-none}
 use Rattle.finding.proofs.round.next_orders.Goals as goal

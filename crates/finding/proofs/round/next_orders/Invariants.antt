@@ -1,6 +1,6 @@
 -- The machine is where it was; the orders so far.
 use Rattle.std.proofs.Common.{◌≡◌}
-use Rattle.spec_machine.specs.Patches.{standing_of}
+use Rattle.undo_log.specs.Patches.{standing_of}
 use Rattle.finding.specs.Begun.{IsRound, RoundLost}
 use Rattle.finding.proofs.round.next_orders.Given as goal
 

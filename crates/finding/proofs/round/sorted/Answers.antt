@@ -1,6 +1,6 @@
 -- Order by order.
 use Rattle.std.proofs.Common.{refl}
-use Rattle.spec_machine.specs.Patches.{standing_of}
+use Rattle.undo_log.specs.Patches.{standing_of}
 use Rattle.finding.proofs.Rounds.{AllLost-push, AllShelved-pop, Covers-lacking, Covers-next, IsRound-lacking, IsRound-next, taken-lacking, taken-next}
 use Rattle.finding.proofs.round.sorted.Goals as goal
 

@@ -1,6 +1,6 @@
 -- The orders so far, and those that are left.
 use Rattle.std.proofs.Common.{vec_len}
-use Rattle.spec_machine.specs.Patches.{standing_of}
+use Rattle.undo_log.specs.Patches.{standing_of}
 use Rattle.finding.specs.Begun.{AllLost, AllShelved, IsRound, OrdersLost, RoundLost}
 use Rattle.finding.proofs.round.sorted.Given as goal
 

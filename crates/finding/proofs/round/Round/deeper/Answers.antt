@@ -1,6 +1,6 @@
 -- Order by order.
 use Rattle.std.proofs.Common.{◌∙◌, ap, subst, sym}
-use Rattle.spec_machine.specs.Patches.{IsWhole, Standing, patched, standing_of}
+use Rattle.undo_log.specs.Patches.{IsWhole, Standing, patched, standing_of}
 use Rattle.finding.proofs.Rounds.{AllLost-push, AllShelved-pop, Covers-back, IsRound-back, taken-back}
 use Rattle.finding.proofs.Shelving.{IsBegun-shelved}
 use Rattle.finding.proofs.round.Round.deeper.Goals as goal

@@ -1,6 +1,6 @@
 -- The machine is where it was; the orders so far, and those that are left.
 use Rattle.std.proofs.Common.{◌≡◌, vec_len}
-use Rattle.spec_machine.specs.Patches.{standing_of}
+use Rattle.undo_log.specs.Patches.{standing_of}
 use Rattle.finding.specs.Begun.{AllLost, AllShelved, IsRound, RoundLost}
 use Rattle.finding.proofs.round.Round.deeper.Given as goal
 

@@ -2,7 +2,7 @@
 use Rattle.finding.proofs.Common.{RoundLost, State, ap, arith, length, subst, sym, ◌∙◌, ◌≡◌}
 use Rattle.std.proofs.lemmas.Bool.{eqb-true}
 use Rattle.std.proofs.lemmas.Result.{on_ok_weaker}
-use Rattle.spec_machine.specs.Patches.{Standing, patched, standing_of}
+use Rattle.undo_log.specs.Patches.{Standing, patched, standing_of}
 use Rattle.spec_machine.specs.View.{state_of}
 use Rattle.finding.specs.Begun.{Covers, IsBegunAt, base_of, state_from}
 use Rattle.finding.specs.Waiting.{AllLeadNowhere, AllMayCome, LeadsNowhereWith, MayCome}

@@ -1,7 +1,7 @@
 -- The machine gives the reply or refuses it.
 use Rattle.finding.proofs.Common.{AllLost, RoundLost, subst, sym, ◌∙◌}
 use Rattle.std.proofs.lemmas.Result.{on_ok_weaker}
-use Rattle.spec_machine.specs.Patches.{Standing, standing_of}
+use Rattle.undo_log.specs.Patches.{Standing, standing_of}
 use Rattle.finding.proofs.Shelving.{IsLost-shelved, IsShelved-begun}
 use Rattle.finding.proofs.round.Round.take_grown.Goals as goal
 

@@ -1,6 +1,6 @@
 -- Another order is of the same calls to the same state, or it is put in, or left out.
 use Rattle.std.proofs.Common.{refl}
-use Rattle.spec_machine.specs.Patches.{standing_of}
+use Rattle.undo_log.specs.Patches.{standing_of}
 use Rattle.finding.proofs.Rounds.{IsRound-lacking, taken-lacking}
 use Rattle.finding.proofs.round.Round.take_lacking.Goals as goal
 

@@ -2,7 +2,7 @@
 use Rattle.finding.proofs.Common.{IsRound, RoundLost, arith, refl, subst, sym, ◌∙◌}
 use Rattle.std.proofs.lemmas.List.{take_all}
 use Rattle.std.proofs.lemmas.List.Elements.{All-more, All-nil}
-use Rattle.spec_machine.specs.Patches.{Standing, standing_of}
+use Rattle.undo_log.specs.Patches.{Standing, standing_of}
 use Rattle.finding.specs.Begun.{Covers, IsShelved, state_from}
 use Rattle.finding.specs.Waiting.{AllLeadNowhere, LeadsNowhereWith, MayCome}
 use Rattle.finding.proofs.round.Round.take_lines.Goals as goal

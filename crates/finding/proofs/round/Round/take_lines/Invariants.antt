@@ -1,6 +1,6 @@
 -- The machine is as it was, and the lines so far were taken.
 use Rattle.finding.proofs.Common.{IsRound, RoundLost, take, ◌≡◌}
-use Rattle.spec_machine.specs.Patches.{standing_of}
+use Rattle.undo_log.specs.Patches.{standing_of}
 use Rattle.finding.specs.Begun.{Covers, state_from}
 use Rattle.finding.specs.Waiting.{AllLeadNowhere}
 use Rattle.finding.proofs.round.Round.take_lines.Given as goal

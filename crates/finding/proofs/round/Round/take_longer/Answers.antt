@@ -2,7 +2,7 @@
 use Rattle.finding.proofs.Common.{RoundLost, State, ap, subst, sym, ◌∙◌}
 use Rattle.std.proofs.lemmas.Result.{on_ok_weaker}
 use Rattle.std.proofs.Common.{OnOk}
-use Rattle.spec_machine.specs.Patches.{Standing, standing_of}
+use Rattle.undo_log.specs.Patches.{Standing, standing_of}
 use Rattle.finding.specs.Begun.{Covers}
 use Rattle.finding.specs.Waiting.{LeadsNowhereWith, MayCome}
 use Rattle.finding.specs.declared.front.Front.{Front}

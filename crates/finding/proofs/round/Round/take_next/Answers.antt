@@ -1,6 +1,6 @@
 -- Another order leads to it, or it is put in, or left out.
 use Rattle.std.proofs.Common.{refl}
-use Rattle.spec_machine.specs.Patches.{standing_of}
+use Rattle.undo_log.specs.Patches.{standing_of}
 use Rattle.finding.proofs.Rounds.{IsRound-next, taken-next}
 use Rattle.finding.proofs.round.Round.take_next.Goals as goal
 

@@ -3,7 +3,7 @@ use Rattle.finding.proofs.Common.{◌++◌, ◌∙◌, ◌∷◌, ◌≡◌, Lis
 use Rattle.std.proofs.Common.{length-append}
 use Rattle.std.proofs.lemmas.List.{nil_from_length}
 use Rattle.std.proofs.lemmas.List.Elements.{All-pop}
-use Rattle.spec_machine.specs.Patches.{Standing, standing_of}
+use Rattle.undo_log.specs.Patches.{Standing, standing_of}
 use Rattle.finding.specs.Begun.{HasReturned, IsShelved}
 use Rattle.finding.specs.declared.shelved.Orders.{Orders}
 use Rattle.finding.specs.declared.shelved.Shelved.{Shelved}

@@ -1,5 +1,5 @@
 use Rattle.spec_machine.proofs.Common.{◌/◌, ◌∙◌, ◌≡◌, ap, arith, cells_of, length, place-within, place_in}
-use Rattle.granule_places.specs.Placed.{count_in}
+use Rattle.spec_machine.specs.GranulePlace.{count_in}
 use Rattle.spec_machine.specs.Whole.{cells_in}
 use Rattle.spec_machine.proofs.Kept.{cells_in-further, place_within}
 use Rattle.spec_machine.proofs.cell_list.CellList.make_place.Goals as goal

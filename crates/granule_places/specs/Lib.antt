@@ -1,2 +1,0 @@
-pub mod Unmade
-pub mod Placed

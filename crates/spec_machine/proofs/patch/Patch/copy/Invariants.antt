@@ -1,7 +1,0 @@
--- The items so far put the same in.
-use Rattle.std.proofs.Common.{◌≡◌, take}
-use Rattle.spec_machine.specs.Patches.{put_all}
-use Rattle.spec_machine.proofs.patch.Patch.copy.Given as goal
-
-abbrev pub invariant-loop-item : goal.invariant-loop-item
-invariant-loop-item l = put_all l.items.items ≡ put_all (take l.item-index l.self.items.items)
