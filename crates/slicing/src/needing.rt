@@ -15,15 +15,16 @@ use std::cmp::min;
 const NEAR: u32 = 1 << 8;
 
 impl<'h> Keeping<'h> {
-    // A granule that the call needs in use was made so before, and what the last call names may be to be known. A call inside of a REC follows one
-    // that entered it.
+    // A granule that the call needs in use was made so before, if by no other call that is kept, and what the last call names may be to be known.
+    // A call inside of a REC follows one that entered it.
     pub(crate) fn look_before(&mut self, call: &CallAt<'_>) -> Result<(), AllocError> {
         let is_known_before = !matches!(self.depth, Depth::Shown) && call.place == self.last;
         'names: for name in named(&call.call).as_slice() {
             let in_use = !matches!(name.tag, Tag::Delegated | Tag::Undelegated);
+            let is_first = self.plan.mark_of(name.granule).first >= call.place;
             if is_known_before {
                 self.look_back(name.granule, call.place)?;
-            } else if in_use {
+            } else if in_use && is_first {
                 self.add_before(name.granule, call.place)?;
             }
         }
