@@ -45,6 +45,7 @@ pub(crate) fn denies(fact: Fact, call: &Call, reply: ReplyRef<'_>) -> bool
         Fact::Wide { rd, width } => {
             matches!(reply, ReplyRef::Err(1, _)) && words_allow(call) && lies_in(call, rd, width)
         }
+        Fact::SoleVmid { .. } => false,
         Fact::Unassigned { rd, ipa } => match reply {
             ReplyRef::Ok(_) => frees_entry(call, rd, ipa),
             ReplyRef::Err(4, _) => needs_free(call, rd, ipa),
@@ -212,6 +213,7 @@ fn are_within(facts: &[Fact], call: &Call) -> bool
         | Call::RealmDestroy { .. }
         | Call::RecDestroy { .. }
         | Call::RecEnter { .. } => true,
+        Call::RealmCreate { vmid, algo, .. } => *algo == 0 && give_vmid(facts, *vmid),
         Call::DataCreate { rd, ipa, .. } | Call::DataCreateUnknown { rd, ipa, .. } => {
             give_half(facts, *rd, *ipa)
         }
@@ -219,6 +221,39 @@ fn are_within(facts: &[Fact], call: &Call) -> bool
             *level >= 2 && give_half(facts, *rd, *ipa)
         }
         Call::RttReadEntry { rd, ipa, level } => *level >= 1 && give_half(facts, *rd, *ipa),
+        _ => false,
+    }
+}
+
+/// Whether the facts say that no realm has the VMID.
+fn give_vmid(facts: &[Fact], vmid: u64) -> bool
+    ensures { result ≡ laws.give_vmid facts.now vmid }
+{
+    facts.iter().any(|fact| gives_vmid(facts, vmid, *fact))
+}
+
+/// Whether the fact says that no realm has it but one that isn't there, as one of the facts says.
+fn gives_vmid(facts: &[Fact], vmid: u64, fact: Fact) -> bool
+    ensures { result ≡ laws.gives_vmid facts.now vmid fact }
+{
+    match fact {
+        Fact::SoleVmid { rd, vmid: its_vmid } => vmid == its_vmid && give_none(facts, rd),
+        _ => false,
+    }
+}
+
+/// Whether one of the facts says that no realm is at the address.
+fn give_none(facts: &[Fact], rd: u64) -> bool
+    ensures { result ≡ list_any (laws.gives_none rd) facts.now }
+{
+    facts.iter().any(|fact| gives_none(rd, *fact))
+}
+
+fn gives_none(rd: u64, fact: Fact) -> bool
+    ensures { result ≡ laws.gives_none rd fact }
+{
+    match fact {
+        Fact::Tagged { granule, tag } => rd == granule && !is_tag(tag, Tag::Rd),
         _ => false,
     }
 }

@@ -23,6 +23,7 @@ pub(crate) fn is_left(fact: Fact, call: &CallAt<'_>) -> bool
         Fact::Tagged { granule, tag } => keeps_tag(call, granule, tag),
         Fact::Covered { rd, level, ipa } => !may_uncover(&call.call, rd, level, ipa),
         Fact::Wide { rd, .. } => !may_narrow(&call.call, rd),
+        Fact::SoleVmid { rd, vmid } => !may_share(&call.call, rd, vmid),
         Fact::Unassigned { rd, ipa } => !may_assign(&call.call, rd, ipa),
         Fact::UnassignedRam { rd, ipa } => {
             !may_assign(&call.call, rd, ipa)
@@ -68,6 +69,20 @@ fn may_narrow(call: &Call, rd: u64) -> bool
 {
     match call {
         Call::RealmCreate { rd: other, .. } | Call::RealmDestroy { rd: other } => rd == *other,
+        _ => false,
+    }
+}
+
+#[tactic(auto, unfolding(verdict_laws::specs::Facts::may_share))]
+fn may_share(call: &Call, rd: u64, vmid: u64) -> bool
+    ensures { result ≡ laws.may_share call.now rd vmid }
+{
+    match call {
+        Call::RealmCreate {
+            rd: other,
+            vmid: its_vmid,
+            ..
+        } => vmid == *its_vmid && rd != *other,
         _ => false,
     }
 }

@@ -20,7 +20,7 @@ pub(crate) fn begins(fact: Fact) -> bool
     ensures { result ≡ laws.begins fact }
 {
     match fact {
-        Fact::NewRealm { .. } => true,
+        Fact::NewRealm { .. } | Fact::SoleVmid { .. } => true,
         Fact::Tagged { tag, .. } => is_tag(Tag::Undelegated, tag),
         Fact::Covered { .. }
         | Fact::Wide { .. }
@@ -39,6 +39,7 @@ pub(crate) fn makes(fact: Fact, call: &Call, reply: ReplyRef<'_>) -> bool
         Fact::Tagged { granule, tag } => tags(call, reply, granule, tag),
         Fact::Covered { rd, level, ipa } => makes_table(call, rd, level, ipa),
         Fact::Wide { rd, width } => makes_wide(call, rd, width),
+        Fact::SoleVmid { rd, vmid } => makes_vmid(call, rd, vmid),
         Fact::Unassigned { rd, ipa } => frees_entry(call, rd, ipa) || begins_entry(call, rd, ipa),
         Fact::UnassignedRam { rd, ipa } => sets_ram(call, reply, rd, ipa),
         Fact::Assigned { rd, ipa, page } => gives_entry(call, rd, ipa, page),
@@ -116,6 +117,20 @@ fn makes_wide(call: &Call, rd: u64, width: u64) -> bool
             width: its_width,
             ..
         } => rd == *other && width == *its_width,
+        _ => false,
+    }
+}
+
+#[tactic(auto, unfolding(verdict_laws::specs::Facts::makes_vmid))]
+fn makes_vmid(call: &Call, rd: u64, vmid: u64) -> bool
+    ensures { result ≡ laws.makes_vmid call.now rd vmid }
+{
+    match call {
+        Call::RealmCreate {
+            rd: other,
+            vmid: its_vmid,
+            ..
+        } => rd == *other && vmid == *its_vmid,
         _ => false,
     }
 }

@@ -20,7 +20,7 @@ const TAGS: [Tag; 5] = [
     Tag::Data,
 ];
 
-/// How many facts are supposed together at most: the tag of each granule that a call names, and how wide its realm is.
+/// How many facts are supposed together at most: the tag of each granule that a call names, how wide its realm is, and who has its VMID.
 const MOST_FACTS: usize = 5;
 
 /// Facts that are supposed together: the first of these, so many.
@@ -125,7 +125,29 @@ pub(crate) fn supposed_together(history: &History, count: u32, last: &LastReturn
     if let Some(fact) = wide_before(history, count, last) {
         facts.push(fact);
     }
+    if let Call::RealmCreate { rd, vmid, .. } = last.call {
+        let owner = owner_before(history, count, last.called, vmid).unwrap_or(rd);
+        facts.push(Fact::SoleVmid { rd: owner, vmid });
+        facts.push(tag_before(history, count, last.called, owner));
+    }
     facts
+}
+
+/// The realm to which the latest call gave the VMID that returned before a place.
+fn owner_before(history: &History, count: u32, place: u32, vmid: u64) -> Option<u64> {
+    for back in 1..place.saturating_add(1) {
+        if let Some(done) = done_at(history, count, place, place.saturating_sub(back)) {
+            match done.call {
+                Call::RealmCreate {
+                    rd,
+                    vmid: its_vmid,
+                    ..
+                } if vmid == its_vmid => return Some(rd),
+                _ => {}
+            }
+        }
+    }
+    None
 }
 
 /// How many bits the addresses have of the realm in whose tables the call walks, as the latest call says that made it.

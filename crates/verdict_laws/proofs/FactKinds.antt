@@ -8,8 +8,9 @@ use Rattle.rmm_spec.specs.Ownership.{is_accepted}
 use Rattle.rmm_spec.specs.Sound.{IsSound}
 use Rattle.rmm_spec.specs.State.{State, opening}
 use Rattle.rmm_spec.specs.Step.{Step}
+use Rattle.lemmas.proofs.Tests.{both_ways}
 use Rattle.verdict_laws.specs.declared.facts.Fact.{Fact}
-use Rattle.verdict_laws.specs.declared.facts.Fact.TheVariants.{NewRealm, Tagged, Covered, Wide, Unassigned, UnassignedRam, Assigned}
+use Rattle.verdict_laws.specs.declared.facts.Fact.TheVariants.{NewRealm, Tagged, Covered, Wide, SoleVmid, Unassigned, UnassignedRam, Assigned}
 use Rattle.verdict_laws.specs.Facts.{begins, denies, holds, makes, may_end}
 use Rattle.verdict_laws.proofs.EntryFacts.{entry-denied, entry-left, entry-made}
 use Rattle.verdict_laws.proofs.PageFacts.{page-denied, page-left, page-made}
@@ -17,6 +18,7 @@ use Rattle.verdict_laws.proofs.RamFacts.{ram-denied, ram-left, ram-made}
 use Rattle.verdict_laws.proofs.RealmFacts.{realm-denied, realm-left, realm-made}
 use Rattle.verdict_laws.proofs.TableFacts.{table-denied, table-left, table-made}
 use Rattle.verdict_laws.proofs.TagFacts.{tag-denied, tag-left, tag-made}
+use Rattle.verdict_laws.proofs.VmidFacts.{vmid-left, vmid-made, vmid-opening}
 use Rattle.verdict_laws.proofs.WideFacts.{wide-denied, wide-left, wide-made}
 
 -- a fact that begins so holds in the opening
@@ -26,6 +28,7 @@ holds-opening (NewRealm rd) config is = refl
 holds-opening (Tagged granule tag) config is = is
 holds-opening (Covered rd level ipa) config is = is
 holds-opening (Wide rd width) config is = is
+holds-opening (SoleVmid rd vmid) config is = vmid-opening rd vmid config
 holds-opening (Unassigned rd ipa) config is = is
 holds-opening (UnassignedRam rd ipa) config is = is
 holds-opening (Assigned rd ipa page) config is = is
@@ -37,6 +40,7 @@ holds-made (NewRealm rd) s new cpu command given sound = realm-made rd s new cpu
 holds-made (Tagged granule tag) s new cpu command given sound = tag-made granule tag s new cpu command given sound
 holds-made (Covered rd level ipa) s new cpu command given sound = table-made rd level ipa s new cpu command given
 holds-made (Wide rd width) s new cpu command given sound = wide-made rd width s new cpu command given
+holds-made (SoleVmid rd vmid) s new cpu command given sound = vmid-made rd vmid s new cpu command given sound
 holds-made (Unassigned rd ipa) s new cpu command given sound = entry-made rd ipa s new cpu command given sound
 holds-made (UnassignedRam rd ipa) s new cpu command given sound = ram-made rd ipa s new cpu command given sound
 holds-made (Assigned rd ipa page) s new cpu command given sound = page-made rd ipa page s new cpu command given
@@ -48,6 +52,7 @@ holds-left (NewRealm rd) s new cpu command given sound = realm-left rd s new cpu
 holds-left (Tagged granule tag) s new cpu command given sound = tag-left granule tag s new cpu command given sound
 holds-left (Covered rd level ipa) s new cpu command given sound = table-left rd level ipa s new cpu command given
 holds-left (Wide rd width) s new cpu command given sound = wide-left rd width s new cpu command given
+holds-left (SoleVmid rd vmid) s new cpu command given sound = vmid-left rd vmid s new cpu command given sound
 holds-left (Unassigned rd ipa) s new cpu command given sound = entry-left rd ipa s new cpu command given sound
 holds-left (UnassignedRam rd ipa) s new cpu command given sound = ram-left rd ipa s new cpu command given sound
 holds-left (Assigned rd ipa page) s new cpu command given sound = page-left rd ipa page s new cpu command given sound
@@ -59,6 +64,7 @@ held-denies (NewRealm rd) s new cpu command given sound = realm-denied rd s new 
 held-denies (Tagged granule tag) s new cpu command given sound = tag-denied granule tag s new cpu command given sound
 held-denies (Covered rd level ipa) s new cpu command given sound = table-denied rd level ipa s new cpu command given
 held-denies (Wide rd width) s new cpu command given sound = wide-denied rd width s new cpu command given sound
+held-denies (SoleVmid rd vmid) s new cpu command given sound = λ step is denied. both_ways denied refl
 held-denies (Unassigned rd ipa) s new cpu command given sound = entry-denied rd ipa s new cpu command given sound
 held-denies (UnassignedRam rd ipa) s new cpu command given sound = ram-denied rd ipa s new cpu command given sound
 held-denies (Assigned rd ipa page) s new cpu command given sound = page-denied rd ipa page s new cpu command given sound

@@ -82,6 +82,7 @@ pub mod RealmFacts
 pub mod TableFacts
 pub mod TagFacts
 pub mod WideFacts
+pub mod VmidFacts
 pub mod EntryChanges
 pub mod EntryFacts
 pub mod PageFacts

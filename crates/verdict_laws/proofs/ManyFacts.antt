@@ -10,8 +10,10 @@ use Rattle.rmm_spec.specs.declared.call.Call.TheVariants as call
 use Rattle.rmm_spec.specs.declared.command.Command.{Command}
 use Rattle.rmm_spec.specs.declared.reply.Reply.{Reply}
 use Rattle.rmm_spec.specs.declared.tag.Tag.TheVariants.{Rd}
+use Rattle.rmm_spec.specs.declared.version.Version.{Version}
+use Rattle.rmm_spec.specs.declared.version.Version.TheVariants.{One, Two, Large}
 use Rattle.rmm_spec.specs.Call.{call_of}
-use Rattle.rmm_spec.specs.Lookup.{has_tag, is_granule, realm_at}
+use Rattle.rmm_spec.specs.Lookup.{allows_hash, has_tag, is_granule, is_vmid_used, realm_at}
 use Rattle.rmm_spec.specs.Rows.{Needed, all_allowed}
 use Rattle.rmm_spec.specs.Sound.{IsSound}
 use Rattle.rmm_spec.specs.State.{RealmRecord, State}
@@ -24,11 +26,12 @@ use Rattle.spec_lemmas.proofs.Members.{Contains-from_slice_get, passing_member}
 use Rattle.rmm_laws.proofs.Searches.{realm_there}
 use Rattle.rmm_laws.proofs.Spaces.{space_cases}
 use Rattle.verdict_laws.specs.declared.facts.Fact.{Fact}
-use Rattle.verdict_laws.specs.declared.facts.Fact.TheVariants.{Tagged, Wide}
-use Rattle.verdict_laws.specs.Facts.{are_within, denies, deny, deny_input, give_half, give_tag, gives_half, gives_tag, holds, is_refused_with, is_tag}
+use Rattle.verdict_laws.specs.declared.facts.Fact.TheVariants.{SoleVmid, Tagged, Wide}
+use Rattle.verdict_laws.specs.Facts.{are_within, denies, deny, deny_input, give_half, give_tag, give_vmid, gives_half, gives_none, gives_tag, gives_vmid, holds, is_refused_with, is_tag}
 use Rattle.verdict_laws.proofs.FactKinds.{held-denies}
 use Rattle.verdict_laws.proofs.FactSteps.{are_tagged, are_told, step-untold_there}
 use Rattle.verdict_laws.proofs.TagFacts.{tag-from_is_tag}
+use Rattle.verdict_laws.proofs.VmidFacts.{none-given, vmid-unused}
 use Rattle.verdict_laws.proofs.WideFacts.{rd_tagged, read_wide}
 
 -- ---- what one fact gives
@@ -53,6 +56,12 @@ IsInHalf-from_lower r ipa space lower = elim (space_cases r.width r.start_level 
     first = omega (arith, large.1);
   }
 ]
+
+-- each version has SHA-256
+sha256-allowed : (version : Version) → allows_hash version 0 ≡ true
+sha256-allowed One = refl
+sha256-allowed Two = refl
+sha256-allowed Large = refl
 
 module _ (s : State) (sound : IsSound s) where
   -- a granule has the tag that a fact gives it
@@ -108,6 +117,14 @@ module _ (s : State) (sound : IsSound s) where
         let parts = and_parts (nat_le least level) (give_half facts rd ipa) is in
         (leb-true least level parts.0, IsInHalf-give rd ipa parts.1)
 
+    -- and no realm has a VMID that a fact gives
+    unused-given : (vmid : ℕ) (fact : Fact) → holds fact s ≡ true → gives_vmid facts vmid fact ≡ true → is_vmid_used s vmid ≡ false
+    unused-given vmid (SoleVmid rd its_vmid) is gives =
+        let parts = and_parts (vmid == its_vmid) (list_any (gives_none rd) facts) gives in
+        ap (is_vmid_used s) (eqb-true vmid its_vmid parts.0)
+        ∙ vmid-unused s rd its_vmid sound is (from_one (gives_none rd) (none-given s rd sound) parts.1)
+    unused-given vmid _ is gives = both_ways gives refl
+
     module _ (cpu : ℕ) where
       -- so no row behind those on words and tags refuses with ERROR_INPUT
       behind_within : (c : Call) → are_within facts c ≡ true → are_told (is_refused_with 1) (behind s cpu c).0 ≡ false
@@ -116,6 +133,12 @@ module _ (s : State) (sound : IsSound s) where
       behind_within (call.GranuleUndelegate granule) within = refl
       behind_within (call.DataCreate rd granule ipa source flags digest) within = rw (IsInHalf-give rd ipa within).lower refl
       behind_within (call.DataCreateUnknown rd granule ipa) within = rw (IsInHalf-give rd ipa within).lower refl
+      behind_within (call.RealmCreate rd root width level vmid algo) within =
+          let parts = and_parts (algo == 0) (give_vmid facts vmid) within in
+          rw (
+            ap (allows_hash s.config.version) (eqb-true algo 0 parts.0) ∙ sha256-allowed s.config.version,
+            from_one (gives_vmid facts vmid) (unused-given vmid) parts.1,
+          ) refl
       behind_within (call.RealmActivate rd) within = refl
       behind_within (call.RealmDestroy rd) within = refl
       behind_within (call.RecDestroy rec) within = refl

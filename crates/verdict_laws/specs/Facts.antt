@@ -1,7 +1,7 @@
 -- Facts that some calls make and others end: where one of the first makes a fact and none may have ended it since, a reply that denies it, or that
 -- several such facts deny, is wrong.
 -- This project's own.
-use Rattle.std.specs.Prelude.{◌≡◌, ℕ, ◌-◌, ◌^◌, ◌==◌, ◌&&◌, ◌||◌, ◌⊎◌, nat_le, nat_lt, All, Bool, true, false, not, List, [], ◌∷◌, Option, None, Some, is_some}
+use Rattle.std.specs.Prelude.{◌≡◌, ℕ, ◌-◌, ◌*◌, ◌^◌, ◌==◌, ◌&&◌, ◌||◌, ◌⊎◌, nat_le, nat_lt, All, Bool, true, false, not, List, [], ◌∷◌, Option, None, Some, is_some}
 use Rattle.std.specs.List.{list_all, list_any}
 use Rattle.rmm_spec.specs.declared.call.Call.{Call}
 use Rattle.rmm_spec.specs.declared.call.Call.TheVariants as call
@@ -15,14 +15,14 @@ use Rattle.rmm_spec.specs.declared.tag.Tag.{Tag}
 use Rattle.rmm_spec.specs.declared.tag.Tag.TheVariants.{Undelegated, Delegated, Rd, Rec, RecAux, Data, Rtt}
 use Rattle.rmm_spec.specs.Call.{call_of}
 use Rattle.rmm_spec.specs.Linearization.{IsCalled, IsReturned}
-use Rattle.rmm_spec.specs.Lookup.{is_granule, is_new, tag_number}
+use Rattle.rmm_spec.specs.Lookup.{any_below, has_vmid, is_granule, is_new, tag_number}
 use Rattle.rmm_spec.specs.Ownership.{is_accepted}
 use Rattle.rmm_spec.specs.Rows.{Needed, all_allowed}
 use Rattle.rmm_spec.specs.State.{RealmRecord, State}
 use Rattle.rmm_spec.specs.Step.Terms.{Way, named, way_of, words_of}
 use Rattle.rmm_spec.specs.Walk.{entry_number, entry_ripas, is_multiple, is_ram, is_unassigned, table_number, table_size}
 use Rattle.verdict_laws.specs.declared.facts.Fact.{Fact}
-use Rattle.verdict_laws.specs.declared.facts.Fact.TheVariants.{NewRealm, Tagged, Covered, Wide, Unassigned, UnassignedRam, Assigned}
+use Rattle.verdict_laws.specs.declared.facts.Fact.TheVariants.{NewRealm, Tagged, Covered, Wide, SoleVmid, Unassigned, UnassignedRam, Assigned}
 use Rattle.verdict_laws.specs.Separate.{is_freed}
 use Rattle.verdict_laws.specs.Slices.{ChangesNothing, IsBack, IsDoneBefore, changeable, leaves_unused, shows_names}
 
@@ -49,6 +49,10 @@ abbrev pub has_width : Option RealmRecord → ℕ → Bool
 has_width None width = false
 has_width (Some realm) width = realm.width == width
 
+-- whether a realm at another address has the VMID
+abbrev pub is_shared : State → ℕ → ℕ → Bool
+is_shared s rd vmid = any_below s.config.granules (λ k. not (rd == k * 4096) && has_vmid vmid (s.realm (k * 4096)))
+
 -- whether two addresses have one entry of the last level
 abbrev pub is_one_entry : ℕ → ℕ → Bool
 is_one_entry ipa other = entry_number 3 ipa == entry_number 3 other
@@ -71,6 +75,7 @@ is_free_ram (Some entry) = is_unassigned entry && is_ram (entry_ripas entry)
 -- whether the fact holds
 abbrev pub holds : Fact → State → Bool
 holds (Wide rd width) s = has_width (s.realm rd) width
+holds (SoleVmid rd vmid) s = not (is_shared s rd vmid)
 holds (Unassigned rd ipa) s = is_free (s.leaf rd 3 (entry_number 3 ipa))
 holds (UnassignedRam rd ipa) s = is_free_ram (s.leaf rd 3 (entry_number 3 ipa))
 holds (Assigned rd ipa page) s = has_page (s.leaf rd 3 (entry_number 3 ipa)) page
@@ -84,6 +89,7 @@ begins (NewRealm rd) = true
 begins (Tagged granule tag) = is_tag Undelegated tag
 begins (Covered rd level ipa) = false
 begins (Wide rd width) = false
+begins (SoleVmid rd vmid) = true
 begins (Unassigned rd ipa) = false
 begins (UnassignedRam rd ipa) = false
 begins (Assigned rd ipa page) = false
@@ -110,6 +116,10 @@ makes_table _ rd level ipa = false
 unfoldable pub makes_wide : Call → ℕ → ℕ → Bool
 makes_wide (call.RealmCreate other root its_width level vmid algo) rd width = rd == other && width == its_width
 makes_wide _ rd width = false
+
+unfoldable pub makes_vmid : Call → ℕ → ℕ → Bool
+makes_vmid (call.RealmCreate other root width level its_vmid algo) rd vmid = rd == other && vmid == its_vmid
+makes_vmid _ rd vmid = false
 
 -- whether the call gives the page to the address
 unfoldable pub gives_entry : Call → ℕ → ℕ → ℕ → Bool
@@ -154,6 +164,7 @@ makes (NewRealm rd) c given = makes_realm c rd
 makes (Tagged granule tag) c given = tags c given granule tag
 makes (Covered rd level ipa) c given = makes_table c rd level ipa
 makes (Wide rd width) c given = makes_wide c rd width
+makes (SoleVmid rd vmid) c given = makes_vmid c rd vmid
 makes (Unassigned rd ipa) c given = frees_entry c rd ipa || (makes_table c rd 3 ipa && nat_lt ipa (2 ^ 38))
 makes (UnassignedRam rd ipa) c given = sets_ram c given rd ipa
 makes (Assigned rd ipa page) c given = gives_entry c rd ipa page
@@ -175,6 +186,11 @@ unfoldable pub may_narrow : Call → ℕ → Bool
 may_narrow (call.RealmCreate other root width level vmid algo) rd = rd == other
 may_narrow (call.RealmDestroy other) rd = rd == other
 may_narrow _ rd = false
+
+-- whether the call may give the VMID to a realm at another address
+unfoldable pub may_share : Call → ℕ → ℕ → Bool
+may_share (call.RealmCreate other root width level its_vmid algo) rd vmid = vmid == its_vmid && not (rd == other)
+may_share _ rd vmid = false
 
 unfoldable pub may_assign : Call → ℕ → ℕ → Bool
 may_assign (call.DataCreate other granule at source flags digest) rd ipa = rd == other && is_one_entry ipa at
@@ -216,6 +232,7 @@ may_end (NewRealm rd) c given = may_activate c rd
 may_end (Tagged granule tag) c given = may_retag c given granule tag
 may_end (Covered rd level ipa) c given = may_uncover c rd level ipa
 may_end (Wide rd width) c given = may_narrow c rd
+may_end (SoleVmid rd vmid) c given = may_share c rd vmid
 may_end (Unassigned rd ipa) c given = may_assign c rd ipa
 may_end (UnassignedRam rd ipa) c given = may_assign c rd ipa || frees_entry c rd ipa || may_set_ripas c rd
 may_end (Assigned rd ipa page) c given = may_assign c rd ipa || frees_entry c rd ipa
@@ -275,6 +292,7 @@ denies (Tagged granule tag) c given =
     || (is_freed c given granule && not (is_tag tag Data) && not (is_tag tag Rtt))
 denies (Covered rd level ipa) c given = is_refused_above level given && goes_to (way_of c) rd level ipa
 denies (Wide rd width) c given = is_refused_with 1 given && all_allowed (words_of c) && lies_in c rd width
+denies (SoleVmid rd vmid) c given = false
 denies (Unassigned rd ipa) c given = (is_accepted given && frees_entry c rd ipa) || (is_refused_with 4 given && needs_free c rd ipa)
 denies (UnassignedRam rd ipa) c given = is_refused_with 4 given && creates_page c rd ipa
 denies (Assigned rd ipa page) c given =
@@ -302,12 +320,28 @@ gives_half rd ipa _ = false
 abbrev pub give_half : List Fact → ℕ → ℕ → Bool
 give_half facts rd ipa = list_any (gives_half rd ipa) facts
 
--- Whether no row behind those on words and tags refuses the call with ERROR_INPUT where the facts hold. A realm's tables begin at level 0 or 1.
+-- whether the fact says that no realm is at the address
+abbrev pub gives_none : ℕ → Fact → Bool
+gives_none rd (Tagged granule tag) = rd == granule && not (is_tag tag Rd)
+gives_none rd _ = false
+
+-- whether the fact says that no realm has the VMID but one that isn't there, as one of the facts says
+abbrev pub gives_vmid : List Fact → ℕ → Fact → Bool
+gives_vmid facts vmid (SoleVmid rd its_vmid) = vmid == its_vmid && list_any (gives_none rd) facts
+gives_vmid facts vmid _ = false
+
+-- whether one of them says so
+abbrev pub give_vmid : List Fact → ℕ → Bool
+give_vmid facts vmid = list_any (gives_vmid facts vmid) facts
+
+-- Whether no row behind those on words and tags refuses the call with ERROR_INPUT where the facts hold. A realm's tables begin at level 0 or 1, and
+-- each version has SHA-256.
 unfoldable pub are_within : List Fact → Call → Bool
 are_within facts (call.GranuleDelegate granule) = true
 are_within facts (call.GranuleUndelegate granule) = true
 are_within facts (call.DataCreate rd granule ipa source flags digest) = give_half facts rd ipa
 are_within facts (call.DataCreateUnknown rd granule ipa) = give_half facts rd ipa
+are_within facts (call.RealmCreate rd root width level vmid algo) = algo == 0 && give_vmid facts vmid
 are_within facts (call.RealmActivate rd) = true
 are_within facts (call.RealmDestroy rd) = true
 are_within facts (call.RecDestroy rec) = true

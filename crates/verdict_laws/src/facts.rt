@@ -27,6 +27,8 @@ pub enum Fact {
     UnassignedRam { rd: u64, ipa: u64 },
     /// The address has an entry of the last level, with the page.
     Assigned { rd: u64, ipa: u64, page: u64 },
+    /// No realm but the one at the address, if one is there, has the VMID.
+    SoleVmid { rd: u64, vmid: u64 },
     /// A table of the realm's level covers the address.
     Covered { rd: u64, level: u8, ipa: u64 },
 }
