@@ -6,9 +6,6 @@ use crate::kinds::{changes, is_looking};
 use crate::plan::Unused;
 use history::History;
 
-/// How many events are looked back at.
-const FAR: u32 = 1 << 16;
-
 /// Why the granule is unused before a place, if the calls before say so, and whether it is lent to the realm world then.
 pub(crate) fn unused_before(
     history: &History,
@@ -16,10 +13,8 @@ pub(crate) fn unused_before(
     place: u32,
     granule: u64,
 ) -> Option<(Unused, bool)> {
-    for back in 1..FAR {
-        let Some(at) = place.checked_sub(back) else {
-            return Some((Unused::Untouched, false));
-        };
+    for back in 1..place.saturating_add(1) {
+        let at = place.saturating_sub(back);
         if let Some(call) = done_at(history, count, at) {
             if let Some(lent) = lends(&call, granule) {
                 return Some((Unused::GivenUp { giver: at }, lent));
@@ -30,7 +25,7 @@ pub(crate) fn unused_before(
             }
         }
     }
-    None
+    Some((Unused::Untouched, false))
 }
 
 /// Whether the call leaves the granule unused and lent, or unused and not lent. None where it does neither.

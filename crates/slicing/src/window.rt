@@ -7,9 +7,6 @@ use history::History;
 use std::alloc::{AllocError, Global};
 use std::cmp::min;
 
-/// How many events are gone back at most.
-const FAR: u32 = 1 << 16;
-
 /// The calls from a place on among a history's first events.
 #[derive(Drop)]
 pub(crate) struct Window<'h> {
@@ -47,7 +44,7 @@ impl<'h> Window<'h> {
         }
     }
 
-    /// Goes back until each CPU's latest call before a place is gone back to, or as far as it may.
+    /// Goes back until each CPU's latest call before a place is gone back to, if there is one.
     pub(crate) fn cover(&mut self, place: u32) -> Result<(), AllocError> {
         for _event in 0..self.from {
             if self.covers(place) || !self.go_back()? {
@@ -93,9 +90,9 @@ impl<'h> Window<'h> {
         None
     }
 
-    // Goes back by one event, unless that is too far.
+    // Goes back by one event, unless that was the first.
     fn go_back(&mut self) -> Result<bool, AllocError> {
-        if self.from == 0 || self.from.saturating_add(FAR) < self.count {
+        if self.from == 0 {
             return Ok(false);
         }
         self.from -= 1;
