@@ -4,6 +4,7 @@ ghost use Rattle.std.specs.Prelude.{◌≡◌, false, IsTrue};
 ghost use Rattle.rmm_spec.specs.declared.tag.Tag.TheVariants.{Data};
 ghost use Rattle.slicing.specs.Facts.{DoesNotEnd};
 ghost use Rattle.verdict_laws.specs.Facts as laws;
+ghost use Rattle.verdict_laws.specs.Slices as slices;
 ghost use Rattle.verdict_laws.specs.declared.facts.Fact.TheVariants.{Tagged};
 
 use crate::call_at::CallAt;
@@ -24,6 +25,7 @@ pub(crate) fn is_left(fact: Fact, call: &CallAt<'_>) -> bool
         Fact::Covered { rd, level, ipa } => !may_uncover(&call.call, rd, level, ipa),
         Fact::Wide { rd, .. } => !may_narrow(&call.call, rd),
         Fact::SoleVmid { rd, vmid } => !may_share(&call.call, rd, vmid),
+        Fact::PartOf { granule, .. } => !may_take(&call.call, granule, Tag::Delegated),
         Fact::Unassigned { rd, ipa } => !may_assign(&call.call, rd, ipa),
         Fact::UnassignedRam { rd, ipa } => {
             !may_assign(&call.call, rd, ipa)
@@ -141,15 +143,18 @@ fn keeps_tag(call: &CallAt<'_>, granule: u64, tag: Tag) -> bool
     ensures { IsTrue result → DoesNotEnd (Tagged granule tag) call.now }
 {
     match tag {
-        Tag::Undelegated | Tag::Delegated => !needs(
-            changeable(&call.call).as_slice(),
-            granule,
-            tag,
-        ),
+        Tag::Undelegated | Tag::Delegated => !may_take(&call.call, granule, tag),
         Tag::Rd | Tag::Rec => !destroys(&call.call, granule),
         Tag::Data => !may_free(call, granule),
         Tag::RecAux | Tag::Rtt => false,
     }
+}
+
+/// Whether the call may take the tag off the granule, which it names.
+fn may_take(call: &Call, granule: u64, tag: Tag) -> bool
+    ensures { result ≡ laws.needs (slices.changeable call.now) granule tag }
+{
+    needs(changeable(call).as_slice(), granule, tag)
 }
 
 /// Whether one of these needs the tag of the granule.

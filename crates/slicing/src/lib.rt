@@ -15,6 +15,7 @@ mod early;
 mod ending;
 mod entered;
 mod given_back;
+mod giving;
 mod keeping;
 mod kinds;
 mod last_return;

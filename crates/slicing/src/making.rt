@@ -24,6 +24,7 @@ pub(crate) fn begins(fact: Fact) -> bool
         Fact::Tagged { tag, .. } => is_tag(Tag::Undelegated, tag),
         Fact::Covered { .. }
         | Fact::Wide { .. }
+        | Fact::PartOf { .. }
         | Fact::Unassigned { .. }
         | Fact::UnassignedRam { .. }
         | Fact::Assigned { .. } => false,
@@ -40,6 +41,7 @@ pub(crate) fn makes(fact: Fact, call: &Call, reply: ReplyRef<'_>) -> bool
         Fact::Covered { rd, level, ipa } => makes_table(call, rd, level, ipa),
         Fact::Wide { rd, width } => makes_wide(call, rd, width),
         Fact::SoleVmid { rd, vmid } => makes_vmid(call, rd, vmid),
+        Fact::PartOf { granule, owner } => takes_part(call, granule, owner),
         Fact::Unassigned { rd, ipa } => frees_entry(call, rd, ipa) || begins_entry(call, rd, ipa),
         Fact::UnassignedRam { rd, ipa } => sets_ram(call, reply, rd, ipa),
         Fact::Assigned { rd, ipa, page } => gives_entry(call, rd, ipa, page),
@@ -131,6 +133,23 @@ fn makes_vmid(call: &Call, rd: u64, vmid: u64) -> bool
             vmid: its_vmid,
             ..
         } => rd == *other && vmid == *its_vmid,
+        _ => false,
+    }
+}
+
+/// Whether the call makes the owner of the granule.
+#[tactic(auto, unfolding(verdict_laws::specs::Facts::takes_part))]
+pub(crate) fn takes_part(call: &Call, granule: u64, owner: u64) -> bool
+    ensures { result ≡ laws.takes_part call.now granule owner }
+{
+    match call {
+        Call::RealmCreate { rd, root, .. } => owner == *rd && *root == granule,
+        Call::RecCreate {
+            rec,
+            aux0,
+            aux1,
+            ..
+        } => owner == *rec && (*aux0 == granule || *aux1 == granule),
         _ => false,
     }
 }

@@ -4,7 +4,7 @@ use crate::denying::denies;
 use crate::done::{Done, done_before};
 use crate::given_back::freed;
 use crate::last_return::LastReturn;
-use crate::making::{makes, tags};
+use crate::making::{makes, tags, takes_part};
 use command_words::{Way, named, way_of, words_allow};
 use history::History;
 use rmi_view::ReplyRef;
@@ -20,8 +20,8 @@ const TAGS: [Tag; 5] = [
     Tag::Data,
 ];
 
-/// How many facts are supposed together at most: the tag of each granule that a call names, how wide its realm is, and who has its VMID.
-const MOST_FACTS: usize = 5;
+/// How many facts are supposed together at most: two of each granule that a call names, how wide its realm is, and who has its VMID.
+const MOST_FACTS: usize = 10;
 
 /// Facts that are supposed together: the first of these, so many.
 #[derive(Clone, Copy)]
@@ -120,7 +120,11 @@ pub(crate) fn supposed_together(history: &History, count: u32, last: &LastReturn
         return facts;
     }
     for name in named(&last.call).as_slice() {
-        facts.push(tag_before(history, count, last.called, name.granule));
+        let fact = granule_before(history, count, last.called, name.granule);
+        facts.push(fact);
+        if let Fact::PartOf { owner, .. } = fact {
+            facts.push(granule_before(history, count, last.called, owner));
+        }
     }
     if let Some(fact) = wide_before(history, count, last) {
         facts.push(fact);
@@ -128,7 +132,7 @@ pub(crate) fn supposed_together(history: &History, count: u32, last: &LastReturn
     if let Call::RealmCreate { rd, vmid, .. } = last.call {
         let owner = owner_before(history, count, last.called, vmid).unwrap_or(rd);
         facts.push(Fact::SoleVmid { rd: owner, vmid });
-        facts.push(tag_before(history, count, last.called, owner));
+        facts.push(granule_before(history, count, last.called, owner));
     }
     facts
 }
@@ -200,20 +204,20 @@ fn realm_of(call: &Call) -> Option<u64> {
 /// The tag of a granule that the reply denies, as the calls before say.
 pub(crate) fn supposed_tag(history: &History, count: u32, last: &LastReturn<'_>) -> Option<Fact> {
     for name in named(&last.call).as_slice() {
-        let fact = tag_before(history, count, last.called, name.granule);
+        let fact = granule_before(history, count, last.called, name.granule);
         if denies(fact, &last.call, last.reply) {
             return Some(fact);
         }
     }
     let granule = freed(&last.call, last.reply)?;
-    Some(tag_before(history, count, last.called, granule))
+    Some(granule_before(history, count, last.called, granule))
 }
 
-/// The tag that the calls before a place leave to a granule, as far as they say.
-fn tag_before(history: &History, count: u32, place: u32, granule: u64) -> Fact {
+/// What the calls before a place say of a granule: its tag, or whose part it is.
+fn granule_before(history: &History, count: u32, place: u32, granule: u64) -> Fact {
     for back in 1..place.saturating_add(1) {
-        if let Some(tag) = tag_at(history, count, place, place.saturating_sub(back), granule) {
-            return Fact::Tagged { granule, tag };
+        if let Some(fact) = granule_at(history, count, place, place.saturating_sub(back), granule) {
+            return fact;
         }
     }
     Fact::Tagged {
@@ -222,15 +226,19 @@ fn tag_before(history: &History, count: u32, place: u32, granule: u64) -> Fact {
     }
 }
 
-/// The tag that the call leaves to the granule which is made at one place, where it returned before another.
-fn tag_at(history: &History, count: u32, place: u32, at: u32, granule: u64) -> Option<Tag> {
+/// What the call says of it that is made at one place, where it returned before another.
+fn granule_at(history: &History, count: u32, place: u32, at: u32, granule: u64) -> Option<Fact> {
     let done = done_at(history, count, place, at)?;
     for tag in TAGS {
         if tags(&done.call, done.reply, granule, tag) {
-            return Some(tag);
+            return Some(Fact::Tagged { granule, tag });
         }
     }
-    None
+    match done.call {
+        Call::RealmCreate { rd: owner, .. } | Call::RecCreate { rec: owner, .. }
+            if takes_part(&done.call, granule, owner) => { Some(Fact::PartOf { granule, owner }) }
+        _ => None,
+    }
 }
 
 /// The place of the latest call that makes the fact, and returned before another.

@@ -14,7 +14,7 @@ use granule_cells::{Cell, CellStore, CellView};
 use memory_map::granule_at;
 use spec_machine::Machine;
 
-/// Where it answers true, the two patches lead from here to one state.
+/// Where it answers true, the two patches lead to one state from the machine's.
 pub fn are_same(machine: &Machine, one: &Patch, other: &Patch) -> bool
     ensures { IsTrue result → state_at (patched one.now (standing_of machine.now)) ≡ state_at (patched other.now (standing_of machine.now)) }
 {

@@ -10,10 +10,11 @@ use Rattle.rmm_spec.specs.State.{State, opening}
 use Rattle.rmm_spec.specs.Step.{Step}
 use Rattle.lemmas.proofs.Tests.{both_ways}
 use Rattle.verdict_laws.specs.declared.facts.Fact.{Fact}
-use Rattle.verdict_laws.specs.declared.facts.Fact.TheVariants.{NewRealm, Tagged, Covered, Wide, SoleVmid, Unassigned, UnassignedRam, Assigned}
+use Rattle.verdict_laws.specs.declared.facts.Fact.TheVariants.{NewRealm, Tagged, Covered, Wide, SoleVmid, PartOf, Unassigned, UnassignedRam, Assigned}
 use Rattle.verdict_laws.specs.Facts.{begins, denies, holds, makes, may_end}
 use Rattle.verdict_laws.proofs.EntryFacts.{entry-denied, entry-left, entry-made}
 use Rattle.verdict_laws.proofs.PageFacts.{page-denied, page-left, page-made}
+use Rattle.verdict_laws.proofs.PartFacts.{part-left, part-made}
 use Rattle.verdict_laws.proofs.RamFacts.{ram-denied, ram-left, ram-made}
 use Rattle.verdict_laws.proofs.RealmFacts.{realm-denied, realm-left, realm-made}
 use Rattle.verdict_laws.proofs.TableFacts.{table-denied, table-left, table-made}
@@ -29,6 +30,7 @@ holds-opening (Tagged granule tag) config is = is
 holds-opening (Covered rd level ipa) config is = is
 holds-opening (Wide rd width) config is = is
 holds-opening (SoleVmid rd vmid) config is = vmid-opening rd vmid config
+holds-opening (PartOf granule owner) config is = is
 holds-opening (Unassigned rd ipa) config is = is
 holds-opening (UnassignedRam rd ipa) config is = is
 holds-opening (Assigned rd ipa page) config is = is
@@ -41,6 +43,7 @@ holds-made (Tagged granule tag) s new cpu command given sound = tag-made granule
 holds-made (Covered rd level ipa) s new cpu command given sound = table-made rd level ipa s new cpu command given
 holds-made (Wide rd width) s new cpu command given sound = wide-made rd width s new cpu command given
 holds-made (SoleVmid rd vmid) s new cpu command given sound = vmid-made rd vmid s new cpu command given sound
+holds-made (PartOf granule owner) s new cpu command given sound = part-made granule owner s new cpu command given sound
 holds-made (Unassigned rd ipa) s new cpu command given sound = entry-made rd ipa s new cpu command given sound
 holds-made (UnassignedRam rd ipa) s new cpu command given sound = ram-made rd ipa s new cpu command given sound
 holds-made (Assigned rd ipa page) s new cpu command given sound = page-made rd ipa page s new cpu command given
@@ -53,6 +56,7 @@ holds-left (Tagged granule tag) s new cpu command given sound = tag-left granule
 holds-left (Covered rd level ipa) s new cpu command given sound = table-left rd level ipa s new cpu command given
 holds-left (Wide rd width) s new cpu command given sound = wide-left rd width s new cpu command given
 holds-left (SoleVmid rd vmid) s new cpu command given sound = vmid-left rd vmid s new cpu command given sound
+holds-left (PartOf granule owner) s new cpu command given sound = part-left granule owner s new cpu command given sound
 holds-left (Unassigned rd ipa) s new cpu command given sound = entry-left rd ipa s new cpu command given sound
 holds-left (UnassignedRam rd ipa) s new cpu command given sound = ram-left rd ipa s new cpu command given sound
 holds-left (Assigned rd ipa page) s new cpu command given sound = page-left rd ipa page s new cpu command given sound
@@ -65,6 +69,7 @@ held-denies (Tagged granule tag) s new cpu command given sound = tag-denied gran
 held-denies (Covered rd level ipa) s new cpu command given sound = table-denied rd level ipa s new cpu command given
 held-denies (Wide rd width) s new cpu command given sound = wide-denied rd width s new cpu command given sound
 held-denies (SoleVmid rd vmid) s new cpu command given sound = λ step is denied. both_ways denied refl
+held-denies (PartOf granule owner) s new cpu command given sound = λ step is denied. both_ways denied refl
 held-denies (Unassigned rd ipa) s new cpu command given sound = entry-denied rd ipa s new cpu command given sound
 held-denies (UnassignedRam rd ipa) s new cpu command given sound = ram-denied rd ipa s new cpu command given sound
 held-denies (Assigned rd ipa page) s new cpu command given sound = page-denied rd ipa page s new cpu command given sound

@@ -83,6 +83,7 @@ pub mod TableFacts
 pub mod TagFacts
 pub mod WideFacts
 pub mod VmidFacts
+pub mod PartFacts
 pub mod EntryChanges
 pub mod EntryFacts
 pub mod PageFacts

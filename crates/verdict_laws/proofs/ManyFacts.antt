@@ -1,5 +1,5 @@
 -- Where all facts of a list hold, no call is given a reply that they deny, one by itself or all together.
-use Rattle.std.proofs.Common.{◌≡◌, ℕ, ◌-◌, ◌^◌, ◌≤◌, ◌==◌, ◌&&◌, nat_le, nat_lt, Bool, true, false, IsTrue, All, List, inl, inr, refl, sym, ◌∙◌, ap, eqb-true, arith}
+use Rattle.std.proofs.Common.{◌≡◌, ℕ, ◌-◌, ◌^◌, ◌≤◌, ◌==◌, ◌&&◌, ◌||◌, nat_le, nat_lt, Bool, true, false, IsTrue, All, List, inl, inr, refl, sym, ◌∙◌, ap, eqb-true, arith}
 use Rattle.std.specs.List.{list_all, list_any}
 use Rattle.std.proofs.lemmas.Bool.{and_from, and_parts, le-leb, leb-true, lt-ltb, or_cases}
 use Rattle.std.proofs.lemmas.Bool.Decides.{nat_tests}
@@ -9,7 +9,7 @@ use Rattle.rmm_spec.specs.declared.call.Call.{Call}
 use Rattle.rmm_spec.specs.declared.call.Call.TheVariants as call
 use Rattle.rmm_spec.specs.declared.command.Command.{Command}
 use Rattle.rmm_spec.specs.declared.reply.Reply.{Reply}
-use Rattle.rmm_spec.specs.declared.tag.Tag.TheVariants.{Rd}
+use Rattle.rmm_spec.specs.declared.tag.Tag.TheVariants.{Delegated, Rd}
 use Rattle.rmm_spec.specs.declared.version.Version.{Version}
 use Rattle.rmm_spec.specs.declared.version.Version.TheVariants.{One, Two, Large}
 use Rattle.rmm_spec.specs.Call.{call_of}
@@ -26,10 +26,11 @@ use Rattle.spec_lemmas.proofs.Members.{Contains-from_slice_get, passing_member}
 use Rattle.rmm_laws.proofs.Searches.{realm_there}
 use Rattle.rmm_laws.proofs.Spaces.{space_cases}
 use Rattle.verdict_laws.specs.declared.facts.Fact.{Fact}
-use Rattle.verdict_laws.specs.declared.facts.Fact.TheVariants.{SoleVmid, Tagged, Wide}
-use Rattle.verdict_laws.specs.Facts.{are_within, denies, deny, deny_input, give_half, give_tag, give_vmid, gives_half, gives_none, gives_tag, gives_vmid, holds, is_refused_with, is_tag}
+use Rattle.verdict_laws.specs.declared.facts.Fact.TheVariants.{PartOf, SoleVmid, Tagged, Wide}
+use Rattle.verdict_laws.specs.Facts.{are_within, denies, deny, deny_input, give_half, give_tag, give_vmid, gives_half, gives_no_owner, gives_none, gives_tag, gives_vmid, holds, is_refused_with, is_tag}
 use Rattle.verdict_laws.proofs.FactKinds.{held-denies}
 use Rattle.verdict_laws.proofs.FactSteps.{are_tagged, are_told, step-untold_there}
+use Rattle.verdict_laws.proofs.PartFacts.{no_owner-given, no_part}
 use Rattle.verdict_laws.proofs.TagFacts.{tag-from_is_tag}
 use Rattle.verdict_laws.proofs.VmidFacts.{none-given, vmid-unused}
 use Rattle.verdict_laws.proofs.WideFacts.{rd_tagged, read_wide}
@@ -64,18 +65,6 @@ sha256-allowed Two = refl
 sha256-allowed Large = refl
 
 module _ (s : State) (sound : IsSound s) where
-  -- a granule has the tag that a fact gives it
-  has_tag-given : (n : Needed) → is_granule s.config.granules n.granule ≡ true → (fact : Fact) → holds fact s ≡ true
-      → gives_tag n fact ≡ true → has_tag s n.granule n.tag ≡ true
-  unfolding has_tag
-  has_tag-given n inside (Tagged granule tag) is gives =
-      let parts = and_parts (n.granule == granule) (is_tag n.tag tag) gives in
-      and_from _ _ inside (rw (eqb-true n.granule granule parts.0, tag-from_is_tag n.tag tag parts.1) is)
-  has_tag-given n inside (Wide rd width) is gives =
-      let parts = and_parts (n.granule == rd) (is_tag n.tag Rd) gives in
-      rw (tag-from_is_tag n.tag Rd parts.1) (rd_tagged rd width s is sound n.granule (sym (eqb-true n.granule rd parts.0)))
-  has_tag-given n inside _ is gives = both_ways gives refl
-
   -- an address lies in the half that a fact gives
   IsInHalf-given : (rd ipa : ℕ) (fact : Fact) → holds fact s ≡ true → gives_half rd ipa fact ≡ true → IsInHalf (realm_at s rd) ipa
   IsInHalf-given rd ipa (Wide other width) is gives =
@@ -96,14 +85,32 @@ module _ (s : State) (sound : IsSound s) where
         says found.1 (All-contains (λ (fact : Fact). holds fact s ≡ true) facts found.1 hold (Contains-from_slice_get facts found.0 found.1 found.2))
         found.3
 
+    -- so a granule has the tag that a fact gives it
+    has_tag-given : (n : Needed) → is_granule s.config.granules n.granule ≡ true → (fact : Fact) → holds fact s ≡ true
+        → gives_tag facts n fact ≡ true → has_tag s n.granule n.tag ≡ true
+    unfolding has_tag
+    has_tag-given n inside (Tagged granule tag) is gives =
+        let parts = and_parts (n.granule == granule) (is_tag n.tag tag) gives in
+        and_from _ _ inside (rw (eqb-true n.granule granule parts.0, tag-from_is_tag n.tag tag parts.1) is)
+    has_tag-given n inside (Wide rd width) is gives =
+        let parts = and_parts (n.granule == rd) (is_tag n.tag Rd) gives in
+        rw (tag-from_is_tag n.tag Rd parts.1) (rd_tagged rd width s is sound n.granule (sym (eqb-true n.granule rd parts.0)))
+    has_tag-given n inside (PartOf granule owner) is gives =
+        let parts = and_parts (n.granule == granule && is_tag n.tag Delegated) (list_any (gives_no_owner owner) facts) gives in
+        let names = and_parts (n.granule == granule) (is_tag n.tag Delegated) parts.0 in
+        let none = no_part s owner (from_one (gives_no_owner owner) (no_owner-given s owner sound) parts.1) granule in
+        and_from _ _ inside (rw (eqb-true n.granule granule names.0, tag-from_is_tag n.tag Delegated names.1)
+        (ap (λ b. b || is_tag (s.tag granule) Delegated) (sym none) ∙ is))
+    has_tag-given n inside _ is gives = both_ways gives refl
+
     -- so each granule that is named has its tag
     are_tagged-given : (granules : ℕ) (names : List Needed) → s.config.granules ≡ granules
         → list_all (give_tag granules facts) names ≡ true → are_tagged s names ≡ true
     are_tagged-given granules names size give =
         let has = λ (n : Needed). has_tag s n.granule n.tag in
         list_all-from_AllPass has names (All-weaker (λ n. give_tag granules facts n ≡ true) (λ n. has n ≡ true) (λ n gives.
-        let parts = and_parts (is_granule granules n.granule) (list_any (gives_tag n) facts) gives in
-        from_one (gives_tag n) (has_tag-given n (ap (λ g. is_granule g n.granule) size ∙ parts.0)) parts.1)
+        let parts = and_parts (is_granule granules n.granule) (list_any (gives_tag facts n) facts) gives in
+        from_one (gives_tag facts n) (has_tag-given n (ap (λ g. is_granule g n.granule) size ∙ parts.0)) parts.1)
         names (AllPass-from_list_all (give_tag granules facts) names give))
 
     -- and an address lies in its half

@@ -18,11 +18,11 @@ use Rattle.rmm_spec.specs.Linearization.{IsCalled, IsReturned}
 use Rattle.rmm_spec.specs.Lookup.{any_below, has_vmid, is_granule, is_new, tag_number}
 use Rattle.rmm_spec.specs.Ownership.{is_accepted}
 use Rattle.rmm_spec.specs.Rows.{Needed, all_allowed}
-use Rattle.rmm_spec.specs.State.{RealmRecord, State}
+use Rattle.rmm_spec.specs.State.{RealmRecord, RecRecord, State}
 use Rattle.rmm_spec.specs.Step.Terms.{Way, named, way_of, words_of}
 use Rattle.rmm_spec.specs.Walk.{entry_number, entry_ripas, is_multiple, is_ram, is_unassigned, table_number, table_size}
 use Rattle.verdict_laws.specs.declared.facts.Fact.{Fact}
-use Rattle.verdict_laws.specs.declared.facts.Fact.TheVariants.{NewRealm, Tagged, Covered, Wide, SoleVmid, Unassigned, UnassignedRam, Assigned}
+use Rattle.verdict_laws.specs.declared.facts.Fact.TheVariants.{NewRealm, Tagged, Covered, Wide, SoleVmid, PartOf, Unassigned, UnassignedRam, Assigned}
 use Rattle.verdict_laws.specs.Separate.{is_freed}
 use Rattle.verdict_laws.specs.Slices.{ChangesNothing, IsBack, IsDoneBefore, changeable, leaves_unused, shows_names}
 
@@ -53,6 +53,20 @@ has_width (Some realm) width = realm.width == width
 abbrev pub is_shared : State → ℕ → ℕ → Bool
 is_shared s rd vmid = any_below s.config.granules (λ k. not (rd == k * 4096) && has_vmid vmid (s.realm (k * 4096)))
 
+-- whether a realm is there, and the granule is its root table
+abbrev pub has_root : Option RealmRecord → ℕ → Bool
+has_root None granule = false
+has_root (Some realm) granule = realm.root == granule
+
+-- whether a REC is there, and the granule is one of its auxiliary ones
+abbrev pub has_aux : Option RecRecord → ℕ → Bool
+has_aux None granule = false
+has_aux (Some rec) granule = rec.aux0 == granule || rec.aux1 == granule
+
+-- whether the granule belongs to the realm or to the REC at the owner's address
+abbrev pub is_part : State → ℕ → ℕ → Bool
+is_part s granule owner = has_root (s.realm owner) granule || has_aux (s.rec owner) granule
+
 -- whether two addresses have one entry of the last level
 abbrev pub is_one_entry : ℕ → ℕ → Bool
 is_one_entry ipa other = entry_number 3 ipa == entry_number 3 other
@@ -76,6 +90,7 @@ is_free_ram (Some entry) = is_unassigned entry && is_ram (entry_ripas entry)
 abbrev pub holds : Fact → State → Bool
 holds (Wide rd width) s = has_width (s.realm rd) width
 holds (SoleVmid rd vmid) s = not (is_shared s rd vmid)
+holds (PartOf granule owner) s = is_part s granule owner || is_tag (s.tag granule) Delegated
 holds (Unassigned rd ipa) s = is_free (s.leaf rd 3 (entry_number 3 ipa))
 holds (UnassignedRam rd ipa) s = is_free_ram (s.leaf rd 3 (entry_number 3 ipa))
 holds (Assigned rd ipa page) s = has_page (s.leaf rd 3 (entry_number 3 ipa)) page
@@ -90,6 +105,7 @@ begins (Tagged granule tag) = is_tag Undelegated tag
 begins (Covered rd level ipa) = false
 begins (Wide rd width) = false
 begins (SoleVmid rd vmid) = true
+begins (PartOf granule owner) = false
 begins (Unassigned rd ipa) = false
 begins (UnassignedRam rd ipa) = false
 begins (Assigned rd ipa page) = false
@@ -120,6 +136,12 @@ makes_wide _ rd width = false
 unfoldable pub makes_vmid : Call → ℕ → ℕ → Bool
 makes_vmid (call.RealmCreate other root width level its_vmid algo) rd vmid = rd == other && vmid == its_vmid
 makes_vmid _ rd vmid = false
+
+-- whether the call makes the owner of the granule
+unfoldable pub takes_part : Call → ℕ → ℕ → Bool
+takes_part (call.RealmCreate rd root width level vmid algo) granule owner = owner == rd && root == granule
+takes_part (call.RecCreate rd rec mpidr flags aux0 aux1) granule owner = owner == rec && (aux0 == granule || aux1 == granule)
+takes_part _ granule owner = false
 
 -- whether the call gives the page to the address
 unfoldable pub gives_entry : Call → ℕ → ℕ → ℕ → Bool
@@ -165,6 +187,7 @@ makes (Tagged granule tag) c given = tags c given granule tag
 makes (Covered rd level ipa) c given = makes_table c rd level ipa
 makes (Wide rd width) c given = makes_wide c rd width
 makes (SoleVmid rd vmid) c given = makes_vmid c rd vmid
+makes (PartOf granule owner) c given = takes_part c granule owner
 makes (Unassigned rd ipa) c given = frees_entry c rd ipa || (makes_table c rd 3 ipa && nat_lt ipa (2 ^ 38))
 makes (UnassignedRam rd ipa) c given = sets_ram c given rd ipa
 makes (Assigned rd ipa page) c given = gives_entry c rd ipa page
@@ -233,6 +256,7 @@ may_end (Tagged granule tag) c given = may_retag c given granule tag
 may_end (Covered rd level ipa) c given = may_uncover c rd level ipa
 may_end (Wide rd width) c given = may_narrow c rd
 may_end (SoleVmid rd vmid) c given = may_share c rd vmid
+may_end (PartOf granule owner) c given = needs (changeable c) granule Delegated
 may_end (Unassigned rd ipa) c given = may_assign c rd ipa
 may_end (UnassignedRam rd ipa) c given = may_assign c rd ipa || frees_entry c rd ipa || may_set_ripas c rd
 may_end (Assigned rd ipa page) c given = may_assign c rd ipa || frees_entry c rd ipa
@@ -293,6 +317,7 @@ denies (Tagged granule tag) c given =
 denies (Covered rd level ipa) c given = is_refused_above level given && goes_to (way_of c) rd level ipa
 denies (Wide rd width) c given = is_refused_with 1 given && all_allowed (words_of c) && lies_in c rd width
 denies (SoleVmid rd vmid) c given = false
+denies (PartOf granule owner) c given = false
 denies (Unassigned rd ipa) c given = (is_accepted given && frees_entry c rd ipa) || (is_refused_with 4 given && needs_free c rd ipa)
 denies (UnassignedRam rd ipa) c given = is_refused_with 4 given && creates_page c rd ipa
 denies (Assigned rd ipa page) c given =
@@ -301,15 +326,22 @@ denies (Assigned rd ipa page) c given =
 
 -- ---- replies that several deny
 
--- whether the fact says that a granule has the tag which a call needs
-abbrev pub gives_tag : Needed → Fact → Bool
-gives_tag n (Tagged granule tag) = n.granule == granule && is_tag n.tag tag
-gives_tag n (Wide rd width) = n.granule == rd && is_tag n.tag Rd
-gives_tag n _ = false
+-- whether the fact says that neither a realm nor a REC is at the address
+abbrev pub gives_no_owner : ℕ → Fact → Bool
+gives_no_owner owner (Tagged granule tag) = owner == granule && not (is_tag tag Rd) && not (is_tag tag Rec)
+gives_no_owner owner _ = false
+
+-- Whether the fact says that a granule has the tag which a call needs: that of a part is Delegated where one of the facts says that its owner isn't
+-- there.
+abbrev pub gives_tag : List Fact → Needed → Fact → Bool
+gives_tag facts n (Tagged granule tag) = n.granule == granule && is_tag n.tag tag
+gives_tag facts n (Wide rd width) = n.granule == rd && is_tag n.tag Rd
+gives_tag facts n (PartOf granule owner) = n.granule == granule && is_tag n.tag Delegated && list_any (gives_no_owner owner) facts
+gives_tag facts n _ = false
 
 -- whether it is one of so many granules, and one of the facts says so; addresses of none are Undelegated too
 abbrev pub give_tag : ℕ → List Fact → Needed → Bool
-give_tag granules facts n = is_granule granules n.granule && list_any (gives_tag n) facts
+give_tag granules facts n = is_granule granules n.granule && list_any (gives_tag facts n) facts
 
 -- whether the fact says that the realm is there, and the address lies in its protected half
 abbrev pub gives_half : ℕ → ℕ → Fact → Bool

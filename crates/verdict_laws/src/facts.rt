@@ -29,6 +29,8 @@ pub enum Fact {
     Assigned { rd: u64, ipa: u64, page: u64 },
     /// No realm but the one at the address, if one is there, has the VMID.
     SoleVmid { rd: u64, vmid: u64 },
+    /// The granule is the root table of the realm or an auxiliary granule of the REC at the owner's address, or it is Delegated.
+    PartOf { granule: u64, owner: u64 },
     /// A table of the realm's level covers the address.
     Covered { rd: u64, level: u8, ipa: u64 },
 }
