@@ -1,30 +1,36 @@
 #!/usr/bin/env python3
 """Gives rmmfind histories that generate.py doesn't draw, good ones and ones with a changed reply, and times it beside rmmcheck.
 
-usage: others.py [--find PATH] [--check PATH] [--seconds S] [--loads LOAD ..] [--lines COUNT ..] [--refusals] [SEED]
+usage: others.py [--find PATH] [--check PATH] [--seconds S] [--loads LOAD ..] [--lines COUNT ..] [--refusals] [--instructions] [SEED]
 
 Eight CPUs call all the time, on 4,096 granules. Under `few` they delegate and undelegate four granules. Under `late` they do so with all,
 and each return may be delayed by up to 64 events. Under `recs` one realm has a REC on each CPU, and these extend and read the same
-four registers. Under `parallel` all give pages to one new realm and set its RIPAS. A reply is changed at the beginning, in the
-middle or at the end; it may be right in another order. What was found is printed with the time, beside that of a check of a good history.
+four registers; under `recs-2` and `recs-4` so many realms share the CPUs. Under `parallel` all give pages to one new realm and set its
+RIPAS; under `stretches` its RECs ask for other RIPAS, which is set in parts while pages come and go. A reply is changed at the beginning,
+in the middle or at the end; it may be right in another order. What was found is printed after the seconds that it took, and how many checks
+that is of the good history's lines up to the change.
 The loads of generate.py can be named too. With `--refusals`, of each function a call late in the history that was carried out is refused
-instead, once with each status; 200 events follow it.
+instead, once with each status; 200 events follow it. `--instructions` counts instructions in place of seconds, with valgrind.
 """
 import argparse
 import collections
+import math
 import os
 import random
+import re
 import subprocess
 import sys
 import tempfile
 import time
+from functools import partial
 
 sys.dont_write_bytecode = True
 HERE = os.path.dirname(os.path.abspath(__file__))
 sys.path.append(os.path.join(HERE, "../tests"))
 from compare import changed_reply
-from functions import (DATA_CREATE, DATA_DESTROY, EXIT, GRANULE_DELEGATE, GRANULE_UNDELEGATE, MEASUREMENT_EXTEND, MEASUREMENT_READ,
-                       NAMES, REALM_ACTIVATE, REALM_CREATE, REC_CREATE, REC_ENTER, RTT_CREATE, RTT_INIT_RIPAS)
+from functions import (DATA_CREATE, DATA_CREATE_UNKNOWN, DATA_DESTROY, EXIT, GRANULE_DELEGATE, GRANULE_UNDELEGATE, IPA_STATE_GET,
+                       IPA_STATE_SET, MEASUREMENT_EXTEND, MEASUREMENT_READ, NAMES, REALM_ACTIVATE, REALM_CREATE, REC_CREATE, REC_ENTER,
+                       RTT_CREATE, RTT_INIT_RIPAS, RTT_SET_RIPAS)
 from generate import run
 from lives import CPUS, GRANULES
 from loads import LOADS as DRAWN
@@ -32,7 +38,7 @@ from machine import Machine
 from tables import ENTRIES, LAST_LEVEL, PAGE_BYTES
 
 FIND = os.path.join(HERE, "../crates/rmmfind/out/rmmfind")
-CHECK = os.path.join(HERE, "../crates/rmmcheck/out/rmmcheck")
+CHECK = os.path.join(HERE, "../crates/check_only/out/check_only")
 
 
 class Few:
@@ -98,6 +104,27 @@ class Recs(OneRealm):
         return MEASUREMENT_EXTEND, [self.draw.randint(1, 4), self.draw.randint(1, 0x40), *self.words(8)]
 
 
+class SharedRecs(Recs):
+    """So many realms, each with RECs on as many CPUs, that extend and read the four registers of their realm."""
+
+    def __init__(self, machine, draw, realms):
+        self.realms = realms
+        super().__init__(machine, draw)
+
+    def beginning(self):
+        yield from ((GRANULE_DELEGATE, [granule * PAGE_BYTES]) for granule in range(2 * self.realms + 3 * CPUS))
+        for realm in range(self.realms):
+            rd = 2 * realm * PAGE_BYTES
+            yield REALM_CREATE, [rd, rd + PAGE_BYTES, 0x27, 1, 1 + realm, 0]
+            for index, cpu in enumerate(range(realm, CPUS, self.realms)):
+                rec, aux0, aux1 = self.granules_of(cpu)
+                yield REC_CREATE, [rd, rec, index, 1, aux0, aux1]
+            yield REALM_ACTIVATE, [rd]
+
+    def granules_of(self, cpu):
+        return [(2 * self.realms + 3 * cpu + at) * PAGE_BYTES for at in range(3)]
+
+
 class Parallel(OneRealm):
     """Pages that are given to a new realm, measured and taken back, and parts of it that become RAM."""
 
@@ -112,39 +139,76 @@ class Parallel(OneRealm):
         return DATA_CREATE, [self.rd, page, ipa, (GRANULES - 1) * PAGE_BYTES, self.draw.randrange(2), *self.words(4)]
 
 
-LOADS = {"few": (Few, 1), "late": (Many, 64), "recs": (Recs, 1), "parallel": (Parallel, 1)}
+class Stretches(Recs):
+    """RECs of one realm that ask for memory, which is given in parts, while pages are mapped there and taken back."""
+
+    pages = [granule * PAGE_BYTES for granule in range(64, 128)]
+
+    def beginning(self):
+        yield from ((GRANULE_DELEGATE, [page]) for page in self.pages)
+        yield from super().beginning()
+
+    def command(self, cpu):
+        address = self.granules_of(cpu)[0]
+        rec, request = self.machine.running.get(cpu), self.machine.recs[address].request
+        ipa = self.draw.randrange(ENTRIES - 64) * PAGE_BYTES
+        if rec:
+            top = ipa + self.draw.randint(1, 64) * PAGE_BYTES
+            asked = self.draw.choice([(IPA_STATE_GET, [ipa]), (IPA_STATE_SET, [ipa, top, self.draw.randrange(2)])])
+            return (EXIT, []) if rec.pending else asked
+        if request and request.base < request.top and self.draw.random() < 0.7:
+            top = self.draw.randrange(request.base, request.top, PAGE_BYTES) + PAGE_BYTES
+            return RTT_SET_RIPAS, [self.rd, address, request.base, top]
+        mapped = DATA_CREATE_UNKNOWN, [self.rd, self.draw.choice(self.pages), ipa]
+        return self.draw.choice([(REC_ENTER, [address]), mapped, (DATA_DESTROY, [self.rd, ipa])])
 
 
-def lines_of(load, count, draw):
-    """A good history: each reply is the machine's at the commit."""
+LOADS = {"few": (Few, 1), "late": (Many, 64), "recs": (Recs, 1), "recs-2": (partial(SharedRecs, realms=2), 1),
+         "recs-4": (partial(SharedRecs, realms=4), 1), "parallel": (Parallel, 1), "stretches": (Stretches, 1)}
+
+
+def call_line(cpu, number, function, words):
+    return " ".join(["c", str(cpu), str(number), function, *(f"{word:x}" for word in words)])
+
+
+def texts_of(load, count, draw):
+    """A good history and the certificate of its commits: each reply is the machine's at the commit."""
     machine = Machine(GRANULES)
     if load not in LOADS:
-        return run(machine, DRAWN[load](machine, draw), CPUS, count, draw)[0]
+        return run(machine, DRAWN[load](machine, draw), CPUS, count, draw)
     kind, delay = LOADS[load]
     source = kind(machine, draw)
     history = [f"rmh1 {GRANULES} {CPUS}"]
+    commits = []
     calls = [0] * CPUS
     waiting = [None] * CPUS
     for function, words in source.first:
-        history.append(" ".join(["c", "0", str(calls[0]), function, *(f"{word:x}" for word in words)]))
-        history.append(f"r 0 {calls[0]} {machine.answer(0, function, words)}")
+        history.append(call_line(0, calls[0], function, words))
+        commits.append((0, calls[0], machine.answer(0, function, words)))
+        history.append(f"r 0 {calls[0]} {commits[-1][2]}")
         calls[0] += 1
     while len(history) < count:
         cpu = draw.randrange(CPUS)
         state = waiting[cpu]
         if state is None:
             function, words = source.command(cpu)
-            history.append(" ".join(["c", str(cpu), str(calls[cpu]), function, *(f"{word:x}" for word in words)]))
+            history.append(call_line(cpu, calls[cpu], function, words))
             waiting[cpu] = (function, words)
         elif len(state) == 2:
             waiting[cpu] = (*state, machine.answer(cpu, *state), len(history) + draw.randint(0, delay - 1))
+            commits.append((cpu, calls[cpu], waiting[cpu][2]))
         elif state[3] <= len(history):
             history.append(f"r {cpu} {calls[cpu]} {state[2]}")
             calls[cpu] += 1
             waiting[cpu] = None
         elif all(other and len(other) == 4 for other in waiting):
             waiting[cpu] = (*state[:3], len(history))
-    return history
+    certificate = [f"k {cpu} {number}" if number < calls[cpu] else f"u {cpu} {number} {reply}" for cpu, number, reply in commits]
+    return history, certificate
+
+
+def lines_of(load, count, draw):
+    return texts_of(load, count, draw)[0]
 
 
 def changed_at(history, place, draw):
@@ -173,14 +237,41 @@ def refusals(history):
             yield f"{NAMES[function]} {reply}", [*history[:place], refused, *history[place + 1:place + 200]]
 
 
+def answer_of(done):
+    return "order" if done.returncode == 0 else done.stdout.strip().replace("\n", ", ") or f"status {done.returncode}"
+
+
 def timed(command, seconds):
+    """What a program answers, and how many seconds it takes."""
     start = time.time()
     try:
         done = subprocess.run(command, stdout=subprocess.PIPE, stderr=subprocess.DEVNULL, text=True, timeout=seconds, check=False)
     except subprocess.TimeoutExpired:
-        return f"not in {seconds} s"
-    answer = "order" if done.returncode == 0 else done.stdout.strip().replace("\n", ", ") or f"status {done.returncode}"
-    return f"{answer} in {time.time() - start:.2f} s"
+        return "nothing", math.inf
+    return answer_of(done), time.time() - start
+
+
+def counted(command, _seconds):
+    """What a program answers, and how many million instructions it takes."""
+    tool = ["valgrind", "--tool=callgrind", "--callgrind-out-file=/dev/null"]
+    done = subprocess.run([*tool, *command], stdout=subprocess.PIPE, stderr=subprocess.PIPE, text=True, check=False)
+    return answer_of(done), int(re.search(r"Collected : (\d+)", done.stderr)[1]) / 1e6
+
+
+def written(folder, name, lines):
+    path = os.path.join(folder, name)
+    with open(path, "w", encoding="ascii", newline="\n") as file:
+        file.write("".join(f"{line}\n" for line in lines))
+    return path
+
+
+def kinds_of(good, draw, is_refused):
+    """The histories to search, by what was changed, each with the share of a check that leads up to the change."""
+    count = len(good)
+    if is_refused:
+        return [(kind, history, (len(history) - 200) / count) for kind, history in refusals(good)]
+    places = {"beginning": count // 10, "middle": count // 2, "end": count - 1}
+    return [("good", good, 1), *((kind, changed_at(good, place, draw), place / count) for kind, place in places.items())]
 
 
 def main():
@@ -191,19 +282,21 @@ def main():
     parser.add_argument("--loads", nargs="*", default=list(LOADS))
     parser.add_argument("--lines", type=int, nargs="*", default=[1000, 10000])
     parser.add_argument("--refusals", action="store_true")
+    parser.add_argument("--instructions", action="store_true")
     parser.add_argument("seed", type=int, nargs="?", default=1)
     words = parser.parse_args()
+    measure, unit = (counted, "million instructions") if words.instructions else (timed, "s")
     for load in words.loads:
         for count in words.lines:
             draw = random.Random(f"{words.seed} {load} {count}")
-            good = lines_of(load, count, draw)
-            kinds = {"good": good, "beginning": changed_at(good, count // 10, draw), "middle": changed_at(good, count // 2, draw),
-                     "end": changed_at(good, count - 1, draw)}
-            for kind, history in refusals(good) if words.refusals else kinds.items():
-                with tempfile.NamedTemporaryFile("w", encoding="ascii", newline="\n", suffix=".history") as file:
-                    file.write("".join(f"{line}\n" for line in history))
-                    file.flush()
-                    print(f"{load:9} {count:8} {kind:{32 if words.refusals else 10}} {timed([words.find, file.name], words.seconds)}", flush=True)
+            good, certificate = texts_of(load, count, draw)
+            with tempfile.TemporaryDirectory() as folder:
+                texts = [written(folder, "history", good), written(folder, "certificate", certificate)]
+                _, check = measure([words.check, *texts], words.seconds)
+                for kind, history, share in kinds_of(good, draw, words.refusals):
+                    answer, spent = measure([words.find, written(folder, "searched", history)], words.seconds)
+                    print(f"{load:9} {count:8} {kind:{32 if words.refusals else 10}} {spent:9.2f} {unit}, "
+                          f"{spent / check / share:5.1f} checks: {answer}", flush=True)
 
 
 if __name__ == "__main__":

@@ -15,6 +15,7 @@ pub mod Only
 pub mod Settled
 pub mod Judged
 pub mod Naming
+pub mod Shown
 pub mod Next
 pub mod MayPass
 pub mod Going

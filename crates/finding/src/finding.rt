@@ -4,8 +4,7 @@ ghost use Rattle.std.specs.Prelude.{IfOk, IfSome};
 ghost use Rattle.finding.specs.Found.{HasNoneUpTo, IsDecided, IsFound, IsFoundWatched};
 
 use crate::forward::Bounds;
-use crate::guessed::guessed;
-use crate::judging::Judged;
+use crate::guessed::{Shown, guessed};
 use crate::naming::{Beginning, beginning_up_to, named_before, named_place};
 use crate::offers::Offers;
 use crate::slices::{Sliced, look_at_slices};
@@ -59,8 +58,9 @@ pub fn find_watched<W: Watch>(
     let mut suspected = None;
     if limit > 0 && watch.goes_on(FIRST) {
         match guessed(alloc, &mut offers, history, limit, watch)? {
-            Judged::Linearization(order) => return Ok(Found::Order(order)),
-            Judged::Fails(failing) => suspected = failing,
+            Shown::Linearization(order) => return Ok(Found::Order(order)),
+            Shown::Lost(place) => return Ok(none_up_to(history, place)),
+            Shown::Fails(failing) => suspected = failing,
         }
     }
     if let Some(first) = suspected {

@@ -17,7 +17,7 @@ use crate::watch::{Advance, Watch};
 use certificate::Certificate;
 use guessing::{Arranged, Tries, arranged};
 use history::History;
-use registers::lost_register;
+use registers::{Asked, lost_register};
 use std::alloc::{AllocError, Global};
 use std::cmp::{max, min};
 
@@ -92,7 +92,7 @@ fn answer_soon<W: Watch>(
     if offers.count() >= bounds.limit || !watch.goes_on(FIRST) {
         return Ok(Answer::Open);
     }
-    let lost = lost_register(alloc, history, &mut 0)?;
+    let lost = lost_register(alloc, history, Asked::All, &mut 0)?;
     if let Some(place) = lost {
         return Ok(Answer::Lost(place));
     }
@@ -111,7 +111,7 @@ fn answer_of_registers(
     let _fact = history.well_formed();
     let first = min(MOST_SPARE, readings_left(offers, bounds)) as usize;
     let mut spare = first;
-    let lost = lost_register(alloc, history, &mut spare)?;
+    let lost = lost_register(alloc, history, Asked::All, &mut spare)?;
     offers.add(first.saturating_sub(spare) as u64);
     match lost {
         Some(place) => Ok(Answer::Lost(place)),
@@ -250,10 +250,10 @@ pub(crate) fn arranged_lines<T: Tries>(
     tries: &mut T,
 ) -> Result<Lines, AllocError> {
     let steps = trail.up_to(alloc, order.last)?;
-    let Arranged { cpus, reads_all } = arranged(alloc, history, steps.placed.as_slice(), tries)?;
+    let Arranged { cpus, unread } = arranged(alloc, history, steps.placed.as_slice(), tries)?;
     let certificate = certificate_of(alloc, history, cpus.as_slice(), steps.claims.as_slice())?;
     Ok(Lines {
         certificate,
-        reads_all,
+        reads_all: unread.is_none(),
     })
 }

@@ -33,7 +33,7 @@ impl<'h> FirstParts<'h> {
         let mut read = Vec::new(alloc);
         for register in &draft.registers.all {
             let found = order_found(alloc, history, register, tries)?;
-            read.push(found.reads_all)?;
+            read.push(found.unread.is_none())?;
         }
         Ok(FirstParts {
             history,
@@ -87,7 +87,10 @@ impl<'h> FirstParts<'h> {
             };
             let read = match known {
                 Some(read) => read,
-                None => order_found(alloc, self.history, register, tries)?.reads_all,
+                None => {
+                    let found = order_found(alloc, self.history, register, tries)?;
+                    found.unread.is_none()
+                }
             };
             if !read {
                 return Ok(false);

@@ -2,6 +2,7 @@
 
 use crate::draft::Draft;
 use crate::order::{Arranged, with_uses};
+use crate::registers::Unread;
 use crate::steps::others;
 use crate::tries::Tries;
 use history::History;
@@ -14,8 +15,8 @@ pub struct GuessedOrder {
     pub cpus: Vec<u8>,
     /// The place of that return.
     pub unexplained: Option<u32>,
-    /// Whether each of its calls on measurements reads what it read.
-    pub reads_all: bool,
+    /// The first reading of a measurement, if any, that gave another value than in the order.
+    pub unread: Option<Unread>,
 }
 
 /// The calls that are put in, event by event, up to the first return that isn't explained.
@@ -37,11 +38,11 @@ pub fn guess<T: Tries>(
     } = drafted(alloc, history, history.len())?;
     draft.add_unreturned(history)?;
     let placed = others(alloc, draft.steps.as_slice())?;
-    let Arranged { cpus, reads_all } = with_uses(alloc, history, placed, &draft.registers, tries)?;
+    let Arranged { cpus, unread } = with_uses(alloc, history, placed, &draft.registers, tries)?;
     Ok(GuessedOrder {
         cpus,
         unexplained,
-        reads_all,
+        unread,
     })
 }
 

@@ -6,6 +6,7 @@
 #![tactic(auto)]
 
 mod arrangement;
+mod beginnings;
 mod calls;
 mod draft;
 mod first_parts;
@@ -26,4 +27,5 @@ pub use calls::shares_word;
 pub use first_parts::FirstParts;
 pub use guessed::{GuessedOrder, guess};
 pub use order::{Arranged, Placed};
+pub use registers::Unread;
 pub use tries::Tries;

@@ -3,10 +3,27 @@
 use crate::registers::Use;
 use std::cmp::{max, min};
 
-/// How many bits odds have at most.
-const MOST_BITS: u32 = 63;
+/// How many bits of a logarithm stand after the point.
+const PART_BITS: u32 = 8;
 
-/// How long a call was open: from one event to another.
+/// The odds against what can't be.
+const IMPOSSIBLE: u32 = 64 << PART_BITS;
+
+/// How unlikely some calls come first, in this order. The likelier of two is the less.
+#[derive(Clone, Copy, PartialEq, Eq, PartialOrd, Ord)]
+pub(crate) struct Odds {
+    /// The logarithm of the odds against it, in parts of a bit.
+    pub(crate) against: u32,
+    /// The event about when the last of them came, if so.
+    pub(crate) at: usize,
+}
+
+impl Odds {
+    /// No call came.
+    pub(crate) const NONE: Odds = Odds { against: 0, at: 0 };
+}
+
+/// When a call may have come: from one event to another.
 #[derive(Clone, Copy)]
 pub(crate) struct Open {
     from: usize,
@@ -14,17 +31,24 @@ pub(crate) struct Open {
 }
 
 impl Open {
-    /// The call was open until it returned, or until the history's end.
-    pub(crate) fn of(used: &Use, end: usize) -> Open {
+    /// From when the call was made, but from the given event at the earliest, until it returned, or until the history's end.
+    pub(crate) fn of(used: &Use, since: usize, end: usize) -> Open {
         Open {
-            from: used.called,
+            from: max(used.called, since),
             to: min(used.returned, end),
         }
     }
 
-    /// Twice the middle of that time.
-    pub(crate) fn middle(&self) -> usize {
-        self.from.saturating_add(self.to)
+    /// About when it came, where it was the first of so many that may have come up to the bound.
+    pub(crate) fn first_of(&self, count: usize, bound: usize) -> usize {
+        let time = min(self.to, bound).saturating_sub(self.from);
+        let share = time.checked_div(count.saturating_add(1)).unwrap_or(0);
+        self.from.saturating_add(share)
+    }
+
+    /// Whether it may have come before the event.
+    pub(crate) fn is_before(&self, event: usize) -> bool {
+        self.from < event
     }
 
     fn length(&self) -> u64 {
@@ -32,8 +56,11 @@ impl Open {
     }
 }
 
-/// How many bits the odds have against one call's coming before another, where each may come at any moment at which it was open.
-pub(crate) fn bits_against(one: Open, other: Open) -> u32 {
+/// The logarithm of the odds against one call's coming before another, where each came at any moment at which it may have, in parts of a bit.
+pub(crate) fn odds_against(one: Open, other: Open) -> u32 {
+    if one.to <= other.from {
+        return 0;
+    }
     let both = Open {
         from: max(one.from, other.from),
         to: min(one.to, other.to),
@@ -45,11 +72,22 @@ pub(crate) fn bits_against(one: Open, other: Open) -> u32 {
         both.length(),
         twice(after).saturating_add(both.length()),
     ));
-    let all = product(twice(one.length()), other.length());
-    match all.saturating_sub(first).checked_div(first) {
-        Some(odds) => 63u32.saturating_sub(odds.leading_zeros()),
-        None => MOST_BITS,
+    if first == 0 {
+        return IMPOSSIBLE;
     }
+    let all = product(twice(one.length()), other.length());
+    logarithm(all).saturating_sub(logarithm(first))
+}
+
+// The logarithm to the base 2, in parts of a bit: exact at powers of 2, and on a straight line between two of them.
+fn logarithm(number: u64) -> u32 {
+    let zeros = number.leading_zeros();
+    if zeros >= 64 {
+        return 0;
+    }
+    let whole = 63u32.saturating_sub(zeros);
+    let part = ((number << zeros) >> (63 - PART_BITS)) & 0xff;
+    (whole << PART_BITS).saturating_add(part as u32)
 }
 
 fn twice(length: u64) -> u64 {

@@ -1,6 +1,6 @@
 //! One order of all calls that were put in.
 
-use crate::registers::{NEVER, Registers, Use};
+use crate::registers::{NEVER, Registers, Unread, Use};
 use crate::solving::order_found;
 use crate::tries::Tries;
 use history::History;
@@ -19,8 +19,8 @@ pub struct Placed {
 pub struct Arranged {
     /// The CPUs of its calls, one after another.
     pub cpus: Vec<u8>,
-    /// Whether each of the calls on measurements reads what it read.
-    pub reads_all: bool,
+    /// The first reading of a measurement, if any, that gave another value than in the order.
+    pub unread: Option<Unread>,
 }
 
 /// The order of the other calls, in which the calls on measurements are put in.
@@ -33,13 +33,13 @@ pub(crate) fn with_uses<T: Tries>(
 ) -> Result<Arranged, AllocError> {
     let mut placed = others;
     let count = placed.len();
-    let mut reads_all = true;
+    let mut unread = None;
     for register in &registers.all {
         if register.uses.is_empty() {
             continue;
         }
         let found = order_found(alloc, history, register, tries)?;
-        reads_all = reads_all && found.reads_all;
+        unread = earlier(unread, found.unread);
         place_uses(
             alloc,
             &mut placed,
@@ -52,7 +52,16 @@ pub(crate) fn with_uses<T: Tries>(
     } else {
         cpus_of(alloc, placed.as_slice())?
     };
-    Ok(Arranged { cpus, reads_all })
+    Ok(Arranged { cpus, unread })
+}
+
+// The earlier of two readings, by their returns, where there are two.
+fn earlier(one: Option<Unread>, other: Option<Unread>) -> Option<Unread> {
+    match (one, other) {
+        (Some(first), Some(second)) if second.place < first.place => Some(second),
+        (None, other) => other,
+        (one, _) => one,
+    }
 }
 
 // The CPUs of the calls as they stand.

@@ -24,11 +24,35 @@ pub(crate) struct Use {
     pub(crate) extends: bool,
 }
 
+/// A reading of a measurement that gave another value than those which were found.
+#[derive(Clone, Copy)]
+pub struct Unread {
+    /// The address of the realm's descriptor.
+    pub rd: u64,
+    /// Which of its extensible measurements it is, counted from 0.
+    pub number: usize,
+    /// The place of its return.
+    pub place: u32,
+}
+
 /// A measurement of one realm, with the calls that read and extend it, in the order of their returns.
 #[derive(Drop)]
 pub(crate) struct Register {
+    pub(crate) rd: u64,
+    pub(crate) number: usize,
     pub(crate) start: Rem,
     pub(crate) uses: Vec<Use>,
+}
+
+impl Register {
+    /// A reading of it that gave another value.
+    pub(crate) fn unread(&self, used: &Use) -> Unread {
+        Unread {
+            rd: self.rd,
+            number: self.number,
+            place: u32::try_from(used.returned).unwrap_or(u32::MAX),
+        }
+    }
 }
 
 /// The measurements of all realms that were made, four of each in a row.
@@ -66,8 +90,10 @@ impl Registers {
     /// A realm is made at the address.
     pub(crate) fn make_realm(&mut self, rd: u64, algo: u64) -> Result<(), AllocError> {
         let first = self.all.len();
-        for _ in 0..REMS {
+        for number in 0..REMS {
             self.all.push(Register {
+                rd,
+                number,
                 start: Rem::start(algo),
                 uses: Vec::new(self.alloc),
             })?;
@@ -155,6 +181,8 @@ fn copied(alloc: Global, registers: &[Register]) -> Result<Vec<Register>, AllocE
     let mut copies = Vec::with_capacity(alloc, registers.len())?;
     for register in registers {
         copies.push(Register {
+            rd: register.rd,
+            number: register.number,
             start: register.start,
             uses: register.uses.to_vec(alloc)?,
         })?;

@@ -1,8 +1,9 @@
 //! The order of the calls that read and extend one measurement.
 
+use crate::beginnings::{Beginning, Beginnings};
 use crate::calls::{CPUS, command_at, reply_at};
-use crate::lanes::{Candidate, Lanes};
-use crate::registers::{NEVER, Register, Use};
+use crate::lanes::{Heads, Lanes, first_return};
+use crate::registers::{NEVER, Register, Unread, Use};
 use crate::tries::Tries;
 use byteorder::{ByteOrder, LittleEndian};
 use history::History;
@@ -11,46 +12,29 @@ use rmi_view::ReplyRef;
 use rmm_spec::Measurement;
 use std::alloc::{AllocError, Global};
 
-/// How many calls are put in for each call, beside those that are granted.
-const TRIED_A_CALL: usize = 16;
-
-/// How many bits the odds may have at most against an order of the extensions between two readings, and how many more each time.
-const MOST_BITS: u32 = 256;
-
-const MORE_BITS: u32 = 4;
+/// How many extensions are tried for each call, beside those that are granted.
+const TRIED_A_CALL: usize = 8;
 
 /// An order of a measurement's calls, by their places among these.
 #[derive(Drop)]
 pub(crate) struct Solved {
     pub(crate) order: Vec<usize>,
-    /// Whether each reads what it read.
-    pub(crate) reads_all: bool,
+    /// The first reading, if any, that gave another value.
+    pub(crate) unread: Option<Unread>,
 }
 
-/// An extension that was put in since the last reading, with what is left to try in its place.
-#[derive(Clone, Copy)]
-struct Step {
-    cpu: usize,
-    place: usize,
-    // which of the extensions that could come next it is
-    choice: usize,
-    before: Rem,
-    bits: u32,
-}
-
-/// An order of a measurement's first calls, and the measurement after them. What is read tells which extensions came before, so none of
+/// An order of a measurement's first calls, and what may come after them. What is read tells which extensions came before, so none of
 /// those before a reading is taken out.
 #[derive(Drop)]
-struct Solver {
-    lanes: Lanes,
+struct Solver<'s> {
+    history: &'s History,
+    uses: &'s [Use],
+    lanes: Lanes<'s>,
     settled: Vec<usize>,
-    steps: Vec<Step>,
-    value: Rem,
-    // which extension is tried next
-    choice: usize,
-    // how many bits the odds have against the extensions since the last reading, and may have
-    bits: u32,
-    limit: u32,
+    // how many calls of each CPU are settled, and how many readings aren't
+    counts: [usize; CPUS],
+    unread: usize,
+    beginnings: Beginnings,
 }
 
 /// An order of the measurement's calls: one in which each reads what it read, where that is found with the tries that are granted, likely orders
@@ -63,128 +47,103 @@ pub(crate) fn order_found<T: Tries>(
 ) -> Result<Solved, AllocError> {
     let uses = register.uses.as_slice();
     let mut solver = Solver {
+        history,
+        uses,
         lanes: Lanes::of(alloc, uses, history.len())?,
         settled: Vec::with_capacity(alloc, uses.len())?,
-        steps: Vec::new(alloc),
-        value: register.start,
-        choice: 0,
-        bits: 0,
-        limit: 0,
+        counts: [0; CPUS],
+        unread: uses.iter().filter(|used| !used.extends).count(),
+        beginnings: Beginnings::new(alloc),
     };
+    solver.take(Beginning::empty([0; CPUS], register.start))?;
     let mut left = uses.len().saturating_mul(TRIED_A_CALL);
     for _ in 0..usize::MAX {
-        let bound = solver.lanes.first_return(uses);
-        if bound == NEVER {
+        if solver.unread == 0 {
             break;
         }
         if left == 0 {
             left = tries.more();
         }
-        if left == 0 || !solver.step(history, uses, bound)? {
+        if left == 0 || !solver.step()? {
             break;
         }
         left = left.saturating_sub(1);
     }
-    solver.order(uses)
+    solver.order(register)
 }
 
-impl Solver {
-    // The calls that were put in, in their order, and then those that are left and return.
-    fn order(mut self, uses: &[Use]) -> Result<Solved, AllocError> {
-        self.settle()?;
-        let reads_all = self.lanes.first_return(uses) == NEVER;
-        let mut passed = self.lanes.counts;
-        for (place, used) in uses.iter().enumerate() {
+impl Solver<'_> {
+    // The settled calls, and then those that are left and return.
+    fn order(self, register: &Register) -> Result<Solved, AllocError> {
+        let mut order = self.settled;
+        let mut passed = self.counts;
+        let mut unread = None;
+        for (place, used) in self.uses.iter().enumerate() {
             if takes_one(&mut passed, usize::from(used.cpu)) || used.returned == NEVER {
                 continue;
             }
-            self.settled.push(place)?;
+            order.push(place)?;
+            if unread.is_none() && !used.extends {
+                unread = Some(register.unread(used));
+            }
         }
-        Ok(Solved {
-            order: self.settled,
-            reads_all,
-        })
+        Ok(Solved { order, unread })
     }
 
-    // Puts in one call that was made by the bound, or takes one out. Whether there is more to try.
-    fn step(&mut self, history: &History, uses: &[Use], bound: usize) -> Result<bool, AllocError> {
-        if let Some(cpu) = self.reading(history, uses, bound) {
-            self.settle()?;
-            if let Some(place) = self.lanes.take(cpu) {
-                self.settled.push(place)?;
-            }
+    // Tries the likeliest beginning that wasn't tried. Whether there was one.
+    fn step(&mut self) -> Result<bool, AllocError> {
+        let Some(longer) = self.beginnings.next() else {
+            return Ok(false);
+        };
+        let Beginning { counts, value, .. } = &longer.beginning;
+        let Some(place) = self.lanes.next(counts, longer.cpu) else {
             return Ok(true);
-        }
-        let most = self.limit.saturating_sub(self.bits);
-        match self.lanes.candidate(uses, bound, self.choice, most) {
-            Some(candidate) => {
-                self.extend(history, uses, candidate)?;
-                Ok(true)
-            }
-            None => Ok(self.take_back()),
-        }
+        };
+        let value = extended(value, self.history, self.uses.get(place));
+        self.take(longer.with(place, value))?;
+        Ok(true)
     }
 
-    // Leaves the extensions since the last reading where they are.
-    fn settle(&mut self) -> Result<(), AllocError> {
-        for step in &self.steps {
-            self.settled.push(step.place)?;
+    // Takes a beginning: settles it where a reading fits, and else adds what may come after it.
+    fn take(&mut self, beginning: Beginning) -> Result<(), AllocError> {
+        let mut beginning = beginning;
+        for _ in 0..=self.unread {
+            let heads = self.lanes.heads(&beginning.counts);
+            let Some(cpu) = self.reading(&beginning.value, &heads) else {
+                return self.beginnings.add(beginning, &heads, &self.lanes);
+            };
+            beginning = self.settle(&beginning, cpu)?;
         }
-        self.steps.clear();
-        self.choice = 0;
-        self.bits = 0;
-        self.limit = 0;
         Ok(())
     }
 
     // The CPU of a reading that fits.
-    fn reading(&self, history: &History, uses: &[Use], bound: usize) -> Option<usize> {
-        for cpu in 0..CPUS {
-            let Some(used) = self.lanes.next_by(uses, cpu, bound) else {
-                continue;
-            };
-            if !used.extends && is_read(&self.value, history, used) {
-                return Some(cpu);
+    fn reading(&self, value: &Rem, heads: &Heads) -> Option<usize> {
+        let bound = first_return(heads);
+        for (cpu, head) in heads.iter().enumerate() {
+            if let Some(used) = head {
+                if !used.extends && used.called <= bound && is_read(value, self.history, used) {
+                    return Some(cpu);
+                }
             }
         }
         None
     }
 
-    fn extend(
-        &mut self,
-        history: &History,
-        uses: &[Use],
-        candidate: Candidate,
-    ) -> Result<(), AllocError> {
-        let Candidate { cpu, choice, bits } = candidate;
-        let Some(place) = self.lanes.take(cpu) else {
-            return Ok(());
-        };
-        self.steps.push(Step {
-            cpu,
-            place,
-            choice,
-            before: self.value,
-            bits: self.bits,
-        })?;
-        self.value = extended(&self.value, history, uses.get(place));
-        self.bits = self.bits.saturating_add(bits);
-        self.choice = 0;
-        Ok(())
-    }
-
-    // Takes the last extension out, in whose place the next one is tried. Where there is none, less likely orders may be tried.
-    fn take_back(&mut self) -> bool {
-        let Some(step) = self.steps.pop() else {
-            self.limit = self.limit.saturating_add(MORE_BITS);
-            self.choice = 0;
-            return self.limit <= MOST_BITS;
-        };
-        self.lanes.put_back(step.cpu);
-        self.value = step.before;
-        self.bits = step.bits;
-        self.choice = step.choice.saturating_add(1);
-        true
+    // Leaves the extensions of the beginning, and the CPU's reading, where they are.
+    fn settle(&mut self, beginning: &Beginning, cpu: usize) -> Result<Beginning, AllocError> {
+        self.beginnings.append_places(beginning, &mut self.settled)?;
+        let mut counts = beginning.counts;
+        if let Some(place) = self.lanes.next(&counts, cpu) {
+            self.settled.push(place)?;
+        }
+        if let Some(count) = counts.get_mut(cpu) {
+            *count = count.saturating_add(1);
+        }
+        self.beginnings.clear();
+        self.counts = counts;
+        self.unread = self.unread.saturating_sub(1);
+        Ok(Beginning::empty(counts, beginning.value))
     }
 }
 

@@ -1,5 +1,5 @@
 -- What is known of registers, event by event.
-use Rattle.std.proofs.Common.{◌≡◌, ℕ, ◌+◌, ◌==◌, true, false, List, [], Option, None, Some, inl, inr, refl, sym, ◌∙◌, ap, subst, arith}
+use Rattle.std.proofs.Common.{◌≡◌, ◌⊎◌, ℕ, ◌+◌, ◌==◌, true, false, List, [], Option, None, Some, inl, inr, refl, sym, ◌∙◌, ap, subst, arith}
 use Rattle.std.proofs.lemmas.Bool.{cases_lt}
 use Rattle.rmm_spec.specs.declared.call.Call.{Call}
 use Rattle.rmm_spec.specs.declared.call.Call.TheVariants as call
@@ -34,11 +34,17 @@ is_register : (slot : ℕ) → IsRegister (register_at slot)
 is_register slot = (omega arith, omega arith)
 
 -- before the first event
-pub IsSlot-first : (history : History) (owners : List (Option ℕ)) (k : ℕ) (slot : Slot) → slot ≡ AtFirst → IsSlot history owners 0 k slot
-IsSlot-first history owners k slot is = subst (λ (s : Slot). IsSlot history owners 0 k s) (sym is) (record {
-  mine = λ called cpu number command rd rec mpidr flags aux0 aux1 is_called before. absurd (omega (arith, before));
-  parts = HaveParts-first history (register_at k) (mine_at owners k);
-})
+pub IsSlot-first : (history : History) (owners : List (Option ℕ)) (k : ℕ) (slot : Slot) → (slot ≡ AtFirst) ⊎ (slot ≡ Dropped)
+    → IsSlot history owners 0 k slot
+IsSlot-first history owners k slot is =
+    let P : Slot → Type 0 = λ s. IsSlot history owners 0 k s in
+    elim is [
+      | inl at_first ↦ subst P (sym at_first) (record {
+        mine = λ called cpu number command rd rec mpidr flags aux0 aux1 is_called before. absurd (omega (arith, before));
+        parts = HaveParts-first history (register_at k) (mine_at owners k);
+      })
+      | inr dropped ↦ subst P (sym dropped) tt
+    ]
 
 module _ (history : History) (is_history : IsHistory history) (owners : List (Option ℕ)) where
   -- at the place a REC that is asked for is known, if one is

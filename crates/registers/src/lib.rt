@@ -24,3 +24,4 @@ mod slots;
 
 pub use history::History;
 pub use scan::lost_register;
+pub use slots::Asked;

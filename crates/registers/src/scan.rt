@@ -12,7 +12,7 @@ use crate::cpus::{Cpu, first_cpus, pass_return, return_at};
 use crate::owners::{first_owners, owner_in};
 use crate::returns::return_to;
 use crate::setting::Setting;
-use crate::slots::{REGISTERS, Slot, drop_realm, first_slots};
+use crate::slots::{Asked, REGISTERS, Slot, drop_realm, first_slots};
 use history::History;
 use rmi_view::ReplyRef;
 use rmm_spec::{Call, FunctionId};
@@ -38,11 +38,12 @@ pub(crate) enum Step {
     Unknown,
 }
 
-/// The place of a return that no order of the calls of some register survives, where one is found. At a return 512 possibilities of a register
-/// are kept, and as many more as are to spare for all registers, of which those that were needed are taken.
+/// The place of a return that no order of the calls of some register survives, of those that are asked, where one is found. At a return 512
+/// possibilities of a register are kept, and as many more as are to spare for all registers, of which those that were needed are taken.
 pub fn lost_register(
     alloc: Global,
     history: &History,
+    asked: Asked,
     spare: &mut usize,
 ) -> Result<Option<u32>, AllocError>
     ensures { IfOk result (λ lost. IfSome lost (λ _. LeadsNowhere history.now.recorded [])) }
@@ -58,7 +59,7 @@ pub fn lost_register(
         history,
         owners: owners.as_slice(),
     };
-    let mut scan = first_scan(&setting, granules as usize * REGISTERS)?;
+    let mut scan = first_scan(&setting, granules as usize * REGISTERS, asked)?;
     'places: for place in 0..history.len() as u32 {
         match read_event(&setting, &mut scan, spare, place)? {
             Step::On => {}
@@ -70,11 +71,11 @@ pub fn lost_register(
 }
 
 /// What is known before the first event.
-fn first_scan(setting: &Setting<'_>, count: usize) -> Result<Scan, AllocError>
+fn first_scan(setting: &Setting<'_>, count: usize, asked: Asked) -> Result<Scan, AllocError>
     ensures { IfOk result (IsScan setting.now.history.now.recorded setting.now.owners.now 0) }
 {
     let cpus = first_cpus(setting.history);
-    let slots = first_slots(setting.alloc, count)?;
+    let slots = first_slots(setting.alloc, count, asked)?;
     Ok(Scan { cpus, slots })
 }
 

@@ -23,15 +23,49 @@ pub(crate) enum Slot {
     Dropped,
 }
 
-/// So many slots of registers that no call did anything to.
-pub(crate) fn first_slots(alloc: Global, count: usize) -> Result<Vec<Slot>, AllocError>
-    ensures { IfOk result (λ slots. (k : ℕ) (slot : Slot) → slice_get slots.items k ≡ Some slot → slot ≡ AtFirst) }
+/// Which registers are asked.
+#[derive(Clone, Copy)]
+pub enum Asked {
+    /// Each of every realm.
+    All,
+    /// The one of the number, counted from 0, of the realms that are made at the address.
+    One { rd: u64, number: usize },
+}
+
+impl Asked {
+    /// Whether the register of the slot is asked.
+    fn has(&self, slot: usize) -> bool {
+        match self {
+            Asked::All => true,
+            Asked::One { rd, number } => { *number < REGISTERS && slot == first_of(*rd) + *number }
+        }
+    }
+}
+
+/// So many slots, of those registers that are asked, to which no call did anything.
+pub(crate) fn first_slots(
+    alloc: Global,
+    count: usize,
+    asked: Asked,
+) -> Result<Vec<Slot>, AllocError>
+    ensures { IfOk result (λ slots. (k : ℕ) (slot : Slot) → slice_get slots.items k ≡ Some slot → (slot ≡ AtFirst) ⊎ (slot ≡ Dropped)) }
 {
     let mut slots = Vec::new(alloc);
-    for _slot in 0..count {
-        slots.push(Slot::AtFirst)?;
+    for slot in 0..count {
+        slots.push(first_slot(asked.has(slot)))?;
     }
     Ok(slots)
+}
+
+/// What is known of a register before the first event.
+fn first_slot(is_asked: bool) -> Slot
+    ensures { (result ≡ AtFirst) ⊎ (result ≡ Dropped) }
+{
+    if is_asked {
+        Slot::AtFirst
+    } else {
+        Slot::Dropped
+    }
 }
 
 /// The first slot of a realm.
