@@ -6,9 +6,10 @@ usage: others.py [--find PATH] [--check PATH] [--seconds S] [--loads LOAD ..] [-
 Eight CPUs call all the time, on 4,096 granules. Under `few` they delegate and undelegate four granules. Under `late` they do so with all,
 and each return may be delayed by up to 64 events. Under `recs` one realm has a REC on each CPU, and these extend and read the same
 four registers; under `recs-2` and `recs-4` so many realms share the CPUs. Under `parallel` all give pages to one new realm and set its
-RIPAS; under `stretches` its RECs ask for other RIPAS, which is set in parts while pages come and go. A reply is changed at the beginning,
-in the middle or at the end; it may be right in another order. What was found is printed after the seconds that it took, and how many checks
-that is of the good history's lines up to the change.
+RIPAS; under `stretches` its RECs ask for other RIPAS, which is set in parts while pages come and go, under `stretches-late` each return may
+be delayed too, and under `narrow` all this is in sixteen pages. A reply is changed at the beginning, in the middle or at the end; it may
+be right in another order. What was found is printed after the seconds that it took, and how many checks that is of the good history's
+lines up to the change.
 The loads of generate.py can be named too. With `--refusals`, of each function a call late in the history that was carried out is refused
 instead, once with each status; 200 events follow it. `--instructions` counts instructions in place of seconds, with valgrind.
 """
@@ -30,7 +31,7 @@ sys.path.append(os.path.join(HERE, "../tests"))
 from compare import changed_reply
 from functions import (DATA_CREATE, DATA_CREATE_UNKNOWN, DATA_DESTROY, EXIT, GRANULE_DELEGATE, GRANULE_UNDELEGATE, IPA_STATE_GET,
                        IPA_STATE_SET, MEASUREMENT_EXTEND, MEASUREMENT_READ, NAMES, REALM_ACTIVATE, REALM_CREATE, REC_CREATE, REC_ENTER,
-                       RTT_CREATE, RTT_INIT_RIPAS, RTT_SET_RIPAS)
+                       RTT_CREATE, RTT_INIT_RIPAS, RTT_READ_ENTRY, RTT_SET_RIPAS)
 from generate import run
 from lives import CPUS, GRANULES
 from loads import LOADS as DRAWN
@@ -143,6 +144,7 @@ class Stretches(Recs):
     """RECs of one realm that ask for memory, which is given in parts, while pages are mapped there and taken back."""
 
     pages = [granule * PAGE_BYTES for granule in range(64, 128)]
+    width, longest, looks = ENTRIES - 64, 64, 0.5
 
     def beginning(self):
         yield from ((GRANULE_DELEGATE, [page]) for page in self.pages)
@@ -151,20 +153,35 @@ class Stretches(Recs):
     def command(self, cpu):
         address = self.granules_of(cpu)[0]
         rec, request = self.machine.running.get(cpu), self.machine.recs[address].request
-        ipa = self.draw.randrange(ENTRIES - 64) * PAGE_BYTES
+        ipa = self.draw.randrange(self.width) * PAGE_BYTES
         if rec:
-            top = ipa + self.draw.randint(1, 64) * PAGE_BYTES
-            asked = self.draw.choice([(IPA_STATE_GET, [ipa]), (IPA_STATE_SET, [ipa, top, self.draw.randrange(2)])])
-            return (EXIT, []) if rec.pending else asked
+            return (EXIT, []) if rec.pending else self.asked(ipa)
         if request and request.base < request.top and self.draw.random() < 0.7:
             top = self.draw.randrange(request.base, request.top, PAGE_BYTES) + PAGE_BYTES
             return RTT_SET_RIPAS, [self.rd, address, request.base, top]
-        mapped = DATA_CREATE_UNKNOWN, [self.rd, self.draw.choice(self.pages), ipa]
-        return self.draw.choice([(REC_ENTER, [address]), mapped, (DATA_DESTROY, [self.rd, ipa])])
+        return self.draw.choice([(REC_ENTER, [address]), *self.host_calls(ipa)])
+
+    def asked(self, ipa):
+        if self.draw.random() < self.looks:
+            return IPA_STATE_GET, [ipa]
+        return IPA_STATE_SET, [ipa, ipa + self.draw.randint(1, self.longest) * PAGE_BYTES, self.draw.randrange(2)]
+
+    def host_calls(self, ipa):
+        return [(DATA_CREATE_UNKNOWN, [self.rd, self.draw.choice(self.pages), ipa]), (DATA_DESTROY, [self.rd, ipa])]
+
+
+class Narrow(Stretches):
+    """The same in few pages, whose entries the host reads too."""
+
+    width, longest, looks = 16, 16, 0.6
+
+    def host_calls(self, ipa):
+        return [*super().host_calls(ipa), (RTT_READ_ENTRY, [self.rd, ipa, LAST_LEVEL])]
 
 
 LOADS = {"few": (Few, 1), "late": (Many, 64), "recs": (Recs, 1), "recs-2": (partial(SharedRecs, realms=2), 1),
-         "recs-4": (partial(SharedRecs, realms=4), 1), "parallel": (Parallel, 1), "stretches": (Stretches, 1)}
+         "recs-4": (partial(SharedRecs, realms=4), 1), "parallel": (Parallel, 1), "stretches": (Stretches, 1),
+         "stretches-late": (Stretches, 64), "narrow": (Narrow, 1)}
 
 
 def call_line(cpu, number, function, words):

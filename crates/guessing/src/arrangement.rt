@@ -122,17 +122,16 @@ impl Arrangement {
         let Some(returned) = places.returned else {
             return Ok(());
         };
-        let returned = returned as usize;
         self.measured.push(Measured {
             register,
             used: Use {
                 cpu,
-                called: places.called as usize,
+                called: places.called,
                 returned,
                 extends: matches!(command.function, FunctionId::MeasurementExtend),
             },
         })?;
-        if let Some(at) = self.by_return.get_mut(returned) {
+        if let Some(at) = self.by_return.get_mut(returned as usize) {
             *at = self.measured.len();
         }
         Ok(())
@@ -205,7 +204,7 @@ fn add_open_calls(
             continue;
         };
         if places.returned.is_none() {
-            registers.add_open(history, cpu as u8, places.called as usize)?;
+            registers.add_open(history, cpu as u8, places.called)?;
         }
     }
     Ok(())

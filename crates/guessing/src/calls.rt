@@ -33,6 +33,7 @@ impl OpenCall {
         Step {
             cpu: self.cpu,
             is_measured,
+            sets: None,
             called: self.called,
             returned: self.returned,
             at: u32::try_from(place).unwrap_or(u32::MAX),

@@ -1,9 +1,12 @@
 //! An order that is put together event by event.
 
 use crate::calls::{CPUS, OpenCall, command_at, is_look, is_never, never, reply_of, shares_word};
+use crate::checkpoints::Checkpoints;
 use crate::open_calls::OpenCalls;
+use crate::placing::Placing;
 use crate::registers::{Registers, Use};
-use crate::steps::{Checkpoint, Step, copied_checkpoint};
+use crate::ripas::{ripas_read, ripas_set};
+use crate::steps::Step;
 use history::{EventRef, History};
 use rmi_view::CommandRef;
 use spec_machine::Machine;
@@ -15,9 +18,9 @@ pub(crate) struct Draft {
     pub(crate) machine: Machine,
     pub(crate) open: OpenCalls,
     // where a CPU's call was made that doesn't return
-    unreturned: [Option<usize>; CPUS],
+    unreturned: [Option<u32>; CPUS],
     pub(crate) steps: Vec<Step>,
-    pub(crate) checkpoint: Option<Checkpoint>,
+    pub(crate) checkpoints: Checkpoints,
     pub(crate) registers: Registers,
     // what returns there or later counts as what doesn't return
     until: u32,
@@ -31,7 +34,7 @@ impl Draft {
             open: OpenCalls::none(),
             unreturned: [None; CPUS],
             steps: Vec::new(alloc),
-            checkpoint: None,
+            checkpoints: Checkpoints::none(alloc),
             registers: Registers::new(alloc),
             until,
         })
@@ -44,7 +47,7 @@ impl Draft {
             open: self.open,
             unreturned: self.unreturned,
             steps: self.steps.to_vec(alloc)?,
-            checkpoint: copied_checkpoint(&self.checkpoint)?,
+            checkpoints: self.checkpoints.copy()?,
             registers: self.registers.copy()?,
             until,
         })
@@ -88,7 +91,7 @@ impl Draft {
         let returned = match places.returned {
             Some(returned) if returned < self.until => returned,
             _ => {
-                self.note_unreturned(cpu, place);
+                self.note_unreturned(cpu, places.called);
                 never(cpu)
             }
         };
@@ -112,9 +115,9 @@ impl Draft {
     }
 
     // The CPU's call that was made at the place doesn't return.
-    fn note_unreturned(&mut self, cpu: u8, place: usize) {
+    fn note_unreturned(&mut self, cpu: u8, called: u32) {
         if let Some(unreturned) = self.unreturned.get_mut(usize::from(cpu)) {
-            *unreturned = Some(place);
+            *unreturned = Some(called);
         }
     }
 
@@ -135,8 +138,10 @@ impl Draft {
         cpu: usize,
         place: usize,
     ) -> Result<bool, AllocError> {
-        if self.open.waits(cpu) && !self.place_with_others(history, cpu, place)? {
-            if !self.place_earlier(alloc, history, cpu)? {
+        if self.open.waits(cpu) && !self.place_with_others(alloc, history, cpu, place)? {
+            if !self.place_earlier(alloc, history, cpu)?
+                && !self.place_reordered(alloc, history, cpu, place)?
+            {
                 return Ok(false);
             }
             self.place_looks(history, cpu, place)?;
@@ -156,8 +161,8 @@ impl Draft {
         };
         let used = Use {
             cpu: call.cpu,
-            called: call.called as usize,
-            returned: call.returned as usize,
+            called: call.called,
+            returned: call.returned,
             extends: call.extends,
         };
         self.registers.add(register, used)
@@ -166,6 +171,7 @@ impl Draft {
     // Puts in the CPU's call, after others that are open where it isn't given its reply without them.
     fn place_with_others(
         &mut self,
+        alloc: Global,
         history: &History,
         cpu: usize,
         place: usize,
@@ -174,15 +180,17 @@ impl Draft {
             self.place_looks(history, cpu, place)?;
             return Ok(true);
         }
-        for related in [true, false] {
-            if self.place_after(history, cpu, place, related)? {
-                return Ok(true);
-            }
+        if self.place_after(history, cpu, place, true)? {
+            return Ok(true);
         }
-        Ok(false)
+        if self.place_reordered(alloc, history, cpu, place)? {
+            self.place_looks(history, cpu, place)?;
+            return Ok(true);
+        }
+        self.place_after(history, cpu, place, false)
     }
 
-    // The same, after those that share a word with it, or that share none and return, the one that returns next first.
+    // The same, after those that are related, or that aren't and return, the one that returns next first.
     fn place_after(
         &mut self,
         history: &History,
@@ -190,20 +198,22 @@ impl Draft {
         place: usize,
         related: bool,
     ) -> Result<bool, AllocError> {
+        let Some(own) = self.placing(history, cpu) else {
+            return Ok(false);
+        };
         let mut last = place;
         for _other in 0..CPUS {
             let Some(call) = self.open.next_return(last) else {
                 return Ok(false);
             };
             last = call.returned as usize;
-            let other = usize::from(call.cpu);
-            if call.is_placed || self.are_related(history, cpu, other) != related {
+            if call.is_placed || self.is_related(history, &own, &call) != related {
                 continue;
             }
             if is_never(call.returned) && !related {
                 return Ok(false);
             }
-            if self.places_both(history, other, cpu, place)? {
+            if self.places_both(history, usize::from(call.cpu), cpu, place)? {
                 return Ok(true);
             }
         }
@@ -229,18 +239,21 @@ impl Draft {
         Ok(true)
     }
 
-    // Whether the CPUs' open calls share a word.
-    fn are_related(&self, history: &History, one: usize, other: usize) -> bool {
-        match (self.command(history, one), self.command(history, other)) {
-            (Some(one), Some(other)) => shares_word(one, other),
-            _ => false,
+    // Whether a call and another open one share a word. Where the call reads a RIPAS, whether the other sets that, or names the entry.
+    fn is_related(&self, history: &History, own: &Placing<'_>, other: &OpenCall) -> bool {
+        let Some(command) = command_at(history, other.called as usize) else {
+            return false;
+        };
+        let Some(read) = ripas_read(own.command, own.reply) else {
+            return shares_word(own.command, command);
+        };
+        let Some(reply) = reply_of(history, other.returned) else {
+            return false;
+        };
+        match ripas_set(&self.machine, command, reply) {
+            Some(set) => read.is_set_by(&set),
+            None => command.words.contains(&read.ipa),
         }
-    }
-
-    // The command of the CPU's open call.
-    fn command<'h>(&self, history: &'h History, cpu: usize) -> Option<CommandRef<'h>> {
-        let call = self.open.of(cpu)?;
-        command_at(history, call.called as usize)
     }
 
     // Puts in each open call that changes nothing and is given its reply now, after a CPU's call that may have changed something.

@@ -7,7 +7,7 @@ use std::alloc::{AllocError, Global};
 use std::cmp::min;
 
 /// How many calls of each CPU stand in an order.
-pub(crate) type Counts = [usize; CPUS];
+pub(crate) type Counts = [u32; CPUS];
 
 /// The first call of each CPU that doesn't stand in an order.
 pub(crate) type Heads = [Option<Use>; CPUS];
@@ -19,12 +19,12 @@ pub(crate) struct Lanes<'u> {
     // their places among the measurement's calls
     places: [Vec<usize>; CPUS],
     // how many events the history has
-    end: usize,
+    end: u32,
 }
 
 impl<'u> Lanes<'u> {
     /// The calls of a history that has so many events.
-    pub(crate) fn of(alloc: Global, uses: &'u [Use], end: usize) -> Result<Lanes<'u>, AllocError> {
+    pub(crate) fn of(alloc: Global, uses: &'u [Use], end: u32) -> Result<Lanes<'u>, AllocError> {
         let mut places = std::array::from_fn(|_cpu| Vec::new(alloc));
         for (place, used) in uses.iter().enumerate() {
             if let Some(lane) = places.get_mut(usize::from(used.cpu)) {
@@ -38,7 +38,7 @@ impl<'u> Lanes<'u> {
     pub(crate) fn next(&self, counts: &Counts, cpu: usize) -> Option<usize> {
         let count = counts.get(cpu)?;
         let lane = self.places.get(cpu)?;
-        lane.as_slice().get(*count).copied()
+        lane.as_slice().get(*count as usize).copied()
     }
 
     /// The CPUs' first calls that don't stand in the order.
@@ -63,7 +63,7 @@ impl<'u> Lanes<'u> {
         }
         let own = Open::of(used, before.at, self.end);
         let mut against = before.against;
-        let mut count = 0usize;
+        let mut count = 0u32;
         for (other, head) in heads.iter().enumerate() {
             let Some(head) = head else {
                 continue;
@@ -82,7 +82,7 @@ impl<'u> Lanes<'u> {
 }
 
 /// The first return of the calls.
-pub(crate) fn first_return(heads: &Heads) -> usize {
+pub(crate) fn first_return(heads: &Heads) -> u32 {
     let mut first = NEVER;
     for head in heads {
         if let Some(head) = head {

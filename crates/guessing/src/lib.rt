@@ -1,23 +1,29 @@
 //! Puts an order of a history's calls together, event by event, as a guess at a linearization.
 //! Nothing is promised of the order: whoever takes it has a machine give every reply once more.
 //! A call stands where it returns, or earlier: where it changes nothing, where another call needs it for its reply, or where it is given its own.
-//! Extensions of a measurement stand in an order that gives what was read of it, which is looked for by itself.
+//! Changes of a RIPAS, and extensions of a measurement, stand in an order that gives what was read; that of extensions is looked for by itself.
 //! The search for an order depends on it.
 #![tactic(auto)]
 
 mod arrangement;
 mod beginnings;
 mod calls;
+mod checkpoints;
 mod draft;
 mod first_parts;
 mod guessed;
 mod lanes;
 mod looking_back;
+mod moving;
 mod odds;
 mod open_calls;
 mod order;
 mod placing;
+mod precedence;
 mod registers;
+mod reordering;
+mod replay;
+mod ripas;
 mod solving;
 mod steps;
 mod tries;

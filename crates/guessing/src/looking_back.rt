@@ -2,7 +2,7 @@
 
 use crate::draft::Draft;
 use crate::placing::Placing;
-use crate::steps::{Checkpoint, last_taken, takes, takes_all};
+use crate::steps::{last_taken, takes, takes_all};
 use history::History;
 use spec_machine::Machine;
 use std::alloc::{AllocError, Global};
@@ -23,26 +23,14 @@ impl Draft {
         let Some(placing) = self.placing(history, cpu) else {
             return Ok(false);
         };
-        let start = match self.checkpoint.take() {
-            Some(checkpoint) => checkpoint,
-            None => Checkpoint {
-                steps: 0,
-                machine: Machine::new(alloc, history.config())?,
-            },
-        };
-        let first = max(start.steps, self.first_since(placing.call.called));
-        let mut machine = start.machine;
-        let Some(before) = self.steps.as_slice().get(start.steps..first) else {
+        let first = max(
+            self.checkpoints.last_steps(),
+            self.first_since(placing.call.called),
+        );
+        let Some(machine) = self.machine_after(alloc, history, first)? else {
             return Ok(false);
         };
-        if !takes_all(history, &mut machine, before)? {
-            return Ok(false);
-        }
         let copy = machine.copy()?;
-        self.checkpoint = Some(Checkpoint {
-            steps: first,
-            machine: machine.copy()?,
-        });
         self.place_since(history, machine, copy, first, placing)
     }
 
@@ -78,8 +66,8 @@ impl Draft {
         Ok(true)
     }
 
-    // After which of the steps those come that were put in since the place.
-    fn first_since(&self, place: u32) -> usize {
+    /// After which of the steps those come that were put in since the place.
+    pub(crate) fn first_since(&self, place: u32) -> usize {
         let mut first = self.steps.len();
         for _step in 0..MOST {
             match self.steps.as_slice().get(..first) {

@@ -15,7 +15,7 @@ pub(crate) struct Odds {
     /// The logarithm of the odds against it, in parts of a bit.
     pub(crate) against: u32,
     /// The event about when the last of them came, if so.
-    pub(crate) at: usize,
+    pub(crate) at: u32,
 }
 
 impl Odds {
@@ -26,13 +26,13 @@ impl Odds {
 /// When a call may have come: from one event to another.
 #[derive(Clone, Copy)]
 pub(crate) struct Open {
-    from: usize,
-    to: usize,
+    from: u32,
+    to: u32,
 }
 
 impl Open {
     /// From when the call was made, but from the given event at the earliest, until it returned, or until the history's end.
-    pub(crate) fn of(used: &Use, since: usize, end: usize) -> Open {
+    pub(crate) fn of(used: &Use, since: u32, end: u32) -> Open {
         Open {
             from: max(used.called, since),
             to: min(used.returned, end),
@@ -40,19 +40,19 @@ impl Open {
     }
 
     /// About when it came, where it was the first of so many that may have come up to the bound.
-    pub(crate) fn first_of(&self, count: usize, bound: usize) -> usize {
+    pub(crate) fn first_of(&self, count: u32, bound: u32) -> u32 {
         let time = min(self.to, bound).saturating_sub(self.from);
         let share = time.checked_div(count.saturating_add(1)).unwrap_or(0);
         self.from.saturating_add(share)
     }
 
     /// Whether it may have come before the event.
-    pub(crate) fn is_before(&self, event: usize) -> bool {
+    pub(crate) fn is_before(&self, event: u32) -> bool {
         self.from < event
     }
 
     fn length(&self) -> u64 {
-        self.to.saturating_sub(self.from) as u64
+        u64::from(self.to.saturating_sub(self.from))
     }
 }
 
@@ -65,8 +65,8 @@ pub(crate) fn odds_against(one: Open, other: Open) -> u32 {
         from: max(one.from, other.from),
         to: min(one.to, other.to),
     };
-    let before = both.from.saturating_sub(one.from) as u64;
-    let after = other.to.saturating_sub(both.to) as u64;
+    let before = u64::from(both.from.saturating_sub(one.from));
+    let after = u64::from(other.to.saturating_sub(both.to));
     // pairs of moments, each counted twice
     let first = product(twice(before), other.length()).saturating_add(product(
         both.length(),

@@ -100,7 +100,7 @@ fn first_returns(alloc: Global, uses: &[Use], order: &[usize]) -> Result<Vec<u32
         if let Some(used) = uses.get(order[at]) {
             first = min(first, used.returned);
         }
-        returns[at] = u32::try_from(first).unwrap_or(u32::MAX);
+        returns[at] = first;
     }
     Ok(returns)
 }

@@ -4,7 +4,8 @@ ghost use Rattle.std.specs.Prelude.{◌≤◌, length, IfSome};
 
 use crate::calls::{OpenCall, command_at, measured, reply_of};
 use crate::draft::Draft;
-use crate::steps::{gives, insert};
+use crate::ripas::ripas_set;
+use crate::steps::{Step, gives, insert};
 use command_rows::Sight;
 use history::History;
 use rmi_view::{CommandRef, ReplyRef};
@@ -15,8 +16,8 @@ use std::alloc::AllocError;
 #[derive(Clone, Copy)]
 pub(crate) struct Placing<'h> {
     pub(crate) call: OpenCall,
-    command: CommandRef<'h>,
-    reply: ReplyRef<'h>,
+    pub(crate) command: CommandRef<'h>,
+    pub(crate) reply: ReplyRef<'h>,
     register: Option<usize>,
 }
 
@@ -80,6 +81,14 @@ impl Draft {
         index: usize,
         place: usize,
     ) -> Result<(), AllocError> {
+        let sets = ripas_set(&self.machine, placing.command, placing.reply).map(|set| set.ripas);
+        let step = placing.call.step(placing.is_measured(), place);
+        insert(&mut self.steps, index, Step { sets, ..step })?;
+        self.note_placed(placing)
+    }
+
+    /// The same, where the order has the call already.
+    pub(crate) fn note_placed(&mut self, placing: &Placing<'_>) -> Result<(), AllocError> {
         let Placing {
             call,
             command,
@@ -92,7 +101,6 @@ impl Draft {
             extends: matches!(command.function, FunctionId::MeasurementExtend),
             ..call
         });
-        insert(&mut self.steps, index, call.step(register.is_some(), place))?;
         let owner = self.owner(command);
         self.registers.note(call.cpu, command, reply, owner)
     }

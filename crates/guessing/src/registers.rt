@@ -12,14 +12,14 @@ use std::collections::HashMap;
 const REMS: usize = 4;
 
 /// The place of the return of a call that doesn't return.
-pub(crate) const NEVER: usize = usize::MAX;
+pub(crate) const NEVER: u32 = u32::MAX;
 
 /// A call that reads or extends a measurement, with the places of its two events.
 #[derive(Clone, Copy)]
 pub(crate) struct Use {
     pub(crate) cpu: u8,
-    pub(crate) called: usize,
-    pub(crate) returned: usize,
+    pub(crate) called: u32,
+    pub(crate) returned: u32,
     /// Whether it extends the measurement, and doesn't read it.
     pub(crate) extends: bool,
 }
@@ -50,7 +50,7 @@ impl Register {
         Unread {
             rd: self.rd,
             number: self.number,
-            place: u32::try_from(used.returned).unwrap_or(u32::MAX),
+            place: used.returned,
         }
     }
 }
@@ -131,9 +131,9 @@ impl Registers {
         &mut self,
         history: &History,
         cpu: u8,
-        called: usize,
+        called: u32,
     ) -> Result<(), AllocError> {
-        let Some(command) = command_at(history, called) else {
+        let Some(command) = command_at(history, called as usize) else {
             return Ok(());
         };
         if !matches!(command.function, FunctionId::MeasurementExtend) {

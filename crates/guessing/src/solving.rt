@@ -2,7 +2,7 @@
 
 use crate::beginnings::{Beginning, Beginnings};
 use crate::calls::{CPUS, command_at, reply_at};
-use crate::lanes::{Heads, Lanes, first_return};
+use crate::lanes::{Counts, Heads, Lanes, first_return};
 use crate::registers::{NEVER, Register, Unread, Use};
 use crate::tries::Tries;
 use byteorder::{ByteOrder, LittleEndian};
@@ -32,7 +32,7 @@ struct Solver<'s> {
     lanes: Lanes<'s>,
     settled: Vec<usize>,
     // how many calls of each CPU are settled, and how many readings aren't
-    counts: [usize; CPUS],
+    counts: Counts,
     unread: usize,
     beginnings: Beginnings,
 }
@@ -49,7 +49,7 @@ pub(crate) fn order_found<T: Tries>(
     let mut solver = Solver {
         history,
         uses,
-        lanes: Lanes::of(alloc, uses, history.len())?,
+        lanes: Lanes::of(alloc, uses, u32::try_from(history.len()).unwrap_or(NEVER))?,
         settled: Vec::with_capacity(alloc, uses.len())?,
         counts: [0; CPUS],
         unread: uses.iter().filter(|used| !used.extends).count(),
@@ -148,7 +148,7 @@ impl Solver<'_> {
 }
 
 // Takes one of the CPU's, where any is left.
-fn takes_one(counts: &mut [usize; CPUS], cpu: usize) -> bool {
+fn takes_one(counts: &mut Counts, cpu: usize) -> bool {
     let Some(count) = counts.get_mut(cpu) else {
         return false;
     };
@@ -161,7 +161,7 @@ fn takes_one(counts: &mut [usize; CPUS], cpu: usize) -> bool {
 
 // Whether the call read that value.
 fn is_read(value: &Rem, history: &History, used: &Use) -> bool {
-    let Some(ReplyRef::Ok(given)) = reply_at(history, used.returned) else {
+    let Some(ReplyRef::Ok(given)) = reply_at(history, used.returned as usize) else {
         return false;
     };
     match value.measurement() {
@@ -175,7 +175,7 @@ fn extended(value: &Rem, history: &History, used: Option<&Use>) -> Rem {
     let Some(used) = used else {
         return *value;
     };
-    let Some(command) = command_at(history, used.called) else {
+    let Some(command) = command_at(history, used.called as usize) else {
         return *value;
     };
     let [_, size, values @ ..] = command.words else {

@@ -8,7 +8,7 @@ use command_rows::Sight;
 use history::History;
 use memory_map::{can_be_set, entry_number};
 use rmi_view::{CommandRef, ReplyRef};
-use rmm_spec::{Accepted, Reply, Stretch};
+use rmm_spec::{Accepted, Reply, Ripas, Stretch};
 use spec_machine::Machine;
 use std::alloc::{AllocError, Global};
 
@@ -21,29 +21,11 @@ pub(crate) struct Step {
     pub(crate) cpu: u8,
     /// Whether it reads or extends an extensible measurement.
     pub(crate) is_measured: bool,
+    /// The RIPAS that it sets, where a REC asked for it.
+    pub(crate) sets: Option<Ripas>,
     pub(crate) called: u32,
     pub(crate) returned: u32,
     pub(crate) at: u32,
-}
-
-/// The machine after the first steps, so many.
-#[derive(Drop)]
-pub(crate) struct Checkpoint {
-    pub(crate) steps: usize,
-    pub(crate) machine: Machine,
-}
-
-/// The same once more, where there is one.
-pub(crate) fn copied_checkpoint(
-    checkpoint: &Option<Checkpoint>,
-) -> Result<Option<Checkpoint>, AllocError> {
-    match checkpoint {
-        Some(Checkpoint { steps, machine }) => Ok(Some(Checkpoint {
-            steps: *steps,
-            machine: machine.copy()?,
-        })),
-        None => Ok(None),
-    }
 }
 
 /// Whether the machine gives a call its reply, and carries it out. Extensible measurements are looked at later: what is read of them may be

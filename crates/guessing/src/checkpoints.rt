@@ -1,0 +1,116 @@
+//! Machines after some of an order's steps, from which later steps are made once more.
+
+use crate::draft::Draft;
+use crate::steps::takes_all;
+use history::History;
+use spec_machine::Machine;
+use std::alloc::{AllocError, Global};
+
+/// How many are kept.
+const KEPT: usize = 4;
+
+/// How many steps lie at least between two that are kept, but for the last two.
+const APART: usize = 1 << 10;
+
+/// The machine after the first steps, so many.
+#[derive(Drop)]
+pub(crate) struct Checkpoint {
+    pub(crate) steps: usize,
+    pub(crate) machine: Machine,
+}
+
+/// The checkpoints of an order, by their steps.
+#[derive(Drop)]
+pub(crate) struct Checkpoints {
+    alloc: Global,
+    all: Vec<Checkpoint>,
+}
+
+impl Checkpoints {
+    /// None yet.
+    pub(crate) fn none(alloc: Global) -> Checkpoints {
+        Checkpoints {
+            alloc,
+            all: Vec::new(alloc),
+        }
+    }
+
+    /// The last one once more, where there is one.
+    pub(crate) fn copy(&self) -> Result<Checkpoints, AllocError> {
+        let mut all = Vec::new(self.alloc);
+        if let Some(Checkpoint { steps, machine }) = self.all.last() {
+            all.push(Checkpoint {
+                steps: *steps,
+                machine: machine.copy()?,
+            })?;
+        }
+        Ok(Checkpoints {
+            alloc: self.alloc,
+            all,
+        })
+    }
+
+    /// How many steps come before the last one.
+    pub(crate) fn last_steps(&self) -> usize {
+        match self.all.last() {
+            Some(last) => last.steps,
+            None => 0,
+        }
+    }
+
+    // Drops those after more steps, and takes the last of the others. It is kept too where it lies far back.
+    fn take(&mut self, steps: usize) -> Result<Option<Checkpoint>, AllocError> {
+        self.all.retain(|checkpoint| checkpoint.steps <= steps);
+        let Some(last) = self.all.pop() else {
+            return Ok(None);
+        };
+        if steps.saturating_sub(last.steps) >= APART {
+            let copy = Checkpoint {
+                steps: last.steps,
+                machine: last.machine.copy()?,
+            };
+            self.keep(copy)?;
+        }
+        Ok(Some(last))
+    }
+
+    // Keeps one, and at most so many.
+    fn keep(&mut self, checkpoint: Checkpoint) -> Result<(), AllocError> {
+        if self.all.len() >= KEPT {
+            self.all.remove(0);
+        }
+        self.all.push(checkpoint)?;
+        Ok(())
+    }
+}
+
+impl Draft {
+    /// The machine after the first steps, so many, with a checkpoint there.
+    pub(crate) fn machine_after(
+        &mut self,
+        alloc: Global,
+        history: &History,
+        steps: usize,
+    ) -> Result<Option<Machine>, AllocError> {
+        let start = match self.checkpoints.take(steps)? {
+            Some(checkpoint) => checkpoint,
+            None => Checkpoint {
+                steps: 0,
+                machine: Machine::new(alloc, history.config())?,
+            },
+        };
+        let mut machine = start.machine;
+        let Some(between) = self.steps.as_slice().get(start.steps..steps) else {
+            return Ok(None);
+        };
+        if !takes_all(history, &mut machine, between)? {
+            return Ok(None);
+        }
+        let copy = machine.copy()?;
+        self.checkpoints.keep(Checkpoint {
+            steps,
+            machine: copy,
+        })?;
+        Ok(Some(machine))
+    }
+}
