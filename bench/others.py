@@ -6,10 +6,10 @@ usage: others.py [--find PATH] [--check PATH] [--seconds S] [--loads LOAD ..] [-
 Eight CPUs call all the time, on 4,096 granules. Under `few` they delegate and undelegate four granules. Under `late` they do so with all,
 and each return may be delayed by up to 64 events. Under `recs` one realm has a REC on each CPU, and these extend and read the same
 four registers; under `recs-2` and `recs-4` so many realms share the CPUs. Under `parallel` all give pages to one new realm and set its
-RIPAS; under `stretches` its RECs ask for other RIPAS, which is set in parts while pages come and go, under `stretches-late` each return may
-be delayed too, and under `narrow` all this is in sixteen pages. A reply is changed at the beginning, in the middle or at the end; it may
-be right in another order. What was found is printed after the seconds that it took, and how many checks that is of the good history's
-lines up to the change.
+RIPAS; under `stretches` its RECs ask for other RIPAS, which is set in parts while pages come and go; under `stretches-late` returns may be
+delayed too, and under `narrow` it is done in sixteen pages without delay, whose entries the host reads. A reply is changed at the beginning,
+in the middle or at the end; it may be right in another order. What was found is printed after the seconds that it took, and how many checks
+that is of the good history's lines up to the change.
 The loads of generate.py can be named too. With `--refusals`, of each function a call late in the history that was carried out is refused
 instead, once with each status; 200 events follow it. `--instructions` counts instructions in place of seconds, with valgrind.
 """
