@@ -1,13 +1,13 @@
 //! A change that is made of cells, whichever kind it is.
 
-ghost use Rattle.std.specs.Prelude.{◌≡◌, ◌*◌, IsTrue};
+ghost use Rattle.std.specs.Prelude.{◌≡◌, ◌*◌, IsTrue, false};
 ghost use Rattle.rmm_spec.specs.Step.Terms.{is_space};
 ghost use Rattle.rmm_spec.specs.Walk as walk;
 ghost use Rattle.rtt_table.specs.Shaped.{IsShaped};
 ghost use Rattle.rmm_laws.specs.Whole as whole;
 ghost use Rattle.granule_cells.specs.Changes.{cells_made, CanPutAll, FitsCells};
 ghost use Rattle.granule_cells.specs.OneCell.{cell_seen};
-ghost use Rattle.granule_cells.specs.Rooms.{IsRoomFor};
+ghost use Rattle.granule_cells.specs.Rooms.{IsRoomFor, makes_table};
 
 use crate::cell_store::CellStore;
 use crate::cell_view::CellView;
@@ -30,8 +30,6 @@ pub fn apply<S: CellStore>(store: &mut S, change: &Change, at: Option<u64>, room
     ensures cells { S.cells_in store.new ≡ cells_made (S.cells_in store.old) at change.now }
 {
     match *change {
-        Change::Unchanged => {}
-        Change::Retagged(change) => change_tag(store, Some(change)),
         Change::RealmMade {
             rd,
             root,
@@ -43,6 +41,35 @@ pub fn apply<S: CellStore>(store: &mut S, change: &Change, at: Option<u64>, room
             let table = entries.at(root_place(rd, width, level));
             put_realm(store, rd, realm, root, table);
         }
+        Change::TableMade {
+            rd,
+            level,
+            number,
+            rtt,
+            ..
+        } => {
+            if let Some(above) = at {
+                let place = place_of(rd, level, number, width_of(store.cell(above)));
+                make_table(store, above, number, rtt, room.into_table().at(place));
+            }
+        }
+        _ => apply_in_place(store, change, at),
+    }
+}
+
+// Makes a change that puts no table in.
+#[inline(always)]
+#[tactic(auto, unfolding(crate::specs::Changes::cells_made))]
+fn apply_in_place<S: CellStore>(store: &mut S, change: &Change, at: Option<u64>)
+    requires none { makes_table change.now ≡ false }
+    requires has { CanPutAll (S.has (S.kept store.old)) change.now }
+    requires fits { FitsCells (S.cells_in store.old) at change.now }
+    ensures kept { S.kept store.new ≡ S.kept store.old }
+    ensures cells { S.cells_in store.new ≡ cells_made (S.cells_in store.old) at change.now }
+{
+    match *change {
+        Change::Unchanged | Change::RealmMade { .. } | Change::TableMade { .. } => {}
+        Change::Retagged(change) => change_tag(store, Some(change)),
         Change::RealmDestroyed { rd, root } => free_realm(store, rd, root),
         Change::RecMade {
             rd,
@@ -57,18 +84,6 @@ pub fn apply<S: CellStore>(store: &mut S, change: &Change, at: Option<u64>, room
         }
         Change::RecDestroyed { rec, aux0, aux1 } => free_rec(store, rec, aux0, aux1),
         Change::RecordsChanged { realm, rec } => change_records(store, realm, rec),
-        Change::TableMade {
-            rd,
-            level,
-            number,
-            rtt,
-            ..
-        } => {
-            if let Some(above) = at {
-                let place = place_of(rd, level, number, width_of(store.cell(above)));
-                make_table(store, above, number, rtt, room.into_table().at(place));
-            }
-        }
         Change::TableDestroyed {
             number,
             rtt,

@@ -11,6 +11,7 @@ ghost use Rattle.rmm_laws.specs.Whole.{changed_at, cell_with_realm, cells_with_t
 ghost use Rattle.granule_cells.specs.declared.cell_change.CellChange.TheVariants as cell;
 ghost use Rattle.granule_cells.specs.Changes.{is_plain, CanUpdate, FitParts};
 ghost use Rattle.granule_cells.specs.OneCell.{fits_entries, FitsCell};
+ghost use Rattle.granule_cells.specs.Seen.{cell_of};
 
 use crate::cell_change::CellChange;
 use crate::cell_store::CellStore;
@@ -19,6 +20,16 @@ use crate::{Cell, Descriptor};
 use realm_desc::Rec;
 use rmm_spec::{Entry, EntryChange, RealmChange, RealmUpdate, RecChange, TagChange};
 use rtt_table::Table;
+
+// Puts a cell in, and drops the one that was there.
+#[inline(always)]
+fn put_cell<S: CellStore>(store: &mut S, granule: u64, made: Cell)
+    requires { IsTrue (S.has (S.kept store.old) granule) }
+    ensures kept { S.kept store.new ≡ S.kept store.old }
+    ensures cells { S.cells_in store.new ≡ put (S.cells_in store.old) granule (cell_of made) }
+{
+    store.put(granule, made);
+}
 
 pub(crate) fn put_realm<S: CellStore>(
     store: &mut S,
@@ -32,8 +43,8 @@ pub(crate) fn put_realm<S: CellStore>(
     ensures kept { S.kept store.new ≡ S.kept store.old }
     ensures cells { S.cells_in store.new ≡ put (put (S.cells_in store.old) rd (whole.Rd realm)) root (whole.Rtt table) }
 {
-    store.put(rd, Cell::Rd(realm));
-    store.put(root, Cell::Rtt(table));
+    put_cell(store, rd, Cell::Rd(realm));
+    put_cell(store, root, Cell::Rtt(table));
 }
 
 pub(crate) fn free_realm<S: CellStore>(store: &mut S, rd: u64, root: u64)
@@ -42,8 +53,8 @@ pub(crate) fn free_realm<S: CellStore>(store: &mut S, rd: u64, root: u64)
     ensures kept { S.kept store.new ≡ S.kept store.old }
     ensures cells { S.cells_in store.new ≡ put (put (S.cells_in store.old) rd whole.Delegated) root whole.Delegated }
 {
-    store.put(rd, Cell::Delegated);
-    store.put(root, Cell::Delegated);
+    put_cell(store, rd, Cell::Delegated);
+    put_cell(store, root, Cell::Delegated);
 }
 
 /// The REC is put in with its two others, and its realm counts it.
@@ -58,9 +69,9 @@ pub(crate) fn make_rec<S: CellStore>(store: &mut S, rec: u64, made: Rec, flags: 
         ≡ changed_at (put (put (put (S.cells_in store.old) rec (whole.Rec made)) made.aux0 whole.RecAux) made.aux1 whole.RecAux) made.owner
         (cell_with_realm (RecCounted made.index flags)) }
 {
-    store.put(rec, Cell::Rec(made));
-    store.put(made.aux0.address(), Cell::RecAux);
-    store.put(made.aux1.address(), Cell::RecAux);
+    put_cell(store, rec, Cell::Rec(made));
+    put_cell(store, made.aux0.address(), Cell::RecAux);
+    put_cell(store, made.aux1.address(), Cell::RecAux);
     let counted = RealmUpdate::RecCounted {
         mpidr: made.index,
         flags,
@@ -76,9 +87,9 @@ pub(crate) fn free_rec<S: CellStore>(store: &mut S, rec: u64, aux0: u64, aux1: u
     ensures cells { S.cells_in store.new
         ≡ put (put (put (S.cells_in store.old) rec whole.Delegated) aux0 whole.Delegated) aux1 whole.Delegated }
 {
-    store.put(rec, Cell::Delegated);
-    store.put(aux0, Cell::Delegated);
-    store.put(aux1, Cell::Delegated);
+    put_cell(store, rec, Cell::Delegated);
+    put_cell(store, aux0, Cell::Delegated);
+    put_cell(store, aux1, Cell::Delegated);
 }
 
 /// Gives a page's granule another tag, if one is given it.
@@ -90,7 +101,7 @@ pub(crate) fn change_tag<S: CellStore>(store: &mut S, change: Option<TagChange>)
     ensures cells { S.cells_in store.new ≡ cells_with_tag_change (S.cells_in store.old) change }
 {
     if let Some(TagChange { granule, tag }) = change {
-        store.put(granule, plain_cell(tag));
+        put_cell(store, granule, plain_cell(tag));
     }
 }
 
@@ -150,7 +161,7 @@ pub(crate) fn make_table<S: CellStore>(
     let entry = Entry::Table(rtt);
     let linked = EntryChange::Replaced { number, entry };
     store.change(above, CellChange::Entries(linked));
-    store.put(rtt, Cell::Rtt(table));
+    put_cell(store, rtt, Cell::Rtt(table));
 }
 
 /// Changes the entries of a table, with a page, a realm and a REC.
@@ -202,5 +213,5 @@ pub(crate) fn free_table<S: CellStore>(
     ensures cells { S.cells_in store.new ≡ put (cells_with_entries (S.cells_in store.old) (entries_changed entry.now) at) rtt whole.Delegated }
 {
     change_entries_at(store, at, entry);
-    store.put(rtt, Cell::Delegated);
+    put_cell(store, rtt, Cell::Delegated);
 }

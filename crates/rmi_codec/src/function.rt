@@ -1,6 +1,6 @@
 //! Functions, by their numbers.
 
-ghost use Rattle.std.specs.Prelude.{◌≡◌, ◌≢◌, ◌≤◌, ◌∷◌, ℕ, List, length, take, Some, IfSome, IfNone};
+ghost use Rattle.std.specs.Prelude.{◌≡◌, ◌≢◌, ◌≤◌, ◌∷◌, ℕ, List, length, take, IfSome, IfNone};
 ghost use Rattle.rmm_spec.specs.declared.function_id.FunctionId.{FunctionId};
 ghost use Rattle.rmm_spec.specs.Function.{number_of, word_count};
 ghost use Rattle.rmm_spec.specs.Text.{fixed_hex, parts_of};
@@ -15,7 +15,7 @@ use rmm_spec::FunctionId;
 #[tactic(auto, unfolding(crate::specs::FunctionText::text_number))]
 fn function_spelled(bytes: u64) -> Option<FunctionId>
     ensures found { IfSome result (λ f. text_number f ≡ bytes) }
-    ensures only { (f : FunctionId) → text_number f ≡ bytes → result ≡ Some f }
+    ensures none { IfNone result ((f : FunctionId) → text_number f ≢ bytes) }
 {
     let function = match bytes {
         0x6334_3030_3031_3531 => FunctionId::GranuleDelegate,

@@ -16,7 +16,8 @@ change-requires g c =
     let aux1 = c.address-2.result in
     let rd = c.address-3.result in
     let index = c.made.inside.index in
-    let three = c.put-3.ensures.cells ∙ ap (λ x. put x aux1 RecAux) (c.put-2.ensures.cells ∙ ap (λ x. put x aux0 RecAux) c.put.ensures.cells) in
+    let three =
+    c.put_cell-3.ensures.cells ∙ ap (λ x. put x aux1 RecAux) (c.put_cell-2.ensures.cells ∙ ap (λ x. put x aux0 RecAux) c.put_cell.ensures.cells) in
     let owner : a.made.owner ≡ rd = search rules in
     let same : a.made.index ≡ index = search rules in
     subst (λ x. FitsCell (x rd) (Realm (RecCounted index a.flags))) (sym three)

@@ -5,7 +5,7 @@ use Rattle.rmi_codec.proofs.function.function_front.Goals as goal
 pub returns-in_err-function-clause-none : goal.returns-in_err-function-clause-none
 returns-in_err-function-clause-none c =
     rw c.from_residual.ensures (λ f front.
-    let some = c.in_err-function.ensures.only f (text_number-front c.args.text.now f c.requires front ∙ sym c.from_be_bytes.ensures) in cc)
+    c.in_err-function.ensures.none f (text_number-front c.args.text.now f c.requires front ∙ sym c.from_be_bytes.ensures))
 
 pub returns-clause-found : goal.returns-clause-found
 returns-clause-found c =
