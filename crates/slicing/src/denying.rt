@@ -132,12 +132,15 @@ fn denies_tag(call: &Call, reply: ReplyRef<'_>, granule: u64, tag: Tag) -> bool
         || freed(call, reply) == Some(granule) && !is_page
 }
 
-/// Whether the reply shows that the page is none, or it isn't the one that is taken back from its address.
+/// Whether the reply shows that the page is none, that it isn't the one that is taken back from its address, or that none was there.
 fn denies_page(call: &Call, reply: ReplyRef<'_>, rd: u64, ipa: u64, page: u64) -> bool
     ensures { IsTrue result → laws.denies (Assigned rd ipa page) call.now (reply_seen reply.entry) ≡ true }
 {
     if shows_names(reply) && needs_other(named(call).as_slice(), page, Tag::Data) {
         return true;
+    }
+    if needs_free(call, rd, ipa) || creates_page(call, rd, ipa) {
+        return matches!(reply, ReplyRef::Ok(_));
     }
     frees_entry(call, rd, ipa)
         && match reply {

@@ -33,10 +33,11 @@ fn gives(call: &Call, words: &[u64]) -> bool
     ensures { result ≡ laws.gives call.now words.now }
 {
     match call {
-        Call::DataDestroy { .. } | Call::RttRemove { .. } => match only_word(words) {
-            Some(word) => is_page(word),
-            None => false,
-        },
+        Call::DataDestroy { .. } | Call::RecEnter { .. } | Call::RttRemove { .. } =>
+            match only_word(words) {
+                Some(word) => is_page(word),
+                None => false,
+            },
         Call::RttInitRipas { base, top, .. } | Call::RttSetRipas { base, top, .. } => {
             match only_word(words) {
                 Some(end) => may_end(*base, *top, end),
@@ -44,9 +45,13 @@ fn gives(call: &Call, words: &[u64]) -> bool
             }
         }
         Call::MeasurementRead { .. } => words.len() == 4 || words.len() == 8,
-        Call::RttReadEntry { .. } | Call::Exit => words.len() == 4,
+        Call::RttReadEntry { level, .. } => reports_entry(*level, words),
         Call::RealmConfig => words.len() == 2,
-        Call::RecEnter { .. } | Call::IpaStateGet { .. } => words.len() == 1,
+        Call::IpaStateGet { .. } => match only_word(words) {
+            Some(word) => is_ripas(word),
+            None => false,
+        },
+        Call::Exit => reports_exit(words),
         _ => words.is_empty(),
     }
 }
@@ -60,6 +65,43 @@ fn only_word(words: &[u64]) -> Option<u64>
         [word] => Some(*word),
         _ => None,
     }
+}
+
+/// Whether it is a RIPAS' number.
+fn is_ripas(number: u64) -> bool
+    ensures { result ≡ laws.is_ripas number }
+{
+    number <= 2
+}
+
+/// Whether the words report an entry of the level or one above it: its level, its state, its address and its RIPAS.
+fn reports_entry(level: u64, words: &[u64]) -> bool
+    ensures { result ≡ laws.reports_entry level words.now }
+{
+    words.len() == 4 && words[0] <= level && words[1] <= 2 && is_ripas(words[3])
+}
+
+/// Whether the words report why a REC leaves.
+fn reports_exit(words: &[u64]) -> bool
+    ensures { result ≡ laws.reports_exit words.now }
+{
+    words.len() == 4
+        && (reports_change(words[0], words[1], words[2], words[3])
+            || reports_other(words[0], words[1], words[2], words[3]))
+}
+
+/// Whether a REC that leaves so asks for a RIPAS of some pages.
+fn reports_change(kind: u64, base: u64, top: u64, ripas: u64) -> bool
+    ensures { result ≡ laws.reports_change kind base top ripas }
+{
+    kind == 4 && is_page(base) && is_page(top) && is_ripas(ripas)
+}
+
+/// Whether it was interrupted, or made a call of PSCI or of its host, which has one word.
+fn reports_other(kind: u64, first: u64, second: u64, third: u64) -> bool
+    ensures { result ≡ laws.reports_other kind first second third }
+{
+    (kind == 1 && first == 0 || kind == 3 || kind == 5) && second == 0 && third == 0
 }
 
 /// Whether a stretch from base to top, of which some pages at its beginning are set, may end there.
@@ -127,6 +169,13 @@ fn has_rec_row(call: &Call) -> bool
     )
 }
 
+/// Whether there are pages from base up to top.
+fn is_stretch(base: u64, top: u64) -> bool
+    ensures { result ≡ laws.is_stretch base top }
+{
+    is_page(base) && is_page(top) && base < top
+}
+
 /// Whether a row on a table may, with the level.
 #[tactic(auto, unfolding(verdict_laws::specs::Replying::has_row_at_level))]
 fn has_row_at_level(call: &Call, index: u8) -> bool
@@ -138,8 +187,10 @@ fn has_row_at_level(call: &Call, index: u8) -> bool
         | Call::DataDestroy { .. }
         | Call::RttMapUnprotected { .. }
         | Call::RttUnmapUnprotected { .. }
-        | Call::RttInitRipas { .. }
-        | Call::RttSetRipas { .. } => index <= 3,
+        | Call::RttInitRipas { .. } => index <= 3,
+        Call::RttSetRipas { base, top, .. } => {
+            index <= if is_stretch(*base, *top) { 2 } else { 3 }
+        }
         Call::RttCreate { level, .. } => u64::from(index) <= level.saturating_sub(1),
         Call::RttRemove { level, .. } => u64::from(index) <= *level,
         _ => false,

@@ -1,9 +1,8 @@
 -- Entries of the last level that are unassigned: one that a call takes a page from, or makes in protected memory, is so behind it, stays so until a
 -- call may replace it, and is found so.
-use Rattle.std.proofs.Common.{◌≡◌, ℕ, ◌+◌, ◌-◌, ◌*◌, ◌/◌, ◌^◌, ◌<◌, ◌==◌, ◌&&◌, ◌||◌, nat_le, nat_lt, Bool, true, false, IsTrue, Option, Some, None, inl, inr, refl, sym, ◌∙◌, ap, subst, eqb-true, eq-eqb, arith, option_map}
+use Rattle.std.proofs.Common.{◌≡◌, ℕ, ◌-◌, ◌*◌, ◌/◌, ◌^◌, ◌<◌, ◌==◌, ◌&&◌, ◌||◌, nat_lt, Bool, true, false, IsTrue, Option, Some, None, inl, inr, refl, sym, ◌∙◌, ap, subst, eqb-true, eq-eqb, arith, option_map}
 use Rattle.std.proofs.Math.Bool.{or-false}
 use Rattle.std.proofs.lemmas.Bool.{and_from, and_parts, ltb-true, or_cases}
-use Rattle.std.proofs.lemmas.Bool.Decides.{nat_tests}
 use Rattle.rmm_spec.specs.declared.call.Call.{Call}
 use Rattle.rmm_spec.specs.declared.call.Call.TheVariants as call
 use Rattle.rmm_spec.specs.declared.command.Command.{Command}
@@ -31,7 +30,7 @@ use Rattle.rmm_laws.proofs.Walked.{entry_starts, table_number-entry}
 use Rattle.verdict_laws.specs.Facts.{frees_entry, is_free, is_one_entry, is_one_table, is_refused_with, makes_table, may_assign, needs_free}
 use Rattle.verdict_laws.proofs.EntryChanges.{leaf-left, leaf_found, leaf_reached, same_entry-last}
 use Rattle.verdict_laws.proofs.FactSteps.{are_told, step-untold_allowed}
-use Rattle.verdict_laws.proofs.Replies.{half-least}
+use Rattle.verdict_laws.proofs.Replies.{half-least, one_page}
 use Rattle.verdict_laws.proofs.TagFacts.{IsCarried, carried_by}
 
 -- ---- entries
@@ -86,10 +85,6 @@ last_table-has is level ipa at hit =
     (and_from _ _ parts.0 (eq-eqb (entry_number 3 ipa / 512) (table_number level at) own), same)
 
 -- ---- behind a call
-
--- a stretch of pages that begins before its end has a page
-one_page : (base top : ℕ) → is_page base ≡ true → is_page top ≡ true → nat_lt base top ≡ true → nat_le (base + 4096) top ≡ true
-one_page base top first last ordered = grind (arith, nat_tests, first, last, ordered)
 
 -- DATA_DESTROY makes it unassigned, and so does RTT_CREATE in protected memory
 made_free : (rd ipa : ℕ) (s new : State) (cpu : ℕ) (given : Reply) (c : Call) → IsSound s → IsCarried s cpu c given new

@@ -1,6 +1,7 @@
 -- Pages at entries of the last level: one that a call gives an address is there behind it, stays until a call may replace it or take it back, and is
 -- what is then given back.
 use Rattle.std.proofs.Common.{◌≡◌, ℕ, ◌==◌, ◌&&◌, ◌||◌, Bool, true, false, not, Option, Some, inl, inr, refl, sym, ◌∙◌, ap, eqb-true, eq-eqb, option_map}
+use Rattle.std.proofs.Math.Bool.{or-false}
 use Rattle.std.proofs.lemmas.Bool.{and_from, and_parts, not-true, or_cases, or_left, or_parts}
 use Rattle.rmm_spec.specs.declared.call.Call.{Call}
 use Rattle.rmm_spec.specs.declared.call.Call.TheVariants as call
@@ -19,12 +20,12 @@ use Rattle.rmm_spec.specs.State.{State}
 use Rattle.rmm_spec.specs.Step.{Step, outcome}
 use Rattle.rmm_spec.specs.Step.Terms.{named}
 use Rattle.rmm_spec.specs.Update.{entry_with_ripas}
-use Rattle.rmm_spec.specs.Walk.{entry_number}
+use Rattle.rmm_spec.specs.Walk.{entry_number, is_unassigned}
 use Rattle.lemmas.proofs.Tests.{both_ways}
 use Rattle.spec_lemmas.proofs.Behind.{behind}
 use Rattle.spec_lemmas.proofs.TagLaws.{tag-has_tag}
 use Rattle.verdict_laws.specs.declared.facts.Fact.TheVariants as fact
-use Rattle.verdict_laws.specs.Facts.{denies, frees_entry, gives_entry, has_page, is_one_entry, is_refused_with, is_tag, may_assign, needs_other}
+use Rattle.verdict_laws.specs.Facts.{creates_page, denies, frees_entry, gives_entry, has_page, is_one_entry, is_refused_with, is_tag, may_assign, needs_free, needs_other}
 use Rattle.verdict_laws.specs.Separate.{is_freed}
 use Rattle.verdict_laws.specs.Slices.{shows_names}
 use Rattle.verdict_laws.proofs.EntryChanges.{leaf-left, leaf_found, leaf_reached, same_entry-last}
@@ -82,6 +83,21 @@ destroy_freed rd ipa page ripas s new cpu given (call.DataDestroy other at) soun
     rw (carried.done.0, leaf_found s sound rd ipa (Assigned ripas page) leaf other at frees refl) (eq-eqb page page refl)
 destroy_freed rd ipa page ripas s new cpu given _ sound leaf carried frees = both_ways frees refl
 
+-- what needs an unassigned entry isn't carried out
+carried_free : (rd ipa page : ℕ) (ripas : Ripas) (s new : State) (cpu : ℕ) (given : Reply) (c : Call) → IsSound s
+    → s.leaf rd 3 (entry_number 3 ipa) ≡ Some (Assigned ripas page) → IsCarried s cpu c given new
+    → (needs_free c rd ipa || creates_page c rd ipa) ≡ true → ⊥
+unfolding behind needs_free creates_page
+carried_free rd ipa page ripas s new cpu given (call.DataCreate other granule at source flags digest) sound leaf carried needs =
+    both_ways carried.rows.1.1.1.0 (ap is_unassigned (leaf_found s sound rd ipa (Assigned ripas page) leaf other at needs refl))
+carried_free rd ipa page ripas s new cpu given (call.DataCreateUnknown other granule at) sound leaf carried needs =
+    let same = sym (or-false (rd == other && is_one_entry ipa at)) ∙ needs in
+    both_ways carried.rows.1.1.0 (ap is_unassigned (leaf_found s sound rd ipa (Assigned ripas page) leaf other at same refl))
+carried_free rd ipa page ripas s new cpu given (call.RttInitRipas other base top) sound leaf carried needs =
+    let same = sym (or-false (rd == other && is_one_entry ipa base)) ∙ needs in
+    both_ways carried.rows.1.1.0 (ap is_unassigned (leaf_found s sound rd ipa (Assigned ripas page) leaf other base same refl))
+carried_free rd ipa page ripas s new cpu given _ sound leaf carried needs = both_ways needs refl
+
 -- ---- steps
 
 -- where the call gives the page to the address and is accepted, the page is there
@@ -101,12 +117,15 @@ page-left rd ipa page s new cpu command given sound step stays =
     (record { stays = parts.0; freed = λ ripas. parts.1; init = ripas_page page Ram; requested = λ ripas _. ripas_page page ripas })
 
 -- and no reply shows its granule with another tag, or gives another back for it
-pub page-denied : (rd ipa page : ℕ) (s new : State) (cpu : ℕ) (command : Command) (given : Reply) → IsSound s → Step s cpu command given new
-    → has_page (s.leaf rd 3 (entry_number 3 ipa)) page ≡ true → denies (fact.Assigned rd ipa page) (call_of command) given ≡ true → ⊥
-page-denied rd ipa page s new cpu command given sound step has denied =
+page-shown : (rd ipa page : ℕ) (s new : State) (cpu : ℕ) (command : Command) (given : Reply) → IsSound s → Step s cpu command given new
+    → has_page (s.leaf rd 3 (entry_number 3 ipa)) page ≡ true
+    → ((shows_names given && needs_other (named (call_of command)) page Data)
+    || (frees_entry (call_of command) rd ipa
+    && (is_refused_with 4 given || (is_accepted given && not (is_freed (call_of command) given page))))) ≡ true → ⊥
+page-shown rd ipa page s new cpu command given sound step has shows =
     let c = call_of command in
     let (ripas, leaf) = page_there page (s.leaf rd 3 (entry_number 3 ipa)) has in
-    elim (or_cases (shows_names given && needs_other (named c) page Data) _ denied) [
+    elim (or_cases (shows_names given && needs_other (named c) page Data) _ shows) [
       | inl shows ↦
           (let tagged = tag-has_tag s page Data (sound.leaves.pages rd 3 (entry_number 3 ipa) page ripas leaf) in
           tag-denied page Data s new cpu command given sound step (ap (λ tag. is_tag tag Data) tagged) (or_left _ _ shows))
@@ -123,4 +142,18 @@ page-denied rd ipa page s new cpu command given sound step has denied =
                 both_ways (destroy_freed rd ipa page ripas s new cpu given c sound leaf carried parts.0)
                 (not-true (is_freed c given page) both.1))
           ])
+    ]
+
+-- nor is one carried out that needs its entry unassigned
+pub page-denied : (rd ipa page : ℕ) (s new : State) (cpu : ℕ) (command : Command) (given : Reply) → IsSound s → Step s cpu command given new
+    → has_page (s.leaf rd 3 (entry_number 3 ipa)) page ≡ true → denies (fact.Assigned rd ipa page) (call_of command) given ≡ true → ⊥
+page-denied rd ipa page s new cpu command given sound step has denied =
+    let c = call_of command in
+    let (ripas, leaf) = page_there page (s.leaf rd 3 (entry_number 3 ipa)) has in
+    elim (or_cases _ (is_accepted given && (needs_free c rd ipa || creates_page c rd ipa)) denied) [
+      | inl shows ↦ page-shown rd ipa page s new cpu command given sound step has shows
+      | inr done ↦
+          (let both = and_parts (is_accepted given) (needs_free c rd ipa || creates_page c rd ipa) done in
+          carried_free rd ipa page ripas s new cpu given c sound leaf
+          (carried_by s cpu command given new (outcome s cpu c) sound both.0 refl step) both.1)
     ]

@@ -1,8 +1,9 @@
 -- What a placed call is replied is what it may be in some state: a refusal for its words, or that of another row or the words of what it does.
-use Rattle.std.proofs.Common.{◌≡◌, ℕ, ◌+◌, ◌-◌, ◌*◌, ◌%◌, ◌^◌, ◌≤◌, ◌==◌, nat_le, Bool, true, false, if◌then◌else◌, List, [], ◌∷◌, ◌⊎◌, inl, inr, Option, Some, IsTrue, refl, sym, ◌∙◌, ap, subst, arith, eq-eqb}
-use Rattle.std.specs.Prelude.{◌&&◌, ◌||◌, Result, Err}
+use Rattle.std.proofs.Common.{◌≡◌, ℕ, ◌+◌, ◌-◌, ◌*◌, ◌%◌, ◌^◌, ◌≤◌, ◌==◌, nat_le, nat_lt, Bool, true, false, if◌then◌else◌, List, [], ◌∷◌, ◌⊎◌, inl, inr, Option, Some, IsTrue, refl, sym, ◌∙◌, ap, subst, arith, eq-eqb}
+use Rattle.std.specs.Prelude.{◌&&◌, ◌||◌, Result, Err, None, unwrap_or}
 use Rattle.std.specs.List.{list_all}
 use Rattle.std.proofs.lemmas.Bool.{and_from, and_parts, cases_Bool, le-leb, leb-false, lt-ltb, ltb-false, not_from_false, or_cases, or_left, or_right, true_from_ne_false}
+use Rattle.std.proofs.lemmas.Bool.Decides.{nat_tests}
 use Rattle.std.proofs.Math.Nat.{mul-le-mul_left}
 use Rattle.std.proofs.lemmas.Nat.{pow-add}
 use Rattle.rmm_spec.specs.declared.accepted.Accepted.{Accepted}
@@ -12,25 +13,29 @@ use Rattle.rmm_spec.specs.declared.call.Call.{Call}
 use Rattle.rmm_spec.specs.declared.call.Call.TheVariants as call
 use Rattle.rmm_spec.specs.declared.condition.Condition.{Condition}
 use Rattle.rmm_spec.specs.declared.condition.Condition.TheVariants.{IpaBound, RgnBound}
+use Rattle.rmm_spec.specs.declared.entry.Entry.{Entry}
+use Rattle.rmm_spec.specs.declared.entry.Entry.TheVariants.{Assigned, AssignedNs, Table, Unassigned, UnassignedNs}
 use Rattle.rmm_spec.specs.declared.measurement.Measurement.{Measurement}
 use Rattle.rmm_spec.specs.declared.measurement.Measurement.TheVariants.{Sha256, Sha512}
 use Rattle.rmm_spec.specs.declared.refusal.Refusal.{Refusal}
 use Rattle.rmm_spec.specs.declared.refusal.Refusal.TheVariants.{Input}
 use Rattle.rmm_spec.specs.declared.reply.Reply.{Reply}
+use Rattle.rmm_spec.specs.declared.tag.Ripas.{Ripas}
+use Rattle.rmm_spec.specs.declared.tag.Ripas.TheVariants.{Destroyed, Empty, Ram}
 use Rattle.rmm_spec.specs.declared.tag.Tag.{Tag}
 use Rattle.rmm_spec.specs.declared.tag.Tag.TheVariants.{Undelegated, Delegated}
 use Rattle.rmm_spec.specs.Call.{ByRealm, class_of}
 use Rattle.rmm_spec.specs.Change.{changed}
-use Rattle.rmm_spec.specs.Lookup.{is_granule, is_inside, realm_at, rec_at, rec_inside}
+use Rattle.rmm_spec.specs.Lookup.{is_granule, is_inside, no_rec, no_request, realm_at, rec_at, rec_inside, request_of, ripas_number}
 use Rattle.rmm_spec.specs.Measure.{first_words, measurement_words}
 use Rattle.rmm_spec.specs.Rows.{Row, Word, all_allowed, decided, input, input_error, inputs, reply_of, tagged}
 use Rattle.rmm_spec.specs.Sound.{IsSound}
-use Rattle.rmm_spec.specs.State.{Pending, Psci, RealmRecord, Request, State}
+use Rattle.rmm_spec.specs.State.{HostCall, Pending, Psci, RealmRecord, RecRecord, Request, RipasChange, State}
 use Rattle.rmm_spec.specs.Step.{CarriesOut, answer_of, is_placed}
 use Rattle.rmm_spec.specs.Step.RealmCall.{exit_words}
 use Rattle.rmm_spec.specs.Step.Ripas.{IsReached}
 use Rattle.rmm_spec.specs.Step.Terms.{is_page, is_space, named, words_of}
-use Rattle.rmm_spec.specs.Walk.{entry_address, entry_size, half, reach, walk}
+use Rattle.rmm_spec.specs.Walk.{entry_address, entry_ripas, entry_size, entry_state, half, reach, walk}
 use Rattle.lemmas.proofs.Tests.{both_ways}
 use Rattle.rmm_laws.proofs.Applies.{inside_running}
 use Rattle.rmm_laws.proofs.Cases.{at_itself}
@@ -38,7 +43,7 @@ use Rattle.rmm_laws.proofs.Searches.{realm_there}
 use Rattle.rmm_laws.proofs.Spaces.{entry_size-pos, space_cases}
 use Rattle.spec_lemmas.proofs.Behind.{behind}
 use Rattle.spec_lemmas.proofs.WalkLaws.{reach-le}
-use Rattle.verdict_laws.specs.Replying.{gives, has_input_row, has_rec_row, has_row_at_level, may_answer, may_end, realm_indices}
+use Rattle.verdict_laws.specs.Replying.{gives, has_input_row, has_rec_row, has_row_at_level, is_ripas, is_stretch, may_answer, may_end, realm_indices, reports_entry}
 
 -- ---- refusals
 
@@ -76,10 +81,21 @@ inside_half s cpu sound placed =
 walk_within : (s : State) (rd ipa max level : ℕ) → max ≤ level → nat_le (reach s rd ipa max) level ≡ true
 walk_within s rd ipa max level within = le-leb _ _ (omega (arith, reach-le s rd ipa max))
 
+-- a stretch of pages that begins before its end has a page
+pub one_page : (base top : ℕ) → is_page base ≡ true → is_page top ≡ true → nat_lt base top ≡ true → nat_le (base + 4096) top ≡ true
+one_page base top first last ordered = grind (arith, nat_tests, first, last, ordered)
+
+-- a level is the last, or above it
+last_or_above : (level : ℕ) → level ≤ 3 → (nat_le level 2 ≡ true) ⊎ (level ≡ 3)
+last_or_above level within = elim (cases_Bool (nat_le level 2)) [
+  | inl above ↦ inl above
+  | inr below ↦ inr (omega (arith, leb-false level 2 below, within))
+]
+
 -- where a placed call's words are allowed each of the rows behind them does
 refuse-behind : (s : State) (cpu : ℕ) (c : Call) → IsSound s → is_placed s cpu (class_of c) ≡ true → all_allowed (words_of c) ≡ true
     → refuse c (tagged s (named c) (behind s cpu c).0) ≡ true
-unfolding behind class_of named has_input_row realm_indices has_rec_row has_row_at_level
+unfolding behind class_of named has_input_row realm_indices has_rec_row has_row_at_level entry_size
 refuse-behind s cpu (call.DataCreate rd granule ipa source flags digest) sound placed allowed =
     rw (allowed, walk_within s rd ipa 3 3 (omega arith)) refl
 refuse-behind s cpu (call.DataCreateUnknown rd granule ipa) sound placed allowed = rw (allowed, walk_within s rd ipa 3 3 (omega arith)) refl
@@ -91,7 +107,20 @@ refuse-behind s cpu (call.RttRemove removal rd ipa level) sound placed allowed =
 refuse-behind s cpu (call.RttMapUnprotected rd ipa page) sound placed allowed = rw (allowed, walk_within s rd ipa 3 3 (omega arith)) refl
 refuse-behind s cpu (call.RttUnmapUnprotected rd ipa) sound placed allowed = rw (allowed, walk_within s rd ipa 3 3 (omega arith)) refl
 refuse-behind s cpu (call.RttInitRipas rd base top) sound placed allowed = rw (allowed, walk_within s rd base 3 3 (omega arith)) refl
-refuse-behind s cpu (call.RttSetRipas rd rec base top) sound placed allowed = rw (allowed, walk_within s rd base 3 3 (omega arith)) refl
+refuse-behind s cpu (call.RttSetRipas rd rec base top) sound placed allowed = by (is_stretch base top) refl
+  where
+    c : Call
+    c = call.RttSetRipas rd rec base top
+
+    by : (b : Bool) → is_stretch base top ≡ b → refuse c (tagged s (named c) (behind s cpu c).0) ≡ true
+    by false none = rw (allowed, none, walk_within s rd base 3 3 (omega arith)) refl
+    by true some = elim (last_or_above (reach s rd base 3) (reach-le s rd base 3)) [
+      | inl above ↦ rw (allowed, some, above) refl
+      | inr last ↦
+          (let pages = and_parts (is_page base && is_page top) (nat_lt base top) some in
+          let ends = and_parts (is_page base) (is_page top) pages.0 in
+          rw (allowed, some, last, ends.0, one_page base top ends.0 ends.1 pages.1) refl)
+    ]
 refuse-behind s cpu (call.RealmActivate rd) sound placed allowed = rw allowed refl
 refuse-behind s cpu (call.RealmDestroy rd) sound placed allowed = rw allowed refl
 refuse-behind s cpu (call.RecCreate rd rec mpidr flags aux0 aux1) sound placed allowed = rw allowed refl
@@ -142,23 +171,66 @@ unfolding gives measurement_words first_words
 measured index (Sha256 bytes) = refl
 measured index (Sha512 bytes) = refl
 
--- an exit is told by four
-exited : (request : Request) (pending : Option Pending) → gives call.Exit (exit_words request pending) ≡ true
+-- each RIPAS has a number
+is_ripas-number : (ripas : Ripas) → is_ripas (ripas_number ripas) ≡ true
+is_ripas-number Empty = refl
+is_ripas-number Ram = refl
+is_ripas-number Destroyed = refl
+
+-- each entry has a state
+state_known : (e : Entry) → nat_le (entry_state e) 2 ≡ true
+state_known (Unassigned ripas) = refl
+state_known UnassignedNs = refl
+state_known (Assigned ripas granule) = refl
+state_known (AssignedNs page) = refl
+state_known (Table granule) = refl
+
+-- so an entry is reported
+entry_reported : (e : Entry) (at level : ℕ) → nat_le at level ≡ true
+    → reports_entry level (at ∷ entry_state e ∷ entry_address e ∷ ripas_number (entry_ripas e) ∷ []) ≡ true
+entry_reported e at level within = and_from _ _ (and_from _ _ within (state_known e)) (is_ripas-number (entry_ripas e))
+
+-- a request begins and ends with pages
+abbrev AsksPages : Request → Type 0
+AsksPages request = (is_page request.base && is_page request.top) ≡ true
+
+-- so does that of a REC, and where it asked for nothing
+asks_pages : (found : Option Request) → ((request : Request) → found ≡ Some request → AsksPages request) → AsksPages (unwrap_or found no_request)
+asks_pages None each = refl
+asks_pages (Some request) each = each request refl
+
+rec_asks_pages : (s : State) (rec : ℕ) → IsSound s → AsksPages (request_of (rec_at s rec))
+unfolding rec_at
+rec_asks_pages s rec sound = by (s.rec rec) refl
+  where
+    by : (found : Option RecRecord) → s.rec rec ≡ found → AsksPages (request_of (unwrap_or found no_rec))
+    by None none = refl
+    by (Some c) there = asks_pages c.request (λ request asked.
+        (sound.recs.requests rec c (realm_at s c.owner) request there (realm_there s c.owner sound (sound.recs.owned rec c there)) asked).pages)
+
+-- an exit is reported
+exited : (request : Request) (pending : Option Pending) → AsksPages request → gives call.Exit (exit_words request pending) ≡ true
 unfolding gives
-exited request (Some (Psci function)) = refl
-exited request _ = refl
+exited request None pages = refl
+exited request (Some (Psci function)) pages = refl
+exited request (Some RipasChange) pages = or_left _ _ (and_from _ _ pages (is_ripas-number request.ripas))
+exited request (Some (HostCall imm)) pages = refl
 
 -- so it is with what is done where all rows hold
-Gives-behind : (s : State) (cpu : ℕ) (c : Call) → Gives s c (behind s cpu c).1
+Gives-behind : (s : State) (cpu : ℕ) (c : Call) → IsSound s → Gives s c (behind s cpu c).1
 unfolding behind changed gives
-Gives-behind s cpu (call.DataDestroy rd ipa) = λ sound. page_delegated _ (entry_address (walk s rd ipa 3).entry) s.tag sound refl
-Gives-behind s cpu (call.RttRemove removal rd ipa level) = λ sound.
+Gives-behind s cpu (call.DataDestroy rd ipa) old = λ sound. page_delegated _ (entry_address (walk s rd ipa 3).entry) s.tag sound refl
+Gives-behind s cpu (call.RecEnter rec) old = λ sound. (and_parts _ _ (rec_asks_pages s rec old)).0
+Gives-behind s cpu (call.RttReadEntry rd ipa level) old = λ sound. entry_reported _ _ level (walk_within s rd ipa level level (omega arith))
+Gives-behind s cpu (call.RttRemove removal rd ipa level) old = λ sound.
     page_delegated _ (entry_address (walk s rd ipa (level - 1)).entry) s.tag sound refl
-Gives-behind s cpu (call.RttInitRipas rd base top) = may_end-reached s _
-Gives-behind s cpu (call.RttSetRipas rd rec base top) = may_end-reached s _
-Gives-behind s cpu (call.MeasurementRead index) = λ sound. measured index _
-Gives-behind s cpu call.Exit = λ sound. exited _ _
-Gives-behind s cpu _ = λ sound. refl
+Gives-behind s cpu (call.RttInitRipas rd base top) old = may_end-reached s _
+Gives-behind s cpu (call.RttSetRipas rd rec base top) old = may_end-reached s _
+Gives-behind s cpu (call.MeasurementRead index) old = λ sound. measured index _
+Gives-behind s cpu (call.IpaStateGet ipa) old = λ sound. is_ripas-number _
+Gives-behind s cpu call.Exit old = λ sound.
+    let rec = rec_at s (rec_inside s cpu) in exited (request_of rec) rec.pending (rec_asks_pages s (rec_inside s cpu) old)
+Gives-behind s cpu _ old = λ sound. refl
 
 -- ---- replies
 
@@ -208,7 +280,7 @@ may_answer-placed s cpu c given new old_sound placed sound carried =
     let rows = tagged s (named c) rest.0 in
     IsAnswered-inputs s new c given (words_of c) rows rest.1 (
       may_answer-input_error c,
-      λ allowed. IsAnswered-decided s new c given rows rest.1 sound allowed (Gives-behind s cpu c)
+      λ allowed. IsAnswered-decided s new c given rows rest.1 sound allowed (Gives-behind s cpu c old_sound)
           (refuse-behind s cpu c old_sound placed allowed),
     )
     (subst (λ found. CarriesOut found s given new) rest.2 carried)

@@ -323,6 +323,7 @@ denies (UnassignedRam rd ipa) c given = is_refused_with 4 given && creates_page 
 denies (Assigned rd ipa page) c given =
     (shows_names given && needs_other (named c) page Data)
     || (frees_entry c rd ipa && (is_refused_with 4 given || (is_accepted given && not (is_freed c given page))))
+    || (is_accepted given && (needs_free c rd ipa || creates_page c rd ipa))
 
 -- ---- replies that several deny
 

@@ -1,5 +1,5 @@
 -- What a call may be replied in any state: the words of one that is carried out, and the statuses that its rows refuse with. This project's own.
-use Rattle.std.specs.Prelude.{ℕ, ◌-◌, ◌^◌, ◌==◌, ◌&&◌, ◌||◌, nat_lt, nat_le, Bool, true, false, not, List, [], ◌∷◌, length}
+use Rattle.std.specs.Prelude.{ℕ, ◌-◌, ◌^◌, ◌==◌, ◌&&◌, ◌||◌, nat_lt, nat_le, if◌then◌else◌, Bool, true, false, not, List, [], ◌∷◌, length, slice_index_or}
 use Rattle.rmm_spec.specs.declared.call.Call.{Call}
 use Rattle.rmm_spec.specs.declared.call.Call.TheVariants as call
 use Rattle.rmm_spec.specs.declared.reply.Reply.{Reply}
@@ -20,18 +20,42 @@ is_one passes (word ∷ other ∷ more) = false
 abbrev pub may_end : ℕ → ℕ → ℕ → Bool
 may_end base top end = nat_lt base end && nat_le end top && is_multiple (end - base) 4096
 
+-- whether it is a RIPAS' number
+abbrev pub is_ripas : ℕ → Bool
+is_ripas number = nat_le number 2
+
+-- whether the words report an entry of the level or one above it: its level, its state, its address and its RIPAS
+abbrev pub reports_entry : ℕ → List ℕ → Bool
+reports_entry level words =
+    length words == 4 && nat_le (slice_index_or words 0 0) level && nat_le (slice_index_or words 1 0) 2 && is_ripas (slice_index_or words 3 0)
+
+-- whether a REC that leaves so asks for a RIPAS of some pages
+abbrev pub reports_change : ℕ → ℕ → ℕ → ℕ → Bool
+reports_change kind base top ripas = kind == 4 && is_page base && is_page top && is_ripas ripas
+
+-- whether it was interrupted, or made a call of PSCI or of its host, which has one word
+abbrev pub reports_other : ℕ → ℕ → ℕ → ℕ → Bool
+reports_other kind first second third = ((kind == 1 && first == 0) || kind == 3 || kind == 5) && second == 0 && third == 0
+
+-- whether the words report why a REC leaves
+abbrev pub reports_exit : List ℕ → Bool
+reports_exit words =
+    length words == 4
+    && (reports_change (slice_index_or words 0 0) (slice_index_or words 1 0) (slice_index_or words 2 0) (slice_index_or words 3 0)
+    || reports_other (slice_index_or words 0 0) (slice_index_or words 1 0) (slice_index_or words 2 0) (slice_index_or words 3 0))
+
 -- whether a call that is carried out may be replied these words
 unfoldable pub gives : Call → List ℕ → Bool
 gives (call.DataDestroy rd ipa) words = is_one is_page words
-gives (call.RecEnter rec) words = length words == 1
+gives (call.RecEnter rec) words = is_one is_page words
 gives (call.RttRemove removal rd ipa level) words = is_one is_page words
-gives (call.RttReadEntry rd ipa level) words = length words == 4
+gives (call.RttReadEntry rd ipa level) words = reports_entry level words
 gives (call.RttInitRipas rd base top) words = is_one (may_end base top) words
 gives (call.RttSetRipas rd rec base top) words = is_one (may_end base top) words
 gives (call.MeasurementRead index) words = length words == 4 || length words == 8
 gives call.RealmConfig words = length words == 2
-gives (call.IpaStateGet ipa) words = length words == 1
-gives call.Exit words = length words == 4
+gives (call.IpaStateGet ipa) words = is_one is_ripas words
+gives call.Exit words = reports_exit words
 gives _ words = length words == 0
 
 -- ---- statuses
@@ -67,7 +91,11 @@ has_rec_row (call.RecEnter rec) = true
 has_rec_row (call.RttSetRipas rd rec base top) = true
 has_rec_row _ = false
 
--- whether a row on a table may, with the level
+-- whether there are pages from base up to top
+abbrev pub is_stretch : ℕ → ℕ → Bool
+is_stretch base top = is_page base && is_page top && nat_lt base top
+
+-- whether a row on a table may, with the level; pages that a REC asked for begin at an entry of the last level, and reach to its end
 unfoldable pub has_row_at_level : Call → ℕ → Bool
 has_row_at_level (call.DataCreate rd granule ipa source flags digest) index = nat_le index 3
 has_row_at_level (call.DataCreateUnknown rd granule ipa) index = nat_le index 3
@@ -77,7 +105,7 @@ has_row_at_level (call.RttRemove removal rd ipa level) index = nat_le index leve
 has_row_at_level (call.RttMapUnprotected rd ipa page) index = nat_le index 3
 has_row_at_level (call.RttUnmapUnprotected rd ipa) index = nat_le index 3
 has_row_at_level (call.RttInitRipas rd base top) index = nat_le index 3
-has_row_at_level (call.RttSetRipas rd rec base top) index = nat_le index 3
+has_row_at_level (call.RttSetRipas rd rec base top) index = nat_le index (if is_stretch base top then 2 else 3)
 has_row_at_level _ index = false
 
 -- whether rows on what it finds may refuse the call with the status and the index
