@@ -11,28 +11,40 @@ use rmm_spec::FunctionId;
 /// How many CPUs there are at most.
 pub(crate) const CPUS: usize = 8;
 
-/// A call that returns at a later event, or doesn't return.
+/// A call that returns at a later event, or doesn't return, with its command and its later reply.
 #[derive(Clone, Copy)]
-pub(crate) struct OpenCall {
+pub(crate) struct OpenCall<'h> {
     pub(crate) cpu: u8,
     /// The places of its two events.
     pub(crate) called: u32,
     pub(crate) returned: u32,
+    pub(crate) command: CommandRef<'h>,
+    pub(crate) reply: ReplyRef<'h>,
     /// Whether it changes nothing, by its reply.
     pub(crate) is_look: bool,
     /// Whether it stands in the order already.
     pub(crate) is_placed: bool,
-    /// The measurement that it reads or extends, where it stands in the order.
+    /// The measurement that it reads or extends.
     pub(crate) register: Option<usize>,
-    pub(crate) extends: bool,
+    ghost few: { length command.words.now ≤ 10 },
 }
 
-impl OpenCall {
+impl OpenCall<'_> {
+    /// Whether it changes nothing, and doesn't stand in the order.
+    pub(crate) fn is_waiting_look(&self) -> bool {
+        self.is_look && !self.is_placed
+    }
+
+    /// Whether it reads or extends an extensible measurement.
+    pub(crate) fn is_measured(&self) -> bool {
+        self.register.is_some()
+    }
+
     /// The call, as it was put in at the place.
-    pub(crate) fn step(&self, is_measured: bool, place: usize) -> Step {
+    pub(crate) fn step(&self, place: usize) -> Step {
         Step {
             cpu: self.cpu,
-            is_measured,
+            is_measured: self.is_measured(),
             sets: None,
             called: self.called,
             returned: self.returned,

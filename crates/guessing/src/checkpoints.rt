@@ -84,7 +84,7 @@ impl Checkpoints {
     }
 }
 
-impl Draft {
+impl Draft<'_> {
     /// The machine after the first steps, so many, with a checkpoint there.
     pub(crate) fn machine_after(
         &mut self,

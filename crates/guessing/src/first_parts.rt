@@ -12,7 +12,7 @@ use std::cmp::min;
 #[derive(Drop)]
 pub struct FirstParts<'h> {
     history: &'h History,
-    draft: Draft,
+    draft: Draft<'h>,
     // how many events they are
     from: usize,
     // whether each call that returns there is put in
@@ -67,7 +67,7 @@ impl<'h> FirstParts<'h> {
                 return Ok(false);
             }
         }
-        draft.add_unreturned(self.history)?;
+        draft.add_open_calls(self.history)?;
         self.reads_all(alloc, &draft, tries)
     }
 
@@ -75,7 +75,7 @@ impl<'h> FirstParts<'h> {
     fn reads_all<T: Tries>(
         &self,
         alloc: Global,
-        draft: &Draft,
+        draft: &Draft<'h>,
         tries: &mut T,
     ) -> Result<bool, AllocError> {
         for (index, register) in draft.registers.all.as_slice().iter().enumerate() {

@@ -21,8 +21,8 @@ pub struct GuessedOrder {
 
 /// The calls that are put in, event by event, up to the first return that isn't explained.
 #[derive(Drop)]
-pub(crate) struct DraftSoFar {
-    pub(crate) draft: Draft,
+pub(crate) struct DraftSoFar<'h> {
+    pub(crate) draft: Draft<'h>,
     pub(crate) unexplained: Option<u32>,
 }
 
@@ -36,7 +36,7 @@ pub fn guess<T: Tries>(
         mut draft,
         unexplained,
     } = drafted(alloc, history, history.len())?;
-    draft.add_unreturned(history)?;
+    draft.add_open_calls(history)?;
     let placed = others(alloc, draft.steps.as_slice())?;
     let Arranged { cpus, unread } = with_uses(alloc, history, placed, &draft.registers, tries)?;
     Ok(GuessedOrder {
@@ -47,11 +47,11 @@ pub fn guess<T: Tries>(
 }
 
 /// Puts the calls of the first events in, so many.
-pub(crate) fn drafted(
+pub(crate) fn drafted<'h>(
     alloc: Global,
-    history: &History,
+    history: &'h History,
     count: usize,
-) -> Result<DraftSoFar, AllocError> {
+) -> Result<DraftSoFar<'h>, AllocError> {
     let mut draft = Draft::new(alloc, history, u32::MAX)?;
     let mut unexplained = None;
     let mut events = history.events();

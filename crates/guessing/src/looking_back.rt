@@ -1,7 +1,7 @@
 //! A call that has to stand before calls that returned earlier.
 
+use crate::calls::OpenCall;
 use crate::draft::Draft;
-use crate::placing::Placing;
 use crate::steps::{last_taken, takes, takes_all};
 use history::History;
 use spec_machine::Machine;
@@ -11,7 +11,7 @@ use std::cmp::max;
 /// How many calls are looked back at most.
 const MOST: usize = 256;
 
-impl Draft {
+impl<'h> Draft<'h> {
     /// Puts the CPU's call in before calls that were put in since it was made, at the last place where it is given its reply, if these are given
     /// theirs after it.
     pub(crate) fn place_earlier(
@@ -20,18 +20,15 @@ impl Draft {
         history: &History,
         cpu: usize,
     ) -> Result<bool, AllocError> {
-        let Some(placing) = self.placing(history, cpu) else {
+        let Some(call) = self.open.of(cpu).copied() else {
             return Ok(false);
         };
-        let first = max(
-            self.checkpoints.last_steps(),
-            self.first_since(placing.call.called),
-        );
+        let first = max(self.checkpoints.last_steps(), self.first_since(call.called));
         let Some(machine) = self.machine_after(alloc, history, first)? else {
             return Ok(false);
         };
         let copy = machine.copy()?;
-        self.place_since(history, machine, copy, first, placing)
+        self.place_since(history, machine, copy, first, call)
     }
 
     // The same, where both machines are after so many steps.
@@ -41,12 +38,12 @@ impl Draft {
         looking: Machine,
         again: Machine,
         first: usize,
-        placing: Placing<'_>,
+        call: OpenCall<'h>,
     ) -> Result<bool, AllocError> {
         let Some(since) = self.steps.as_slice().get(first..) else {
             return Ok(false);
         };
-        let step = placing.call.step(placing.is_measured(), 0);
+        let step = call.step(0);
         let Some(index) = last_taken(history, looking, since, step)? else {
             return Ok(false);
         };
@@ -62,12 +59,16 @@ impl Draft {
             return Ok(false);
         }
         self.machine = machine;
-        self.note(&placing, first.saturating_add(index), next.at as usize)?;
+        self.note(
+            usize::from(call.cpu),
+            first.saturating_add(index),
+            next.at as usize,
+        )?;
         Ok(true)
     }
 
-    /// After which of the steps those come that were put in since the place.
-    pub(crate) fn first_since(&self, place: u32) -> usize {
+    // After which of the steps those come that were put in since the place.
+    fn first_since(&self, place: u32) -> usize {
         let mut first = self.steps.len();
         for _step in 0..MOST {
             match self.steps.as_slice().get(..first) {

@@ -4,15 +4,15 @@ use crate::calls::{CPUS, OpenCall};
 
 /// The open call of each CPU, where it has one that returns later.
 #[derive(Clone, Copy)]
-pub(crate) struct OpenCalls {
-    calls: [Option<OpenCall>; CPUS],
+pub(crate) struct OpenCalls<'h> {
+    calls: [Option<OpenCall<'h>>; CPUS],
     // how many of them change nothing and don't stand in the order
     looks: usize,
 }
 
-impl OpenCalls {
+impl<'h> OpenCalls<'h> {
     /// No call is open.
-    pub(crate) fn none() -> OpenCalls {
+    pub(crate) fn none() -> OpenCalls<'h> {
         OpenCalls {
             calls: [None; CPUS],
             looks: 0,
@@ -20,31 +20,37 @@ impl OpenCalls {
     }
 
     /// The CPU's open call.
-    pub(crate) fn of(&self, cpu: usize) -> Option<OpenCall> {
+    pub(crate) fn of(&self, cpu: usize) -> Option<&OpenCall<'h>> {
         match self.calls.get(cpu) {
-            Some(call) => *call,
-            None => None,
+            Some(Some(call)) => Some(call),
+            _ => None,
         }
     }
 
-    /// The call is its CPU's open one.
-    pub(crate) fn put(&mut self, call: OpenCall) {
-        self.replace(usize::from(call.cpu), Some(call));
+    /// The call is its CPU's open one, which had none.
+    pub(crate) fn put(&mut self, call: OpenCall<'h>) {
+        if call.is_waiting_look() {
+            self.looks = self.looks.saturating_add(1);
+        }
+        if let Some(open) = self.calls.get_mut(usize::from(call.cpu)) {
+            *open = Some(call);
+        }
     }
 
-    /// The CPU has no open call any longer.
+    /// The CPU's open call stands in the order now.
+    pub(crate) fn place(&mut self, cpu: usize) {
+        if self.waits_for_a_look(cpu) {
+            self.looks = self.looks.saturating_sub(1);
+        }
+        if let Some(Some(call)) = self.calls.get_mut(cpu) {
+            call.is_placed = true;
+        }
+    }
+
+    /// The CPU's open call, which stands in the order, is open no longer.
     pub(crate) fn close(&mut self, cpu: usize) {
-        self.replace(cpu, None);
-    }
-
-    // The CPU's open call is this one now.
-    fn replace(&mut self, cpu: usize, call: Option<OpenCall>) {
         if let Some(open) = self.calls.get_mut(cpu) {
-            self.looks = self
-                .looks
-                .saturating_sub(looks_in(open))
-                .saturating_add(looks_in(&call));
-            *open = call;
+            *open = None;
         }
     }
 
@@ -55,31 +61,31 @@ impl OpenCalls {
 
     /// Whether the CPU's open call changes nothing.
     pub(crate) fn is_look(&self, cpu: usize) -> bool {
-        match self.calls.get(cpu) {
-            Some(Some(call)) => call.is_look,
-            _ => false,
+        match self.of(cpu) {
+            Some(call) => call.is_look,
+            None => false,
         }
     }
 
     /// Whether the CPU has an open call that doesn't stand in the order.
     pub(crate) fn waits(&self, cpu: usize) -> bool {
-        match self.calls.get(cpu) {
-            Some(Some(call)) => !call.is_placed,
-            _ => false,
+        match self.of(cpu) {
+            Some(call) => !call.is_placed,
+            None => false,
         }
     }
 
     /// Whether the CPU's open call changes nothing, and doesn't stand in the order.
     pub(crate) fn waits_for_a_look(&self, cpu: usize) -> bool {
-        match self.calls.get(cpu) {
-            Some(open) => looks_in(open) > 0,
+        match self.of(cpu) {
+            Some(call) => call.is_waiting_look(),
             None => false,
         }
     }
 
     /// The open call that returns first after the place.
-    pub(crate) fn next_return(&self, place: usize) -> Option<OpenCall> {
-        let mut next: Option<OpenCall> = None;
+    pub(crate) fn next_return(&self, place: usize) -> Option<&OpenCall<'h>> {
+        let mut next: Option<&OpenCall<'h>> = None;
         for open in &self.calls {
             let Some(call) = open else {
                 continue;
@@ -89,17 +95,9 @@ impl OpenCalls {
             }
             match next {
                 Some(first) if first.returned < call.returned => {}
-                _ => next = Some(*call),
+                _ => next = Some(call),
             }
         }
         next
-    }
-}
-
-// How many of the calls, one or none, change nothing and don't stand in the order.
-fn looks_in(open: &Option<OpenCall>) -> usize {
-    match open {
-        Some(call) if call.is_look && !call.is_placed => 1,
-        _ => 0,
     }
 }

@@ -1,9 +1,8 @@
 //! A RIPAS that was read otherwise than the order has it: calls that overlapped come in another order before it.
 
-use crate::calls::{command_at, reply_of};
+use crate::calls::{OpenCall, command_at, reply_of};
 use crate::draft::Draft;
 use crate::moving::are_ordered;
-use crate::placing::Placing;
 use crate::precedence::{Parts, Precedence, later_precedence, precedences};
 use crate::replay::{Replay, Stopped};
 use crate::ripas::{RipasLook, ripas_read};
@@ -38,7 +37,7 @@ enum Reordered {
     Cannot,
 }
 
-impl Draft {
+impl<'h> Draft<'h> {
     /// Puts in the CPU's call, where it reads a RIPAS and would read another now, after calls that overlapped were put in another order.
     pub(crate) fn place_reordered(
         &mut self,
@@ -47,15 +46,15 @@ impl Draft {
         cpu: usize,
         place: usize,
     ) -> Result<bool, AllocError> {
-        let Some(placing) = self.placing(history, cpu) else {
+        let Some(call) = self.open.of(cpu).copied() else {
             return Ok(false);
         };
-        if !self.reads_otherwise(history, cpu) {
+        if !self.reads_otherwise(&call) {
             return Ok(false);
         }
         let mut known: Vec<Precedence> = Vec::new(alloc);
         let mut failing = Failing {
-            step: placing.call.step(false, place),
+            step: call.step(place),
             first: self.steps.len(),
             since: Vec::new(alloc),
             rest: Vec::new(alloc),
@@ -66,7 +65,7 @@ impl Draft {
                 return Ok(false);
             }
             known.append(&mut found)?;
-            match self.reordered(alloc, history, known.as_slice(), &placing, place)? {
+            match self.reordered(alloc, history, known.as_slice(), &call, place)? {
                 Reordered::Taken => return Ok(true),
                 Reordered::Fails(next) => failing = next,
                 Reordered::Cannot => return Ok(false),
@@ -75,18 +74,12 @@ impl Draft {
         Ok(false)
     }
 
-    // Whether the CPU's open call reads a RIPAS, and would read another now.
-    fn reads_otherwise(&self, history: &History, cpu: usize) -> bool {
-        let Some(placing) = self.placing(history, cpu) else {
+    // Whether the open call reads a RIPAS, and would read another now.
+    fn reads_otherwise(&self, call: &OpenCall<'h>) -> bool {
+        let Some(read) = ripas_read(call.command, call.reply) else {
             return false;
         };
-        let Some(read) = ripas_read(placing.command, placing.reply) else {
-            return false;
-        };
-        let outcome = self
-            .machine
-            .outcome(placing.call.cpu, &placing.command.to_command());
-        match outcome {
+        match self.machine.outcome(call.cpu, &call.command.to_command()) {
             Ok(Accepted::Done { words, .. }) => words.last() != Some(&read.ripas),
             _ => false,
         }
@@ -157,7 +150,7 @@ impl Draft {
         alloc: Global,
         history: &History,
         known: &[Precedence],
-        placing: &Placing<'_>,
+        call: &OpenCall<'h>,
         place: usize,
     ) -> Result<Reordered, AllocError> {
         let first = self.first_of(known);
@@ -165,7 +158,7 @@ impl Draft {
             return Ok(Reordered::Cannot);
         };
         let mut steps = since.to_vec(alloc)?;
-        steps.push(placing.call.step(false, place))?;
+        steps.push(call.step(place))?;
         if !are_ordered(&mut steps, known) {
             return Ok(Reordered::Cannot);
         }
@@ -188,24 +181,19 @@ impl Draft {
                 }))
             }
             None => {
-                self.take_order(first, replay, placing)?;
+                self.take_order(first, replay, usize::from(call.cpu))?;
                 Ok(Reordered::Taken)
             }
         }
     }
 
-    // Takes another order of the steps after the first, with the call in it.
-    fn take_order(
-        &mut self,
-        first: usize,
-        replay: Replay,
-        placing: &Placing<'_>,
-    ) -> Result<(), AllocError> {
+    // Takes another order of the steps after the first, with the CPU's call in it.
+    fn take_order(&mut self, first: usize, replay: Replay, cpu: usize) -> Result<(), AllocError> {
         let mut order = replay.order;
         self.steps.truncate(first);
         self.steps.append(&mut order)?;
         self.machine = replay.machine;
-        self.note_placed(placing)
+        self.note_placed(cpu)
     }
 
     // The first of the steps that have to come before or after another.
