@@ -1,5 +1,5 @@
 -- What is looked at of calls for facts, in the words of the law.
-use Rattle.std.proofs.Common.{◌≡◌, ◌∙◌, ℕ, false, List, None, Option, Some, ap, inl, inr, subst, sym}
+use Rattle.std.proofs.Common.{◌≡◌, ◌∙◌, ℕ, ◌<◌, false, List, None, Option, Some, ap, inl, inr, subst, sym}
 use Rattle.std.specs.Option.{IfSome}
 use Rattle.rmi_view.specs.Seen.{reply_seen}
 use Rattle.rmm_spec.specs.declared.command.Command.{Command}
@@ -9,13 +9,18 @@ use Rattle.rmm_spec.specs.declared.reply.Reply.{Reply}
 use Rattle.rmm_spec.specs.Call.{call_of}
 use Rattle.rmm_spec.specs.Linearization.{IsCalled, IsReturned}
 use Rattle.verdict_laws.specs.declared.facts.Fact.{Fact}
-use Rattle.verdict_laws.specs.Facts.{IsLeftAt, may_end}
+use Rattle.verdict_laws.specs.HeldFacts as laws
+use Rattle.verdict_laws.specs.Facts.{leaves_with, makes, may_end}
+use Rattle.verdict_laws.specs.HeldFacts.{IsLeftAt, IsLeftSince, IsOver}
+use Rattle.verdict_laws.specs.Placing.{StandsBefore}
 use Rattle.verdict_laws.specs.Looking.{is_looking_function}
 use Rattle.verdict_laws.specs.Slices as slices
 use Rattle.slicing.specs.declared.call_at.Answer.{Answer}
 use Rattle.slicing.specs.declared.call_at.CallAt.{CallAt}
 use Rattle.slicing.specs.Calls.{ChangesNothing, HasAnswer, IsCallAt}
-use Rattle.slicing.specs.Facts.{LeavesAt}
+use Rattle.slicing.specs.declared.done.Done.{Done}
+use Rattle.slicing.specs.Facts.{IsLeftOrEarly, IsMadeBy, LeavesAt}
+use Rattle.slicing.specs.Unused.{IsDone}
 use Rattle.slicing.proofs.CallLaws.{made_at}
 
 -- what a reply has to be, whatever it was, is what the call was answered
@@ -61,7 +66,47 @@ module _ (events : List Event) (at cpu number : ℕ) (command : Command) (c : Ca
         | inr rest ↦ elim rest [
           | inl there ↦ inr (inl (sym is_at.0 ∙ there))
           | inr keeps ↦
-              inr (inr (λ given only. subst (λ called. may_end fact called given ≡ false) (is_at.1.1.call ∙ ap call_of same_command)
-              (keeps given (answer_is events cpu number c.answer given answered only))))
+              inr (inr (inr (λ given only. subst (λ called. may_end fact called given ≡ false) (is_at.1.1.call ∙ ap call_of same_command)
+              (keeps given (answer_is events cpu number c.answer given answered only)))))
         ]
       ]
+
+-- what makes a fact does so by the law
+pub IsMadeBy-done : (events : List Event) (place called : ℕ) (done : Done) (fact : Fact) (is_done : IsDone events called place done)
+    → IsMadeBy fact events done → laws.IsMadeBy fact events is_done.0
+IsMadeBy-done events place called done fact is_done made =
+    let d = is_done.0 in
+    elim made [
+      | inl makes_it ↦ inl ((λ i. makes fact (is_done.3 i) (is_done.4 i)) ∙ makes_it)
+      | inr (standing, stands, leaves) ↦
+          inr (
+            standing,
+            subst (λ k. StandsBefore events k d.number standing) (sym is_done.5)
+                (subst (λ n. StandsBefore events done.cpu n standing) (sym is_done.6) stands),
+            ap (λ called. leaves_with fact called standing) is_done.3 ∙ leaves,
+          )
+    ]
+
+-- each call leaves a fact since the one that made it, where each that is no earlier does
+pub IsLeftSince-early : (fact : Fact) (events : List Event) (place maker made : ℕ) → made ≡ maker
+    → ((at : ℕ) → IsLeftOrEarly fact events place (Some maker) at) → IsLeftSince fact events made place
+IsLeftSince-early fact events place maker made same early at cpu number command is_called =
+    rw same
+    (elim (early at cpu number command is_called) [
+      | inl no_later ↦ elim no_later [ inl own ↦ inl own | inr back ↦ inr (inl back) ]
+      | inr leaves ↦ inr (inr leaves)
+    ])
+
+-- what a call at a place was answered with comes before what is made after that
+pub IsOver-answered : (events : List Event) (place at : ℕ) (c : CallAt) (a : Answer) → IsCallAt events place c → c.answer ≡ Some a → a.place < at
+    → IsOver events place at
+IsOver-answered events place at c a is answered before = record {
+  cpu = c.cpu;
+  number = c.number;
+  command = is.1.0;
+  is_called = made_at events place c is;
+  returned = a.place;
+  given = reply_seen a.reply;
+  is_returned = subst (HasAnswer events c.cpu c.number) answered is.1.1.answer;
+  before = before;
+}

@@ -8,3 +8,4 @@ mod PlanLaws
 mod Cutting
 mod EventLaws
 mod FactLaws
+mod StandingLaws

@@ -19,7 +19,7 @@ use Rattle.slicing.proofs.CallLaws.{made_at}
 -- a call that was carried out and returned before a place is one of the laws'
 pub IsDone-from_call : (events : List Event) (called place : ℕ) (c : CallAt) (a : Answer) → IsCallAt events called c → c.answer ≡ Some a
     → is_accepted (reply_seen a.reply) ≡ true → a.place < place
-    → IsDone events called place (record { call = c.call; reply = a.reply; returned = a.place })
+    → IsDone events called place (record { cpu = c.cpu; number = c.number; call = c.call; reply = a.reply; returned = a.place })
 IsDone-from_call events called place c a at answered accepted before =
     let is_call = at.1.1 in (
       record {
@@ -38,6 +38,8 @@ IsDone-from_call events called place c a at answered accepted before =
       (λ i. a.place),
       sym is_call.call,
       (λ i. reply_seen a.reply),
+      (λ i. c.cpu),
+      (λ i. c.number),
     )
 
 -- what was made before the plan's first place returned before any place that isn't before all kept calls

@@ -37,6 +37,10 @@ pub record IsCall (events : List Event) (command : Command) (c : CallAt) : Type 
 abbrev pub IsCallAt : List Event → ℕ → CallAt → Type 0
 IsCallAt events place c = (c.place ≡ place) × ((command : Command) × IsCall events command c)
 
+-- it is the CPU's call of the number, and what is said of it is so
+abbrev pub IsCallOf : List Event → ℕ → ℕ → CallAt → Type 0
+IsCallOf events cpu number c = (command : Command) × IsCall events command c × (c.cpu ≡ cpu) × (c.number ≡ number)
+
 -- the place of its return, or one after each of a history
 abbrev pub place_back : Option Answer → ℕ
 place_back None = 1000000

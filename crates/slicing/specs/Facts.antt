@@ -1,13 +1,21 @@
 -- What is looked at of calls for the facts of a history.
-use Rattle.std.specs.Prelude.{◌≡◌, ℕ, ◌⊎◌, false, List, Option, IfSome}
+use Rattle.std.specs.Prelude.{◌≡◌, ℕ, ◌⊎◌, true, false, List, Option, IfSome}
 use Rattle.rmi_view.specs.Seen.{reply_seen}
 use Rattle.rmm_spec.specs.declared.command.Command.{Command}
 use Rattle.rmm_spec.specs.declared.event.Event.{Event}
 use Rattle.rmm_spec.specs.declared.reply.Reply.{Reply}
+use Rattle.rmm_spec.specs.Call.{call_of}
 use Rattle.rmm_spec.specs.Linearization.{IsCalled}
 use Rattle.verdict_laws.specs.declared.facts.Fact.{Fact}
-use Rattle.verdict_laws.specs.Facts.{IsLeftAt, may_end}
+use Rattle.verdict_laws.specs.declared.placing.Standing.{Standing}
+use Rattle.verdict_laws.specs.Denying.{deny_inside}
+use Rattle.verdict_laws.specs.Facts.{leaves_with, makes, makes_with, may_end}
+use Rattle.verdict_laws.specs.HeldFacts.{IsHeldAlone, IsLeftAt, IsLeftSince}
+use Rattle.verdict_laws.specs.Placing.{StandsBefore}
+use Rattle.verdict_laws.specs.Slices.{IsDoneBefore}
 use Rattle.slicing.specs.declared.call_at.CallAt.{CallAt}
+use Rattle.slicing.specs.declared.done.Done.{Done}
+use Rattle.slicing.specs.declared.last_return.LastReturn.{LastReturn}
 use Rattle.slicing.specs.Calls.{ChangesNothing}
 use Rattle.slicing.specs.Unused.{IsNoLater}
 
@@ -23,3 +31,21 @@ LeavesAt fact place c = ChangesNothing c ⊎ ((c.place ≡ place) ⊎ DoesNotEnd
 abbrev pub IsLeftOrEarly : Fact → List Event → ℕ → Option ℕ → ℕ → Type 0
 IsLeftOrEarly fact events place maker at = (cpu number : ℕ) (command : Command) → IsCalled events at cpu number command
     → IsNoLater events maker at cpu number ⊎ IsLeftAt fact events place at cpu number command
+
+-- the call makes the fact, by what it says and is replied, or as a REC leaves there that its CPU stands in
+abbrev pub IsMadeBy : Fact → List Event → Done → Type 0
+IsMadeBy fact events done =
+    (makes fact done.call (reply_seen done.reply) ≡ true)
+    ⊎ ((standing : Standing) × StandsBefore events done.cpu done.number standing × (leaves_with fact done.call standing ≡ true))
+
+-- another fact holds by itself where a call makes this one with it, and none since may have ended it
+abbrev pub IsHeldWith : Fact → List Event → ℕ → Type 0
+IsHeldWith fact events place =
+    (maker : IsDoneBefore events place) × (other : Fact) × IsHeldAlone other events maker.called
+    × (makes_with other fact (call_of maker.command) maker.given ≡ true) × IsLeftSince fact events maker.called place
+
+-- the facts deny the return's reply where its CPU stands
+abbrev pub IsDeniedInside : List Event → List Fact → LastReturn → Type 0
+IsDeniedInside events facts last =
+    (standing : Standing) × StandsBefore events last.cpu last.number standing
+    × (deny_inside facts standing last.call (reply_seen last.reply) ≡ true)

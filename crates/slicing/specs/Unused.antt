@@ -18,7 +18,7 @@ use Rattle.slicing.specs.Plans.{number_at}
 abbrev pub IsDone : List Event → (called place : ℕ) → Done → Type 0
 IsDone events called place done =
     (d : slices.IsDoneBefore events place) × (d.called ≡ called) × (d.returned ≡ done.returned) × (call_of d.command ≡ done.call)
-    × (d.given ≡ reply_seen done.reply)
+    × (d.given ≡ reply_seen done.reply) × (d.cpu ≡ done.cpu) × (d.number ≡ done.number)
 
 -- the call returned before the place
 abbrev pub ReturnedBefore : CallAt → ℕ → Type 0

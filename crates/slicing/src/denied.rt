@@ -1,23 +1,28 @@
 //! Whether a reply is denied by what calls made before: nothing else may have ended it since.
 
-ghost use Rattle.std.specs.Prelude.{◌<◌, ◌≡◌, ◌≤◌, ℕ, [], length, IfNone, IfSome, IsTrue};
+ghost use Rattle.std.specs.Prelude.{◌<◌, ◌≡◌, ◌≤◌, ◌⊎◌, ℕ, [], length, IfNone, IfSome, IsTrue};
 ghost use Rattle.slicing.specs.Calls.{AreBack, IsLastReturn, events_to};
-ghost use Rattle.slicing.specs.Facts.{IsLeftOrEarly, LeavesAt};
-ghost use Rattle.verdict_laws.specs.Facts as laws;
+ghost use Rattle.rmi_view.specs.Seen.{reply_seen};
+ghost use Rattle.slicing.specs.Facts.{IsDeniedInside, IsHeldWith, IsLeftOrEarly, IsMadeBy, LeavesAt};
+ghost use Rattle.verdict_laws.specs.HeldFacts as laws;
 ghost use Rattle.verdict_laws.specs.Order.{LeadsNowhere};
 ghost use Rattle.verdict_laws.specs.Parts.{first_part};
 
 use crate::call_at::{CallAt, call_at};
-use crate::denying::deny;
-use crate::done::{done_before, is_no_later};
+use crate::denying::{deny, deny_inside};
+use crate::done::{Done, done_before, is_no_later};
 use crate::early::{are_back, open_from};
 use crate::ending::is_left;
 use crate::last_return::{LastReturn, last_return};
 use crate::making::{begins, makes};
+use crate::making_recs::{leaves_with, makes_with};
+use crate::standing::standing_before;
 use crate::supposing::{
     maker_before, supposed, supposed_entry, supposed_page, supposed_tag, supposed_together,
 };
+use crate::supposing_recs::{maker_with, supposed_inside, supposed_of_rec};
 use history::History;
+use rmm_spec::Call;
 use verdict_laws::{Fact, nowhere_denied};
 
 /// Whether the last of the first events, so many, is a return whose reply denies what holds while its call may take effect.
@@ -27,16 +32,31 @@ pub fn is_denied(history: &History, count: u32) -> bool
     let Some(last) = last_return(history, count) else {
         return false;
     };
-    is_denied_by(history, count, &last, supposed(history, count, &last))
-        || is_denied_by(history, count, &last, supposed_entry(&last))
-        || is_denied_by(history, count, &last, supposed_tag(history, count, &last))
-        || is_denied_by(history, count, &last, supposed_page(history, count, &last))
-        || are_denying(
-            history,
-            count,
-            &last,
-            supposed_together(history, count, &last).as_slice(),
-        )
+    is_denied_by_one(history, count, &last) || is_denied_together(history, count, &last)
+}
+
+/// Whether one fact denies the reply, and holds.
+fn is_denied_by_one(history: &History, count: u32, last: &LastReturn<'_>) -> bool
+    requires { IsLastReturn history.now.recorded.events count last.now }
+    ensures { IsTrue result → LeadsNowhere (first_part count history.now.recorded) [] }
+{
+    is_denied_by(history, count, last, supposed(history, count, last))
+        || is_denied_by(history, count, last, supposed_entry(last))
+        || is_denied_by(history, count, last, supposed_tag(history, count, last))
+        || is_denied_by(history, count, last, supposed_page(history, count, last))
+}
+
+/// Whether several deny it together, and hold.
+fn is_denied_together(history: &History, count: u32, last: &LastReturn<'_>) -> bool
+    requires { IsLastReturn history.now.recorded.events count last.now }
+    ensures { IsTrue result → LeadsNowhere (first_part count history.now.recorded) [] }
+{
+    let named = supposed_together(history, count, last);
+    let of_rec = supposed_of_rec(history, count, last);
+    let inside = supposed_inside(history, count, last);
+    are_denying(history, count, last, named.as_slice())
+        || are_denying(history, count, last, of_rec.as_slice())
+        || are_denying(history, count, last, inside.as_slice())
 }
 
 /// Whether the fact, where one is supposed, denies the reply and holds.
@@ -57,8 +77,29 @@ fn are_denying(history: &History, count: u32, last: &LastReturn<'_>, facts: &[Fa
 {
     let _fact = history.well_formed();
     let _law = nowhere_denied();
+    deny_last(history, count, last, facts) && are_held(history, count, last.called, facts)
+}
+
+/// Whether the facts deny the reply, by themselves or where its CPU stands.
+fn deny_last(history: &History, count: u32, last: &LastReturn<'_>, facts: &[Fact]) -> bool
+    ensures { IsTrue result → laws.IsDenied history.now.recorded.config.granules (events_to count history.now.recorded.events) facts.now
+        last.now.cpu last.now.number last.now.call (reply_seen last.now.reply) }
+{
     deny(&history.config(), facts, &last.call, last.reply)
-        && are_held(history, count, last.called, facts)
+        || deny_inside_last(history, count, last, facts)
+}
+
+/// Whether the facts deny the reply where its CPU stands.
+fn deny_inside_last(history: &History, count: u32, last: &LastReturn<'_>, facts: &[Fact]) -> bool
+    ensures { IsTrue result → IsDeniedInside (events_to count history.now.recorded.events) facts.now last.now }
+{
+    if !matches!(last.call, Call::IpaStateGet { .. }) || count as usize > history.len() {
+        return false;
+    }
+    match standing_before(history, count, last.cpu, last.number) {
+        Some(standing) => deny_inside(facts, standing, &last.call, last.reply),
+        None => false,
+    }
 }
 
 /// Whether all the facts hold while the call may take effect that is made at the place.
@@ -77,6 +118,13 @@ fn are_held(history: &History, count: u32, place: u32, facts: &[Fact]) -> bool
 fn is_held(history: &History, count: u32, place: u32, fact: Fact) -> bool
     ensures { IsTrue result → laws.IsHeldAt fact (events_to count history.now.recorded.events) place }
 {
+    is_held_alone(history, count, place, fact) || is_held_with(history, count, place, fact)
+}
+
+/// Whether it does by itself.
+fn is_held_alone(history: &History, count: u32, place: u32, fact: Fact) -> bool
+    ensures { IsTrue result → laws.IsHeldAlone fact (events_to count history.now.recorded.events) place }
+{
     if count as usize > history.len() {
         return false;
     }
@@ -89,16 +137,52 @@ fn is_held(history: &History, count: u32, place: u32, fact: Fact) -> bool
     }
 }
 
+/// Whether a call makes it where another fact holds by itself, and none since may have ended it.
+fn is_held_with(history: &History, count: u32, place: u32, fact: Fact) -> bool
+    ensures { IsTrue result → IsHeldWith fact (events_to count history.now.recorded.events) place }
+{
+    if count as usize > history.len() {
+        return false;
+    }
+    let Some((maker, other)) = maker_with(history, count, place, fact) else {
+        return false;
+    };
+    let Some(done) = done_before(history, count, maker, place) else {
+        return false;
+    };
+    if !makes_with(other, fact, &done.call, done.reply) {
+        return false;
+    }
+    is_held_alone(history, count, maker, other)
+        && are_left(history, count, place, fact, Some(maker))
+}
+
 /// Whether the call made at the maker's place makes it so, and none since may have ended it.
 fn is_made(history: &History, count: u32, place: u32, fact: Fact, maker: u32) -> bool
     requires { count ≤ length history.now.recorded.events }
-    ensures { IsTrue result → laws.IsHeldAt fact (events_to count history.now.recorded.events) place }
+    ensures { IsTrue result → laws.IsHeldAlone fact (events_to count history.now.recorded.events) place }
 {
     match done_before(history, count, maker, place) {
         Some(done) => {
-            makes(fact, &done.call, done.reply)
+            is_made_by(history, count, fact, &done)
                 && are_left(history, count, place, fact, Some(maker))
         }
+        None => false,
+    }
+}
+
+/// Whether the call makes the fact, by what it says and is replied, or as a REC leaves there that its CPU stands in.
+pub(crate) fn is_made_by(history: &History, count: u32, fact: Fact, done: &Done<'_>) -> bool
+    ensures { IsTrue result → IsMadeBy fact (events_to count history.now.recorded.events) done.now }
+{
+    if makes(fact, &done.call, done.reply) {
+        return true;
+    }
+    if !matches!(done.call, Call::Exit) || count as usize > history.len() {
+        return false;
+    }
+    match standing_before(history, count, done.cpu, done.number) {
+        Some(standing) => leaves_with(fact, &done.call, standing),
         None => false,
     }
 }
@@ -108,7 +192,8 @@ fn are_left(history: &History, count: u32, place: u32, fact: Fact, maker: Option
     requires { count ≤ length history.now.recorded.events }
     ensures { IsTrue result → (at : ℕ) → IsLeftOrEarly fact (events_to count history.now.recorded.events) place maker at }
 {
-    for at in looked_from(history, count, maker)..count {
+    let to = looked_to(history, count, place);
+    for at in looked_from(history, count, maker)..to {
         if !is_left_or_early(history, count, place, fact, maker, at) {
             return false;
         }
@@ -130,6 +215,24 @@ fn looked_from(history: &History, count: u32, maker: Option<u32>) -> u32
         from
     } else {
         0
+    }
+}
+
+/// A place up to which each call is looked at: none that is made later comes before the one at the other place, which returned before it.
+fn looked_to(history: &History, count: u32, place: u32) -> u32
+    requires { count ≤ length history.now.recorded.events }
+    ensures within { result ≤ count }
+    ensures over { (at : ℕ) → result ≤ at → (count ≤ at) ⊎ laws.IsOver (events_to count history.now.recorded.events) place at }
+{
+    if place >= count {
+        return count;
+    }
+    let Some(call) = call_at(history, count, place) else {
+        return count;
+    };
+    match &call.answer {
+        Some(answer) if answer.place < count => answer.place + 1,
+        _ => count,
     }
 }
 

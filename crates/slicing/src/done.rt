@@ -12,6 +12,8 @@ use rmm_spec::Call;
 /// A call that was carried out.
 #[derive(Clone, Copy)]
 pub(crate) struct Done<'a> {
+    pub(crate) cpu: u8,
+    pub(crate) number: u32,
     pub(crate) call: Call,
     pub(crate) reply: ReplyRef<'a>,
     /// The place of its return.
@@ -37,6 +39,8 @@ pub(crate) fn done_before(
         return None;
     }
     Some(Done {
+        cpu: call.cpu,
+        number: call.number,
         call: call.call,
         reply: answer.reply,
         returned: answer.place,

@@ -1,6 +1,6 @@
 //! Which calls may end facts.
 
-ghost use Rattle.std.specs.Prelude.{◌≡◌, false, IsTrue};
+ghost use Rattle.std.specs.Prelude.{◌≡◌, ◌==◌, false, if◌then◌else◌, IsTrue};
 ghost use Rattle.rmm_spec.specs.declared.tag.Tag.TheVariants.{Data};
 ghost use Rattle.slicing.specs.Facts.{DoesNotEnd};
 ghost use Rattle.verdict_laws.specs.Facts as laws;
@@ -10,8 +10,9 @@ ghost use Rattle.verdict_laws.specs.declared.facts.Fact.TheVariants.{Tagged};
 use crate::call_at::CallAt;
 use crate::given_back::freed;
 use crate::kinds::changeable;
-use crate::making::{frees_entry, is_one_entry, is_one_table};
+use crate::making::{creates_page, creates_unknown, frees_entry, is_one_entry, is_one_table};
 use command_words::{Name, is_tag};
+use memory_map::entry_number;
 use rmm_spec::{Call, Tag};
 use verdict_laws::Fact;
 
@@ -30,12 +31,52 @@ pub(crate) fn is_left(fact: Fact, call: &CallAt<'_>) -> bool
         Fact::UnassignedRam { rd, ipa } => {
             !may_assign(&call.call, rd, ipa)
                 && !frees_entry(&call.call, rd, ipa)
-                && !may_set_ripas(&call.call, rd)
+                && !may_set_ripas(&call.call, rd, ipa)
         }
         Fact::Assigned { rd, ipa, .. } => {
             !may_assign(&call.call, rd, ipa) && !frees_entry(&call.call, rd, ipa)
         }
+        Fact::HasRipas { rd, ipa, ripas } => {
+            !may_reshape(&call.call, rd, ipa)
+                && !may_change(&call.call, rd, ipa, ripas)
+                && !may_set_ripas(&call.call, rd, ipa)
+                && !may_init(&call.call, rd)
+        }
+        Fact::Activated { rd } => !may_narrow(&call.call, rd),
+        Fact::OwnedBy { rec, .. } => !destroys(&call.call, rec),
+        Fact::Runnable { rec } => !destroys(&call.call, rec) && !turns_off(&call.call),
+        Fact::AsksFrom { rec, .. } => {
+            !destroys(&call.call, rec) && !enters(&call.call, rec) && !sets_request(&call.call, rec)
+        }
+        Fact::AsksTo { rec, .. } => !destroys(&call.call, rec) && !enters(&call.call, rec),
     }
+}
+
+#[tactic(auto, unfolding(verdict_laws::specs::Facts::enters))]
+fn enters(call: &Call, rec: u64) -> bool
+    ensures { result ≡ laws.enters call.now rec }
+{
+    match call {
+        Call::RecEnter { rec: other } => rec == *other,
+        _ => false,
+    }
+}
+
+#[tactic(auto, unfolding(verdict_laws::specs::Facts::sets_request))]
+fn sets_request(call: &Call, rec: u64) -> bool
+    ensures { result ≡ laws.sets_request call.now rec }
+{
+    match call {
+        Call::RttSetRipas { rec: other, .. } => rec == *other,
+        _ => false,
+    }
+}
+
+#[tactic(auto, unfolding(verdict_laws::specs::Facts::turns_off))]
+fn turns_off(call: &Call) -> bool
+    ensures { result ≡ laws.turns_off call.now }
+{
+    matches!(call, Call::CpuOff)
 }
 
 #[tactic(auto, unfolding(verdict_laws::specs::Facts::may_activate))]
@@ -89,22 +130,12 @@ fn may_share(call: &Call, rd: u64, vmid: u64) -> bool
     }
 }
 
-#[tactic(auto, unfolding(verdict_laws::specs::Facts::may_assign))]
-fn may_assign(call: &Call, rd: u64, ipa: u64) -> bool
-    ensures { result ≡ laws.may_assign call.now rd ipa }
+#[tactic(auto, unfolding(verdict_laws::specs::Facts::may_reshape))]
+fn may_reshape(call: &Call, rd: u64, ipa: u64) -> bool
+    ensures { result ≡ laws.may_reshape call.now rd ipa }
 {
     match call {
-        Call::DataCreate {
-            rd: other,
-            ipa: at,
-            ..
-        }
-        | Call::DataCreateUnknown {
-            rd: other,
-            ipa: at,
-            ..
-        }
-        | Call::RttMapUnprotected {
+        Call::RttMapUnprotected {
             rd: other,
             ipa: at,
             ..
@@ -128,12 +159,45 @@ fn may_assign(call: &Call, rd: u64, ipa: u64) -> bool
     }
 }
 
+/// Whether the call may put another entry in place of the address's, but for one whose page it takes back.
+fn may_assign(call: &Call, rd: u64, ipa: u64) -> bool
+    ensures { result ≡ laws.may_assign call.now rd ipa }
+{
+    may_reshape(call, rd, ipa) || creates_page(call, rd, ipa) || creates_unknown(call, rd, ipa)
+}
+
+/// Whether the call may change the RIPAS, by its number, as a page comes or goes.
+fn may_change(call: &Call, rd: u64, ipa: u64, ripas: u64) -> bool
+    ensures { result ≡ (if ripas == 1 then laws.frees_entry call.now rd ipa else laws.creates_page call.now rd ipa) }
+{
+    if ripas == 1 {
+        frees_entry(call, rd, ipa)
+    } else {
+        creates_page(call, rd, ipa)
+    }
+}
+
 #[tactic(auto, unfolding(verdict_laws::specs::Facts::may_set_ripas))]
-fn may_set_ripas(call: &Call, rd: u64) -> bool
-    ensures { result ≡ laws.may_set_ripas call.now rd }
+fn may_set_ripas(call: &Call, rd: u64, ipa: u64) -> bool
+    ensures { result ≡ laws.may_set_ripas call.now rd ipa }
 {
     match call {
-        Call::RttSetRipas { rd: other, .. } => rd == *other,
+        Call::RttSetRipas {
+            rd: other,
+            base,
+            top,
+            ..
+        } => rd == *other && entry_number(3, *base) <= entry_number(3, ipa) && ipa < *top,
+        _ => false,
+    }
+}
+
+#[tactic(auto, unfolding(verdict_laws::specs::Facts::may_init))]
+fn may_init(call: &Call, rd: u64) -> bool
+    ensures { result ≡ laws.may_init call.now rd }
+{
+    match call {
+        Call::RttInitRipas { rd: other, .. } => rd == *other,
         _ => false,
     }
 }

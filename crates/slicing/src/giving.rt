@@ -2,8 +2,9 @@
 
 ghost use Rattle.std.specs.Prelude.{◌≡◌, ◌-◌, ◌^◌, ◌<◌, true, IsTrue};
 ghost use Rattle.std.specs.List.{list_all, list_any};
-ghost use Rattle.verdict_laws.specs.Facts as laws;
+ghost use Rattle.verdict_laws.specs.Denying as laws;
 
+use crate::giving_recs::give_pages;
 use command_words::{Name, is_tag};
 use memory_map::{Config, granule_at};
 use rmm_spec::{Call, Tag};
@@ -42,6 +43,7 @@ fn gives_tag(facts: &[Fact], name: &Name, fact: Fact) -> bool
                 && is_tag(name.tag, Tag::Delegated)
                 && give_no_owner(facts, owner)
         }
+        Fact::AsksFrom { rec, .. } => name.granule == rec && is_tag(name.tag, Tag::Rec),
         _ => false,
     }
 }
@@ -65,7 +67,7 @@ fn gives_no_owner(owner: u64, fact: Fact) -> bool
 }
 
 /// Whether no row after those on words and tags refuses the call with ERROR_INPUT where the facts hold.
-#[tactic(auto, unfolding(verdict_laws::specs::Facts::are_within))]
+#[tactic(auto, unfolding(verdict_laws::specs::Denying::are_within))]
 pub(crate) fn are_within(facts: &[Fact], call: &Call) -> bool
     ensures { IsTrue result → laws.are_within facts.now call.now ≡ true }
 {
@@ -84,6 +86,7 @@ pub(crate) fn are_within(facts: &[Fact], call: &Call) -> bool
             *level >= 2 && give_half(facts, *rd, *ipa)
         }
         Call::RttReadEntry { rd, ipa, level } => *level >= 1 && give_half(facts, *rd, *ipa),
+        Call::RttSetRipas { rec, base, top, .. } => give_pages(facts, *rec, *base, *top),
         _ => false,
     }
 }

@@ -5,6 +5,7 @@ ghost use Rattle.rmi_view.specs.Seen.{reply_seen};
 ghost use Rattle.verdict_laws.specs.Facts as laws;
 
 use crate::given_back::leaves_unused;
+use crate::making_recs::{makes_owned, makes_runnable, moves_request};
 use crate::replying::SMALLEST_HALF;
 use command_words::is_tag;
 use memory_map::{entry_number, table_number};
@@ -27,7 +28,13 @@ pub(crate) fn begins(fact: Fact) -> bool
         | Fact::PartOf { .. }
         | Fact::Unassigned { .. }
         | Fact::UnassignedRam { .. }
-        | Fact::Assigned { .. } => false,
+        | Fact::Assigned { .. }
+        | Fact::HasRipas { .. }
+        | Fact::Activated { .. }
+        | Fact::OwnedBy { .. }
+        | Fact::Runnable { .. }
+        | Fact::AsksFrom { .. }
+        | Fact::AsksTo { .. } => false,
     }
 }
 
@@ -45,6 +52,54 @@ pub(crate) fn makes(fact: Fact, call: &Call, reply: ReplyRef<'_>) -> bool
         Fact::Unassigned { rd, ipa } => frees_entry(call, rd, ipa) || begins_entry(call, rd, ipa),
         Fact::UnassignedRam { rd, ipa } => sets_ram(call, reply, rd, ipa),
         Fact::Assigned { rd, ipa, page } => gives_entry(call, rd, ipa, page),
+        Fact::HasRipas { rd, ipa, ripas } => {
+            ripas == 1 && (sets_ram(call, reply, rd, ipa) || creates_page(call, rd, ipa))
+        }
+        Fact::Activated { rd } => activates(call, rd),
+        Fact::OwnedBy { rec, rd } => makes_owned(call, rec, rd),
+        Fact::Runnable { rec } => makes_runnable(call, rec),
+        Fact::AsksFrom { rec, base } => moves_request(call, reply, rec, base),
+        Fact::AsksTo { .. } => false,
+    }
+}
+
+/// Whether DATA_CREATE_UNKNOWN gives the address a page.
+#[tactic(auto, unfolding(verdict_laws::specs::Facts::creates_unknown))]
+pub(crate) fn creates_unknown(call: &Call, rd: u64, ipa: u64) -> bool
+    ensures { result ≡ laws.creates_unknown call.now rd ipa }
+{
+    match call {
+        Call::DataCreateUnknown {
+            rd: other,
+            ipa: at,
+            ..
+        } => rd == *other && is_one_entry(ipa, *at),
+        _ => false,
+    }
+}
+
+/// Whether DATA_CREATE gives the address a page.
+#[tactic(auto, unfolding(verdict_laws::specs::Facts::creates_page))]
+pub(crate) fn creates_page(call: &Call, rd: u64, ipa: u64) -> bool
+    ensures { result ≡ laws.creates_page call.now rd ipa }
+{
+    match call {
+        Call::DataCreate {
+            rd: other,
+            ipa: at,
+            ..
+        } => rd == *other && is_one_entry(ipa, *at),
+        _ => false,
+    }
+}
+
+#[tactic(auto, unfolding(verdict_laws::specs::Facts::activates))]
+fn activates(call: &Call, rd: u64) -> bool
+    ensures { result ≡ laws.activates call.now rd }
+{
+    match call {
+        Call::RealmActivate { rd: other } => rd == *other,
+        _ => false,
     }
 }
 
@@ -178,7 +233,7 @@ fn sets_ram(call: &Call, reply: ReplyRef<'_>, rd: u64, ipa: u64) -> bool
 
 /// Whether the reply has an end past the address, and not as far from the base as whole tables of the last level.
 #[tactic(auto, unfolding(rmm_spec::specs::Walk::table_size))]
-fn ends_past(base: u64, ipa: u64, reply: ReplyRef<'_>) -> bool
+pub(crate) fn ends_past(base: u64, ipa: u64, reply: ReplyRef<'_>) -> bool
     ensures { result ≡ laws.is_told_past base ipa (reply_seen reply.entry) }
 {
     match reply {

@@ -51,7 +51,7 @@ fn gives(call: &Call, words: &[u64]) -> bool
             Some(word) => is_ripas(word),
             None => false,
         },
-        Call::Exit => reports_exit(words),
+        Call::Exit => words.len() == 4,
         _ => words.is_empty(),
     }
 }
@@ -79,29 +79,6 @@ fn reports_entry(level: u64, words: &[u64]) -> bool
     ensures { result ≡ laws.reports_entry level words.now }
 {
     words.len() == 4 && words[0] <= level && words[1] <= 2 && is_ripas(words[3])
-}
-
-/// Whether the words report why a REC leaves.
-fn reports_exit(words: &[u64]) -> bool
-    ensures { result ≡ laws.reports_exit words.now }
-{
-    words.len() == 4
-        && (reports_change(words[0], words[1], words[2], words[3])
-            || reports_other(words[0], words[1], words[2], words[3]))
-}
-
-/// Whether a REC that leaves so asks for a RIPAS of some pages.
-fn reports_change(kind: u64, base: u64, top: u64, ripas: u64) -> bool
-    ensures { result ≡ laws.reports_change kind base top ripas }
-{
-    kind == 4 && is_page(base) && is_page(top) && is_ripas(ripas)
-}
-
-/// Whether it was interrupted, or made a call of PSCI or of its host, which has one word.
-fn reports_other(kind: u64, first: u64, second: u64, third: u64) -> bool
-    ensures { result ≡ laws.reports_other kind first second third }
-{
-    (kind == 1 && first == 0 || kind == 3 || kind == 5) && second == 0 && third == 0
 }
 
 /// Whether a stretch from base to top, of which some pages at its beginning are set, may end there.

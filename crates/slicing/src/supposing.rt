@@ -1,10 +1,11 @@
 //! Which facts may deny a reply, and which call made each. What is found isn't promised: it is checked.
 
+use crate::denied::is_made_by;
 use crate::denying::denies;
 use crate::done::{Done, done_before};
 use crate::given_back::freed;
 use crate::last_return::LastReturn;
-use crate::making::{makes, tags, takes_part};
+use crate::making::{tags, takes_part};
 use command_words::{Way, named, way_of, words_allow};
 use history::History;
 use rmi_view::ReplyRef;
@@ -32,7 +33,7 @@ pub(crate) struct Together {
 
 impl Together {
     /// None.
-    fn new() -> Self {
+    pub(crate) fn new() -> Self {
         Together {
             facts: [Fact::NewRealm { rd: 0 }; MOST_FACTS],
             count: 0,
@@ -45,7 +46,7 @@ impl Together {
     }
 
     /// Takes one more, where there is room.
-    fn push(&mut self, fact: Fact) {
+    pub(crate) fn push(&mut self, fact: Fact) {
         if let Some(place) = self.facts.get_mut(self.count) {
             *place = fact;
             self.count = self.count.saturating_add(1);
@@ -64,6 +65,7 @@ pub(crate) fn supposed_entry(last: &LastReturn<'_>) -> Option<Fact> {
         }
         Call::DataCreate { rd, ipa, .. } => Some(Fact::UnassignedRam { rd, ipa }),
         Call::RttInitRipas { rd, base, .. } => Some(Fact::Unassigned { rd, ipa: base }),
+        Call::RttReadEntry { rd, ipa, .. } => Some(Fact::Unassigned { rd, ipa }),
         _ => None,
     }
 }
@@ -99,9 +101,10 @@ fn page_given(history: &History, count: u32, place: u32, at: u32) -> Option<Fact
     }
 }
 
-/// What a refusal may deny of a realm or of its tables.
+/// What a reply may deny of a realm or of its tables.
 pub(crate) fn supposed(history: &History, count: u32, last: &LastReturn<'_>) -> Option<Fact> {
     match last.reply {
+        ReplyRef::Ok(words) => supposed_done(history, count, last, words),
         ReplyRef::Err(1, _) => wide_before(history, count, last),
         ReplyRef::Err(2, _) => Some(Fact::NewRealm {
             rd: realm_of(&last.call)?,
@@ -111,6 +114,25 @@ pub(crate) fn supposed(history: &History, count: u32, last: &LastReturn<'_>) -> 
         }
         _ => None,
     }
+}
+
+/// What may deny that a call is carried out which needs its realm new, or that it reports an entry above a table.
+fn supposed_done(
+    history: &History,
+    count: u32,
+    last: &LastReturn<'_>,
+    words: &[u64],
+) -> Option<Fact> {
+    if !matches!(last.call, Call::RttReadEntry { .. }) {
+        return Some(Fact::Activated {
+            rd: realm_of(&last.call)?,
+        });
+    }
+    if !words_allow(&last.call) {
+        return None;
+    }
+    let above = u8::try_from(*words.first()?).ok()?;
+    covered_below(history, count, last, way_of(&last.call)?, above)
 }
 
 /// What may deny together that a call is refused for what it says and names.
@@ -155,7 +177,7 @@ fn owner_before(history: &History, count: u32, place: u32, vmid: u64) -> Option<
 }
 
 /// How many bits the addresses have of the realm in whose tables the call walks, as the latest call says that made it.
-fn wide_before(history: &History, count: u32, last: &LastReturn<'_>) -> Option<Fact> {
+pub(crate) fn wide_before(history: &History, count: u32, last: &LastReturn<'_>) -> Option<Fact> {
     if !words_allow(&last.call) {
         return None;
     }
@@ -246,7 +268,7 @@ pub(crate) fn maker_before(history: &History, count: u32, place: u32, fact: Fact
     for back in 1..place.saturating_add(1) {
         let at = place.saturating_sub(back);
         if let Some(done) = done_at(history, count, place, at) {
-            if makes(fact, &done.call, done.reply) {
+            if is_made_by(history, count, fact, &done) {
                 return Some(at);
             }
         }
@@ -255,7 +277,7 @@ pub(crate) fn maker_before(history: &History, count: u32, place: u32, fact: Fact
 }
 
 /// The call that is made at one place, where it was carried out and returned before another.
-fn done_at(history: &History, count: u32, place: u32, at: u32) -> Option<Done<'_>> {
+pub(crate) fn done_at(history: &History, count: u32, place: u32, at: u32) -> Option<Done<'_>> {
     if count as usize > history.len() {
         return None;
     }

@@ -1,29 +1,38 @@
 -- Along an order: what holds before any line and stays so with each next one holds where a finished call's line comes.
-use Rattle.std.proofs.Common.{ℕ, List, [], ◌∷◌, ◌++◌, inl, inr, sym, subst, arith, append_assoc}
+use Rattle.std.proofs.Common.{ℕ, List, [], ◌∷◌, ◌++◌, inl, inr, take, sym, subst, arith, append_assoc}
 use Rattle.std.proofs.lemmas.Bool.{cases_lt}
 use Rattle.std.proofs.lemmas.List.{append-nil}
 use Rattle.std.proofs.lemmas.Option.{none-some}
+use Rattle.rmm_spec.specs.declared.command.Command.{Command}
+use Rattle.rmm_spec.specs.declared.event.Event.TheVariants.{Called}
 use Rattle.rmm_spec.specs.declared.line.Line.{Line}
+use Rattle.rmm_spec.specs.declared.reply.Reply.{Reply}
 use Rattle.rmm_spec.specs.HistoryText.{History, IsHistory}
 use Rattle.rmm_spec.specs.Run.{IsRun, JournalEntry}
-use Rattle.rmm_spec.specs.Linearization.{AreEntriesOf, IsFinished, IsLinearization, IsNamed, ReturnsBefore, cpu_named, number_named}
+use Rattle.rmm_spec.specs.Linearization.{AreEntriesOf, IsCalled, IsFinished, IsLinearization, IsNamed, IsReturned, ReturnsBefore, cpu_named, number_named}
 use Rattle.rmm_spec.specs.Sound.{IsSound}
 use Rattle.rmm_spec.specs.State.{State, opening}
 use Rattle.rmm_spec.specs.Step.{Step}
+use Rattle.lemmas.proofs.Elements.{slice_get-take}
+use Rattle.spec_lemmas.proofs.Calls.{same_command}
+use Rattle.spec_lemmas.proofs.HistoryGrammar.{IsHistory-take}
+use Rattle.checker.proofs.Judging.{HasOnePlaces-from_history}
 use Rattle.rmm_laws.proofs.Runs.{opened_run_sound}
 use Rattle.verdict_laws.specs.Order.{IsNext, LeadsNowhere, Reaches, count_of}
+use Rattle.verdict_laws.specs.Parts.{first_part}
 use Rattle.verdict_laws.proofs.Counts.{IsNamed-push_cases}
 use Rattle.verdict_laws.proofs.Growth.{Reaches-nil}
 use Rattle.verdict_laws.proofs.Nowhere.{nowhere_past}
 use Rattle.verdict_laws.proofs.Reached.{IsNext-linear, Reaches-linear}
 use Rattle.verdict_laws.proofs.SliceLines.{Claim, Names}
 
--- Lines of an order have led to the state, and the next one's commit leads on. They name each call that returned before its call was made, and none
--- that was made after its call returned.
+-- Lines of an order have led to the state, and the next one's commit leads on. They don't name its call, but each call that returned before its call
+-- was made, and none that was made after its call returned.
 pub record LeadsOn (history : History) (lines : List Line) (s : State) (c : Claim history.events) (new : State) : Type 0 where
   pub sound : IsSound s
   pub next : IsNext history.events lines c.line
   pub step : Step s c.entry.cpu c.entry.command c.entry.given new
+  pub fresh : ¬ IsNamed lines (cpu_named c.line) (number_named c.line)
   pub earlier : (cpu number : ℕ) → ReturnsBefore history.events cpu number (cpu_named c.line) (number_named c.line) → IsNamed lines cpu number
   pub in_time : (cpu number : ℕ) → IsNamed lines cpu number → ¬ ReturnsBefore history.events (cpu_named c.line) (number_named c.line) cpu number
 
@@ -37,6 +46,10 @@ module _ (history : History) (is_history : IsHistory history) where
         sound = opened_run_sound history.config reached.passes.entries s reached.passes.run.run;
         next = next;
         step = step;
+        fresh = λ named.
+            let below = reached.named (cpu_named c.line) (number_named c.line) named in
+            let at = next.numbered in
+            omega (arith, below, at);
         earlier = λ cpu number returns. elim (cases_lt number (count_of cpu lines)) [
           | inl below ↦ reached.first cpu number below
           | inr above ↦
@@ -82,3 +95,19 @@ module _ (history : History) (is_history : IsHistory history) where
           never lines [] valid.entries (opening history.config) valid.last valid (Reaches-nil history) is (λ named. none-some named.1 named.2)
           valid.run.claimed valid.run.run;
     }
+
+-- ---- first events
+
+-- a call whose return is one of a history's first events is made in one of them
+pub called_first : (history : History) (count cpu number called returned : ℕ) (command : Command) (given : Reply) → IsHistory history
+    → IsCalled history.events called cpu number command → IsReturned (take count history.events) returned cpu number given
+    → IsCalled (take count history.events) called cpu number command
+called_first history count cpu number called returned command given is_history is_called is_returned =
+    let part = take count history.events in
+    let one = HasOnePlaces-from_history history is_history in
+    let known = (HasOnePlaces-from_history (first_part count history) (IsHistory-take count history is_history)).is_known cpu number
+    (returned, given, is_returned) in
+    let within = (slice_get-take count history.events known.0 (Called cpu number known.1) known.2).1 in
+    let at = one.one_call known.0 called cpu number known.1 command within is_called in
+    let same = same_command history.events one known.0 called cpu number known.1 command within is_called in
+    subst (λ (m : Command). IsCalled part called cpu number m) same (subst (λ (p : ℕ). IsCalled part p cpu number known.1) at known.2)

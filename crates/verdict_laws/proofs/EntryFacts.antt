@@ -2,7 +2,7 @@
 -- call may replace it, and is found so.
 use Rattle.std.proofs.Common.{◌≡◌, ℕ, ◌-◌, ◌*◌, ◌/◌, ◌^◌, ◌<◌, ◌==◌, ◌&&◌, ◌||◌, nat_lt, Bool, true, false, IsTrue, Option, Some, None, inl, inr, refl, sym, ◌∙◌, ap, subst, eqb-true, eq-eqb, arith, option_map}
 use Rattle.std.proofs.Math.Bool.{or-false}
-use Rattle.std.proofs.lemmas.Bool.{and_from, and_parts, ltb-true, or_cases}
+use Rattle.std.proofs.lemmas.Bool.{and_from, and_parts, ltb-true, or_cases, or_parts}
 use Rattle.rmm_spec.specs.declared.call.Call.{Call}
 use Rattle.rmm_spec.specs.declared.call.Call.TheVariants as call
 use Rattle.rmm_spec.specs.declared.command.Command.{Command}
@@ -27,8 +27,10 @@ use Rattle.spec_lemmas.proofs.Behind.{behind}
 use Rattle.rmm_laws.proofs.Ends.{table_number-above}
 use Rattle.rmm_laws.proofs.Entries.{leaf_fits, leaf_there}
 use Rattle.rmm_laws.proofs.Walked.{entry_starts, table_number-entry}
-use Rattle.verdict_laws.specs.Facts.{frees_entry, is_free, is_one_entry, is_one_table, is_refused_with, makes_table, may_assign, needs_free}
-use Rattle.verdict_laws.proofs.EntryChanges.{leaf-left, leaf_found, leaf_reached, same_entry-last}
+use Rattle.verdict_laws.specs.declared.facts.Fact.TheVariants as fact
+use Rattle.verdict_laws.specs.Denying.{denies, is_other_entry, is_refused_with, needs_free, reads_entry}
+use Rattle.verdict_laws.specs.Facts.{creates_page, creates_unknown, frees_entry, is_free, is_one_entry, is_one_table, makes_table, may_assign, may_reshape}
+use Rattle.verdict_laws.proofs.EntryChanges.{leaf-left, leaf_found, leaf_reached, read-denied, same_entry-last}
 use Rattle.verdict_laws.proofs.FactSteps.{are_told, step-untold_allowed}
 use Rattle.verdict_laws.proofs.Replies.{half-least, one_page}
 use Rattle.verdict_laws.proofs.TagFacts.{IsCarried, carried_by}
@@ -136,9 +138,19 @@ entry-made rd ipa s new cpu command given sound step accepted =
 pub entry-left : (rd ipa : ℕ) (s new : State) (cpu : ℕ) (command : Command) (given : Reply) → IsSound s → Step s cpu command given new
     → may_assign (call_of command) rd ipa ≡ false → is_free (s.leaf rd 3 (entry_number 3 ipa)) ≡ true
     → is_free (new.leaf rd 3 (entry_number 3 ipa)) ≡ true
-entry-left rd ipa s new cpu command given sound step stays =
-    leaf-left is_free rd ipa s new cpu command given sound step
-    (record { stays = stays; freed = λ ripas. refl; init = ripas_free Ram; requested = λ ripas _. ripas_free ripas })
+entry-left rd ipa s new cpu command given sound step stays free =
+    let c = call_of command in
+    let there = free_there (s.leaf rd 3 (entry_number 3 ipa)) free in
+    let parts = or_parts (may_reshape c rd ipa || creates_page c rd ipa) (creates_unknown c rd ipa) stays in
+    let both = or_parts (may_reshape c rd ipa) (creates_page c rd ipa) parts.0 in
+    leaf-left is_free rd ipa s cpu sound (Unassigned there.0) there.1 refl new command given step (record {
+      stays = both.0;
+      given = λ granule creates. both_ways creates both.1;
+      unknown = λ granule creates. both_ways creates parts.1;
+      freed = λ _. refl;
+      init = λ _. ripas_free Ram;
+      requested = λ ripas _. ripas_free ripas;
+    }) refl
 
 -- no page is taken back from it
 destroy_denied : (rd ipa : ℕ) (s new : State) (cpu : ℕ) (given : Reply) (c : Call) → IsSound s → IsCarried s cpu c given new
@@ -149,17 +161,22 @@ destroy_denied rd ipa s new cpu given (call.DataDestroy other at) sound carried 
     both_ways carried.rows.1.1.0 (ap is_assigned (leaf_found s sound rd ipa (Unassigned there.0) there.1 other at frees refl))
 destroy_denied rd ipa s new cpu given _ sound carried free frees = both_ways frees refl
 
--- nor is it refused to be given a page, or its RIPAS to be set
+-- nor is it refused to be given a page, or its RIPAS to be set, or read as another
 pub entry-denied : (rd ipa : ℕ) (s new : State) (cpu : ℕ) (command : Command) (given : Reply) → IsSound s → Step s cpu command given new
-    → is_free (s.leaf rd 3 (entry_number 3 ipa)) ≡ true
-    → ((is_accepted given && frees_entry (call_of command) rd ipa) || (is_refused_with 4 given && needs_free (call_of command) rd ipa)) ≡ true → ⊥
+    → is_free (s.leaf rd 3 (entry_number 3 ipa)) ≡ true → denies (fact.Unassigned rd ipa) (call_of command) given ≡ true → ⊥
 entry-denied rd ipa s new cpu command given sound step free denied =
     let c = call_of command in
-    elim (or_cases (is_accepted given && frees_entry c rd ipa) (is_refused_with 4 given && needs_free c rd ipa) denied) [
-      | inl taken ↦
-          (let parts = and_parts (is_accepted given) (frees_entry c rd ipa) taken in
-          let carried = carried_by s cpu command given new (outcome s cpu c) sound parts.0 refl step in
-          destroy_denied rd ipa s new cpu given c sound carried free parts.1)
+    let reads = reads_entry c rd ipa && is_other_entry 0 0 given in
+    let there = free_there (s.leaf rd 3 (entry_number 3 ipa)) free in
+    elim (or_cases (is_accepted given && (frees_entry c rd ipa || reads)) (is_refused_with 4 given && needs_free c rd ipa) denied) [
+      | inl done ↦
+          (let parts = and_parts (is_accepted given) (frees_entry c rd ipa || reads) done in
+          elim (or_cases (frees_entry c rd ipa) reads parts.1) [
+            | inl taken ↦
+                (let carried = carried_by s cpu command given new (outcome s cpu c) sound parts.0 refl step in
+                destroy_denied rd ipa s new cpu given c sound carried free taken)
+            | inr read ↦ read-denied rd ipa s new cpu command given sound step (Unassigned there.0) there.1 refl parts.0 read
+          ])
       | inr refused ↦
           (let parts = and_parts (is_refused_with 4 given) (needs_free c rd ipa) refused in
           both_ways parts.0 (step-untold_allowed (is_refused_with 4) (λ words. refl) refl refl s new cpu command given

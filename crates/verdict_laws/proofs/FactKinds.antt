@@ -10,13 +10,17 @@ use Rattle.rmm_spec.specs.State.{State, opening}
 use Rattle.rmm_spec.specs.Step.{Step}
 use Rattle.lemmas.proofs.Tests.{both_ways}
 use Rattle.verdict_laws.specs.declared.facts.Fact.{Fact}
-use Rattle.verdict_laws.specs.declared.facts.Fact.TheVariants.{NewRealm, Tagged, Covered, Wide, SoleVmid, PartOf, Unassigned, UnassignedRam, Assigned}
-use Rattle.verdict_laws.specs.Facts.{begins, denies, holds, makes, may_end}
+use Rattle.verdict_laws.specs.declared.facts.Fact.TheVariants.{NewRealm, Tagged, Covered, Wide, SoleVmid, PartOf, Unassigned, UnassignedRam, Assigned, HasRipas, Activated, OwnedBy, Runnable, AsksFrom, AsksTo}
+use Rattle.verdict_laws.specs.Denying.{denies}
+use Rattle.verdict_laws.specs.Facts.{begins, holds, makes, may_end}
 use Rattle.verdict_laws.proofs.EntryFacts.{entry-denied, entry-left, entry-made}
 use Rattle.verdict_laws.proofs.PageFacts.{page-denied, page-left, page-made}
 use Rattle.verdict_laws.proofs.PartFacts.{part-left, part-made}
 use Rattle.verdict_laws.proofs.RamFacts.{ram-denied, ram-left, ram-made}
 use Rattle.verdict_laws.proofs.RealmFacts.{realm-denied, realm-left, realm-made}
+use Rattle.verdict_laws.proofs.RecFacts.{from-denied, from-left, from-made, owned-left, owned-made, runnable-left, runnable-made, to-left}
+use Rattle.verdict_laws.proofs.RipasFacts.{ripas-denied, ripas-left, ripas-made}
+use Rattle.verdict_laws.proofs.RunFacts.{run-denied, run-left, run-made}
 use Rattle.verdict_laws.proofs.TableFacts.{table-denied, table-left, table-made}
 use Rattle.verdict_laws.proofs.TagFacts.{tag-denied, tag-left, tag-made}
 use Rattle.verdict_laws.proofs.VmidFacts.{vmid-left, vmid-made, vmid-opening}
@@ -34,6 +38,12 @@ holds-opening (PartOf granule owner) config is = is
 holds-opening (Unassigned rd ipa) config is = is
 holds-opening (UnassignedRam rd ipa) config is = is
 holds-opening (Assigned rd ipa page) config is = is
+holds-opening (HasRipas rd ipa ripas) config is = is
+holds-opening (Activated rd) config is = is
+holds-opening (OwnedBy rec rd) config is = is
+holds-opening (Runnable rec) config is = is
+holds-opening (AsksFrom rec base) config is = is
+holds-opening (AsksTo rec top ripas) config is = is
 
 -- a call that makes it, and is carried out, leaves it so
 pub holds-made : (fact : Fact) (s new : State) (cpu : ℕ) (command : Command) (given : Reply) → IsSound s → Step s cpu command given new
@@ -47,6 +57,12 @@ holds-made (PartOf granule owner) s new cpu command given sound = part-made gran
 holds-made (Unassigned rd ipa) s new cpu command given sound = entry-made rd ipa s new cpu command given sound
 holds-made (UnassignedRam rd ipa) s new cpu command given sound = ram-made rd ipa s new cpu command given sound
 holds-made (Assigned rd ipa page) s new cpu command given sound = page-made rd ipa page s new cpu command given
+holds-made (HasRipas rd ipa ripas) s new cpu command given sound = λ step. ripas-made rd ipa ripas s new cpu command given sound step
+holds-made (Activated rd) s new cpu command given sound = run-made rd s new cpu command given
+holds-made (OwnedBy rec rd) s new cpu command given sound = λ step. owned-made rec s new cpu command given sound step rd
+holds-made (Runnable rec) s new cpu command given sound = λ step. runnable-made rec s new cpu command given sound step
+holds-made (AsksFrom rec base) s new cpu command given sound = λ step. from-made rec s new cpu command given sound step base
+holds-made (AsksTo rec top ripas) s new cpu command given sound = λ step accepted made. both_ways made refl
 
 -- a call that may not end it leaves it
 pub holds-left : (fact : Fact) (s new : State) (cpu : ℕ) (command : Command) (given : Reply) → IsSound s → Step s cpu command given new
@@ -60,16 +76,28 @@ holds-left (PartOf granule owner) s new cpu command given sound = part-left gran
 holds-left (Unassigned rd ipa) s new cpu command given sound = entry-left rd ipa s new cpu command given sound
 holds-left (UnassignedRam rd ipa) s new cpu command given sound = ram-left rd ipa s new cpu command given sound
 holds-left (Assigned rd ipa page) s new cpu command given sound = page-left rd ipa page s new cpu command given sound
+holds-left (HasRipas rd ipa ripas) s new cpu command given sound = λ step. ripas-left rd ipa ripas s new cpu command given sound step
+holds-left (Activated rd) s new cpu command given sound = run-left rd s new cpu command given
+holds-left (OwnedBy rec rd) s new cpu command given sound = λ step. owned-left rec s new cpu command given sound step rd
+holds-left (Runnable rec) s new cpu command given sound = λ step. runnable-left rec s new cpu command given sound step
+holds-left (AsksFrom rec base) s new cpu command given sound = λ step. from-left rec s new cpu command given sound step base
+holds-left (AsksTo rec top ripas) s new cpu command given sound = λ step. to-left rec s new cpu command given sound step top ripas
 
 -- where it holds, no call is given a reply that denies it
 pub held-denies : (fact : Fact) (s new : State) (cpu : ℕ) (command : Command) (given : Reply) → IsSound s → Step s cpu command given new
     → holds fact s ≡ true → denies fact (call_of command) given ≡ true → ⊥
 held-denies (NewRealm rd) s new cpu command given sound = realm-denied rd s new cpu command given
 held-denies (Tagged granule tag) s new cpu command given sound = tag-denied granule tag s new cpu command given sound
-held-denies (Covered rd level ipa) s new cpu command given sound = table-denied rd level ipa s new cpu command given
+held-denies (Covered rd level ipa) s new cpu command given sound = λ step is. table-denied rd level ipa s new cpu command sound is given step
 held-denies (Wide rd width) s new cpu command given sound = wide-denied rd width s new cpu command given sound
 held-denies (SoleVmid rd vmid) s new cpu command given sound = λ step is denied. both_ways denied refl
 held-denies (PartOf granule owner) s new cpu command given sound = λ step is denied. both_ways denied refl
 held-denies (Unassigned rd ipa) s new cpu command given sound = entry-denied rd ipa s new cpu command given sound
 held-denies (UnassignedRam rd ipa) s new cpu command given sound = ram-denied rd ipa s new cpu command given sound
 held-denies (Assigned rd ipa page) s new cpu command given sound = page-denied rd ipa page s new cpu command given sound
+held-denies (HasRipas rd ipa ripas) s new cpu command given sound = λ step. ripas-denied rd ipa ripas s new cpu command given sound step
+held-denies (Activated rd) s new cpu command given sound = run-denied rd s new cpu command given sound
+held-denies (OwnedBy rec rd) s new cpu command given sound = λ step is denied. both_ways denied refl
+held-denies (Runnable rec) s new cpu command given sound = λ step is denied. both_ways denied refl
+held-denies (AsksFrom rec base) s new cpu command given sound = λ step. from-denied rec s new cpu command given sound step base
+held-denies (AsksTo rec top ripas) s new cpu command given sound = λ step is denied. both_ways denied refl

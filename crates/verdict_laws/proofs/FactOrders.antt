@@ -4,6 +4,7 @@ use Rattle.std.specs.List.{slice_get}
 use Rattle.std.proofs.lemmas.List.Elements.{All-weaker}
 use Rattle.std.proofs.lemmas.Option.{none-some}
 use Rattle.rmm_spec.specs.declared.command.Command.{Command}
+use Rattle.rmm_spec.specs.declared.event.Event.{Event}
 use Rattle.rmm_spec.specs.declared.event.Event.TheVariants.{Called}
 use Rattle.rmm_spec.specs.declared.line.Line.{Line}
 use Rattle.rmm_spec.specs.declared.reply.Reply.{Reply}
@@ -13,38 +14,57 @@ use Rattle.rmm_spec.specs.Linearization.{IsCalled, IsNamed, IsReturned, cpu_name
 use Rattle.rmm_spec.specs.Ownership.{is_accepted}
 use Rattle.rmm_spec.specs.Run.{JournalEntry}
 use Rattle.rmm_spec.specs.State.{State, opening}
-use Rattle.lemmas.proofs.Elements.{slice_get-take}
-use Rattle.spec_lemmas.proofs.Calls.{same_command}
 use Rattle.spec_lemmas.proofs.HistoryGrammar.{IsHistory-take}
 use Rattle.checker.proofs.Judging.{HasOnePlaces-from_history}
 use Rattle.rmm_laws.proofs.StepLaws.{step-keeps, step-refuses}
 use Rattle.verdict_laws.specs.declared.facts.Fact.{Fact}
-use Rattle.verdict_laws.specs.Facts.{AreHeldAt, IsHeldAt, IsLeftAt, deny, holds, makes}
-use Rattle.verdict_laws.specs.Order.{LeadsNowhere}
+use Rattle.verdict_laws.specs.declared.placing.Standing.{Standing}
+use Rattle.verdict_laws.specs.Denying.{deny, deny_inside}
+use Rattle.verdict_laws.specs.Facts.{holds, leaves_with, makes, makes_with}
+use Rattle.verdict_laws.specs.HeldFacts.{AreHeldAt, IsDenied, IsHeldAlone, IsHeldAt, IsLeftAt, IsLeftSince, IsMadeBy}
+use Rattle.verdict_laws.specs.Order.{LeadsNowhere, count_of}
 use Rattle.verdict_laws.specs.Parts.{first_part}
+use Rattle.verdict_laws.specs.Placing.{StandsBefore}
 use Rattle.verdict_laws.specs.Slices.{IsDoneBefore}
-use Rattle.verdict_laws.proofs.AlongOrders.{LeadsOn, nowhere-along}
-use Rattle.verdict_laws.proofs.Counts.{IsNamed-push_cases}
+use Rattle.verdict_laws.proofs.AlongOrders.{LeadsOn, called_first, nowhere-along}
+use Rattle.verdict_laws.proofs.Counts.{IsNamed-last, IsNamed-push, IsNamed-push_cases}
 use Rattle.verdict_laws.proofs.FactKinds.{holds-left, holds-made, holds-opening}
 use Rattle.verdict_laws.proofs.Looked.{looks-keep}
-use Rattle.verdict_laws.proofs.ManyFacts.{held-deny}
-use Rattle.verdict_laws.proofs.SliceLines.{Claim, claimed_reply, of_named}
+use Rattle.verdict_laws.proofs.ManyFacts.{held-deny, held-deny_inside}
+use Rattle.verdict_laws.proofs.RecFacts.{leaves-made}
+use Rattle.verdict_laws.proofs.RipasFacts.{with-made}
+use Rattle.verdict_laws.proofs.SliceLines.{Claim, Names, claimed_reply, of_named}
+use Rattle.verdict_laws.proofs.Standings.{AreWhere, AreWhere-nil, AreWhere-push, standing_of}
 use Rattle.verdict_laws.proofs.SliceUnused.{comes_to_nothing, named_call, returns_before}
 
 -- A call of the history returned with a reply that facts deny which hold at its place.
 module _ (history : History) (is_history : IsHistory history) (called cpu number returned : ℕ) (command : Command) (given : Reply)
     (facts : List Fact) (is_called : IsCalled history.events called cpu number command)
     (is_returned : IsReturned history.events returned cpu number given) (are_held : AreHeldAt facts history.events called)
-    (denied : deny history.config.granules facts (call_of command) given ≡ true) where
-  -- a fact that is held is due from the first on, or behind lines that name the call which makes it
-  abbrev IsDue : (fact : Fact) → IsHeldAt fact history.events called → List Line → Type 0
-  IsDue fact (inl begun) lines = Unit {0}
-  IsDue fact (inr made) lines = IsNamed lines made.0.cpu made.0.number
+    (denied : IsDenied history.config.granules history.events facts cpu number (call_of command) given) where
+  -- the history's events
+  abbrev events : List Event
+  events = history.events
 
-  -- the machine is the history's, and each that is due holds
+  -- a fact that is held is due from the first on, or behind lines that name the call which makes it
+  abbrev IsDueAlone : (fact : Fact) (place : ℕ) → IsHeldAlone fact events place → List Line → Type 0
+  IsDueAlone fact place (inl begun) lines = Unit {0}
+  IsDueAlone fact place (inr made) lines = IsNamed lines made.0.cpu made.0.number
+
+  abbrev IsDue : (fact : Fact) (place : ℕ) → IsHeldAt fact events place → List Line → Type 0
+  IsDue fact place (inl alone) lines = IsDueAlone fact place alone lines
+  IsDue fact place (inr made) lines = IsNamed lines made.0.cpu made.0.number
+
+  -- no line names the call that is made at the place
+  abbrev IsAhead : List Line → ℕ → Type 0
+  IsAhead lines place = (k n : ℕ) (asked : Command) → IsCalled events place k n asked → ¬ IsNamed lines k n
+
+  -- The machine is the history's, each CPU is where its lines leave it, and each fact that is due holds until the line of the call comes at whose
+  -- place it is held.
   abbrev HoldDue : List Line → State → Type 0
   HoldDue lines s =
-      (s.config ≡ history.config) × ((fact : Fact) (held : IsHeldAt fact history.events called) → IsDue fact held lines → holds fact s ≡ true)
+      (s.config ≡ history.config) × AreWhere history is_history lines s
+      × ((place : ℕ) (fact : Fact) (held : IsHeldAt fact events place) → IsDue fact place held lines → IsAhead lines place → holds fact s ≡ true)
 
   -- lines of an order have led to the state, where each that is due holds, and the next one comes
   module _ (lines : List Line) (s new : State) (c : Claim history.events) (leads : LeadsOn history lines s c new) (hold : HoldDue lines s) where
@@ -53,95 +73,178 @@ module _ (history : History) (is_history : IsHistory history) (called cpu number
     e = c.entry
 
     -- and its reply, if its call returned
-    claims_reply : (back : ℕ) (answered : Reply) → IsReturned history.events back (cpu_named c.line) (number_named c.line) answered
-        → e.given ≡ answered
+    claims_reply : (back : ℕ) (answered : Reply) → IsReturned events back (cpu_named c.line) (number_named c.line) answered → e.given ≡ answered
     claims_reply back answered is_back =
-        claimed_reply history.events (HasOnePlaces-from_history history is_history) c.line c.kind e.given answered back c.is_entry.given is_back
+        claimed_reply events (HasOnePlaces-from_history history is_history) c.line c.kind e.given answered back c.is_entry.given is_back
 
-    -- the line of a call that is made at its place, and returned, claims that call's command and reply
-    claims : (at back k n : ℕ) (asked : Command) (answered : Reply) → IsCalled history.events at k n asked
-        → IsReturned history.events back k n answered → c.is_entry.called ≡ at → (e.command ≡ asked) × (e.given ≡ answered)
-    claims at back k n asked answered is_made is_back same =
+    -- the line of a call that is made at its place is that call's, with its command
+    claims_call : (at k n : ℕ) (asked : Command) → IsCalled events at k n asked → c.is_entry.called ≡ at → (e.command ≡ asked) × Names k n c
+    claims_call at k n asked is_made same =
         let both : Some (Called (cpu_named c.line) (number_named c.line) e.command) ≡ Some (Called k n asked) =
-        sym c.is_entry.is_called ∙ ap (λ (p : ℕ). slice_get history.events p) same ∙ is_made in
-        (cc, claims_reply back answered (of_named (λ x y. IsReturned history.events back x y answered) k n c (cc, cc) is_back))
+        sym c.is_entry.is_called ∙ ap (λ (p : ℕ). slice_get events p) same ∙ is_made in
+        (cc, (cc, cc))
 
-    -- where the call's line is next, each fact that is held is due
-    due_there : c.is_entry.called ≡ called → (fact : Fact) (held : IsHeldAt fact history.events called) → IsDue fact held lines
-    due_there same fact (inl begun) = tt
-    due_there same fact (inr (maker, made, left)) =
-        leads.earlier maker.cpu maker.number (returns_before history is_history maker.cpu maker.number c
-        (maker.returned, maker.given, maker.is_returned, subst (λ (p : ℕ). maker.returned < p) (sym same) maker.back))
+    -- and its reply, if that returned
+    claims : (at back k n : ℕ) (asked : Command) (answered : Reply) → IsCalled events at k n asked → IsReturned events back k n answered
+        → c.is_entry.called ≡ at → (e.command ≡ asked) × (e.given ≡ answered) × Names k n c
+    claims at back k n asked answered is_made is_back same =
+        let call = claims_call at k n asked is_made same in
+        (call.0, claims_reply back answered (of_named (λ x y. IsReturned events back x y answered) k n c call.1 is_back), call.1)
 
-    -- so it isn't the call's
+    -- its CPU stands there, if it does before the call
+    stands_there : (k n : ℕ) (standing : Standing) → Names k n c → StandsBefore events k n standing → standing_of s e.cpu ≡ standing
+    stands_there k n standing names stands =
+        let counted : count_of k lines ≡ n = sym (leads.next.numbered ∙ ap (λ (x : ℕ). count_of x lines) names.0) ∙ names.1 in
+        ap (standing_of s) (c.is_entry.cpu ∙ names.0)
+        ∙ hold.1 k standing (subst (λ (x : ℕ). StandsBefore events k x standing) (sym counted) stands)
+
+    module _ (place : ℕ) (same : c.is_entry.called ≡ place) where
+      -- where a call's line is next, each fact that is held at its place is due
+      due_there : (maker : IsDoneBefore events place) → IsNamed lines maker.cpu maker.number
+      due_there maker =
+          leads.earlier maker.cpu maker.number (returns_before history is_history maker.cpu maker.number c
+          (maker.returned, maker.given, maker.is_returned, subst (λ (p : ℕ). maker.returned < p) (sym same) maker.back))
+
+      due_alone : (fact : Fact) (held : IsHeldAlone fact events place) → IsDueAlone fact place held lines
+      due_alone fact (inl begun) = tt
+      due_alone fact (inr made) = due_there made.0
+
+      due_at : (fact : Fact) (held : IsHeldAt fact events place) → IsDue fact place held lines
+      due_at fact (inl alone) = due_alone fact alone
+      due_at fact (inr made) = due_there made.0
+
+      -- and no line before names the call
+      ahead_there : IsAhead lines place
+      ahead_there k n asked is_made named =
+          let names = (claims_call place k n asked is_made same).1 in
+          leads.fresh (subst (λ x. IsNamed lines x (number_named c.line)) (sym names.0) (subst (λ y. IsNamed lines k y) (sym names.1) named))
+
+      -- so it holds
+      holds_there : (fact : Fact) → IsHeldAt fact events place → holds fact s ≡ true
+      holds_there fact held = hold.2 place fact held (due_at fact held) ahead_there
+
+    -- the next line isn't the call's whose reply is denied
     other_call : ¬ (c.is_entry.called ≡ called)
     other_call same =
         let told = claims called returned cpu number command given is_called is_returned same in
-        let all = All-weaker (λ fact. IsHeldAt fact history.events called) (λ fact. holds fact s ≡ true)
-        (λ fact held. hold.1 fact held (due_there same fact held)) facts are_held in
-        held-deny s leads.sound facts all history.config.granules new e.cpu e.command e.given (λ i. (hold.0 i).granules)
-        leads.step ((λ i. deny history.config.granules facts (call_of (told.0 i)) (told.1 i)) ∙ denied)
+        let all = All-weaker (λ fact. IsHeldAt fact events called) (λ fact. holds fact s ≡ true) (holds_there called same) facts are_held in
+        elim denied [
+          | inl alone ↦
+              held-deny s leads.sound facts all new e.cpu e.command e.given leads.step history.config.granules (λ i. (hold.0 i).granules)
+              ((λ i. deny history.config.granules facts (call_of (told.0 i)) (told.1 i)) ∙ alone)
+          | inr (standing, stands, inside) ↦
+              held-deny_inside s leads.sound facts all new e.cpu e.command e.given standing leads.step
+              (stands_there cpu number standing told.2 stands)
+              ((λ i. deny_inside facts standing (call_of (told.0 i)) (told.1 i)) ∙ inside)
+        ]
 
-    module _ (fact : Fact) where
-      -- a fact that the line leaves holds still
-      holds-behind : IsLeftAt fact history.events called c.is_entry.called (cpu_named c.line) (number_named c.line) e.command
-          → holds fact s ≡ true → holds fact new ≡ true
-      holds-behind (inl nothing) is =
+    module _ (place : ℕ) (fact : Fact) where
+      -- a fact that the line leaves holds still, if the call at the place is neither its own nor one of those before
+      holds-behind : ¬ (c.is_entry.called ≡ place) → IsAhead lines place
+          → IsLeftAt fact events place c.is_entry.called (cpu_named c.line) (number_named c.line) e.command → holds fact s ≡ true
+          → holds fact new ≡ true
+      holds-behind other ahead (inl nothing) is =
           let kept : new ≡ s = elim (comes_to_nothing history is_history ⊥ c nothing) [
             | inl looks ↦ looks-keep s new e.cpu e.command e.given looks leads.step
             | inr (inl refused) ↦ step-refuses s new e.cpu e.command e.given leads.step refused
-            | inr (inr other) ↦ absurd other
+            | inr (inr never) ↦ absurd never
           ] in
           ap (holds fact) kept ∙ is
-      holds-behind (inr (inl same)) is = absurd (other_call same)
-      holds-behind (inr (inr left)) is =
+      holds-behind other ahead (inr (inl same)) is = absurd (other same)
+      holds-behind other ahead (inr (inr (inl over))) is =
+          absurd (ahead over.cpu over.number over.command over.is_called (leads.earlier over.cpu over.number
+          (returns_before history is_history over.cpu over.number c (over.returned, over.given, over.is_returned, over.before))))
+      holds-behind other ahead (inr (inr (inr left))) is =
           holds-left fact s new e.cpu e.command e.given leads.sound leads.step
           (left e.given (λ back told is_back. sym (claims_reply back told is_back))) is
 
-      -- the line of its maker makes it
-      holds-maker : (maker : IsDoneBefore history.events called) → makes fact (call_of maker.command) maker.given ≡ true
-          → c.is_entry.called ≡ maker.called → holds fact new ≡ true
+      -- the line of a call that makes it leaves it so
+      holds-maker : (maker : IsDoneBefore events place) → IsMadeBy fact events maker → c.is_entry.called ≡ maker.called → holds fact new ≡ true
       holds-maker maker made same =
           let told = claims maker.called maker.returned maker.cpu maker.number maker.command maker.given maker.is_called maker.is_returned same in
-          holds-made fact s new e.cpu e.command e.given leads.sound leads.step (ap is_accepted told.1 ∙ maker.accepted)
-          ((λ i. makes fact (call_of (told.0 i)) (told.1 i)) ∙ made)
+          let accepted = ap is_accepted told.1 ∙ maker.accepted in
+          elim made [
+            | inl makes_it ↦
+                holds-made fact s new e.cpu e.command e.given leads.sound leads.step accepted
+                ((λ i. makes fact (call_of (told.0 i)) (told.1 i)) ∙ makes_it)
+            | inr (standing, stands, leaves) ↦
+                leaves-made fact s new e.cpu e.command e.given standing leads.sound leads.step accepted
+                (stands_there maker.cpu maker.number standing told.2 stands)
+                (ap (λ (m : Command). leaves_with fact (call_of m) standing) told.0 ∙ leaves)
+          ]
 
-      -- so with each next line the fact holds where it is due
-      holds-push : (held : IsHeldAt fact history.events called) → IsDue fact held (lines ++ c.line ∷ []) → holds fact new ≡ true
-      holds-push (inl (begun, left)) due =
-          holds-behind (left c.is_entry.called (cpu_named c.line) (number_named c.line) e.command c.is_entry.is_called)
-          (hold.1 fact (inl (begun, left)) tt)
-      holds-push (inr (maker, made, left)) due = elim (IsNamed-push_cases lines c.line maker.cpu maker.number due) [
-        | inr own ↦
-            holds-maker maker made (named_call history is_history c maker.cpu maker.number maker.called maker.command maker.is_called own).0
-        | inl before ↦ elim (left c.is_entry.called (cpu_named c.line) (number_named c.line) e.command c.is_entry.is_called) [
-          | inl same ↦ holds-maker maker made same
-          | inr (inl back) ↦
-              absurd (leads.in_time maker.cpu maker.number before (record {
-                returned = back.0;
-                given = back.1;
-                is_returned = back.2;
-                called = maker.called;
-                command = maker.command;
-                is_called = maker.is_called;
-                before = back.3;
-              }))
-          | inr (inr leaves) ↦ holds-behind leaves (hold.1 fact (inr (maker, made, left)) before)
+      -- so does that of one that makes it where another holds
+      holds-with : (maker : IsDoneBefore events place) (other : Fact) → IsHeldAlone other events maker.called
+          → makes_with other fact (call_of maker.command) maker.given ≡ true → c.is_entry.called ≡ maker.called → holds fact new ≡ true
+      holds-with maker other alone makes_it same =
+          let told = claims maker.called maker.returned maker.cpu maker.number maker.command maker.given maker.is_called maker.is_returned same in
+          with-made other fact s new e.cpu e.command e.given leads.sound leads.step (ap is_accepted told.1 ∙ maker.accepted)
+          (holds_there maker.called same other (inl alone))
+          ((λ i. makes_with other fact (call_of (told.0 i)) (told.1 i)) ∙ makes_it)
+
+      -- behind the line no line names the call at the place, so none did before, and the line isn't its
+      module _ (ahead : IsAhead (lines ++ c.line ∷ []) place) where
+        ahead_before : IsAhead lines place
+        ahead_before k n asked is_made named = ahead k n asked is_made (IsNamed-push lines c.line k n named)
+
+        other_place : ¬ (c.is_entry.called ≡ place)
+        other_place same =
+            ahead (cpu_named c.line) (number_named c.line) e.command
+            (subst (λ (p : ℕ). IsCalled events p (cpu_named c.line) (number_named c.line) e.command) same c.is_entry.is_called)
+            (IsNamed-last lines c.line (cpu_named c.line) (number_named c.line) refl refl)
+
+        -- so a fact that was made, or is by the line, holds
+        holds-since : (maker : IsDoneBefore events place) → (c.is_entry.called ≡ maker.called → holds fact new ≡ true)
+            → IsLeftSince fact events maker.called place → (IsNamed lines maker.cpu maker.number → holds fact s ≡ true)
+            → IsNamed (lines ++ c.line ∷ []) maker.cpu maker.number → holds fact new ≡ true
+        holds-since maker made left held due = elim (IsNamed-push_cases lines c.line maker.cpu maker.number due) [
+          | inr own ↦ made (named_call history is_history c maker.cpu maker.number maker.called maker.command maker.is_called own).0
+          | inl before ↦ elim (left c.is_entry.called (cpu_named c.line) (number_named c.line) e.command c.is_entry.is_called) [
+            | inl same ↦ made same
+            | inr (inl back) ↦
+                absurd (leads.in_time maker.cpu maker.number before (record {
+                  returned = back.0;
+                  given = back.1;
+                  is_returned = back.2;
+                  called = maker.called;
+                  command = maker.command;
+                  is_called = maker.is_called;
+                  before = back.3;
+                }))
+            | inr (inr leaves) ↦ holds-behind other_place ahead_before leaves (held before)
+          ]
         ]
-      ]
+
+        -- so with each next line the fact holds where it is due
+        holds-push : (held : IsHeldAt fact events place) → IsDue fact place held (lines ++ c.line ∷ []) → holds fact new ≡ true
+        holds-push (inl (inl (begun, left))) due =
+            holds-behind other_place ahead_before (left c.is_entry.called (cpu_named c.line) (number_named c.line) e.command c.is_entry.is_called)
+            (hold.2 place fact (inl (inl (begun, left))) tt ahead_before)
+        holds-push (inl (inr (maker, made, left))) due =
+            holds-since maker (holds-maker maker made) left
+            (λ before. hold.2 place fact (inl (inr (maker, made, left))) before ahead_before) due
+        holds-push (inr (maker, other, alone, makes_it, left)) due =
+            holds-since maker (holds-with maker other alone makes_it) left
+            (λ before. hold.2 place fact (inr (maker, other, alone, makes_it, left)) before ahead_before) due
 
     -- so each that is due does, and the machine is the history's still
     HoldDue-push : HoldDue (lines ++ c.line ∷ []) new
-    HoldDue-push = ((step-keeps s new e.cpu e.command e.given leads.step).config ∙ hold.0, holds-push)
+    HoldDue-push = (
+      (step-keeps s new e.cpu e.command e.given leads.step).config ∙ hold.0,
+      AreWhere-push history is_history lines s new c leads hold.1,
+      λ place fact held due ahead. holds-push place fact ahead held due,
+    )
 
   -- before any line those hold that begin so
   HoldDue-nil : HoldDue [] (opening history.config)
   unfolding opening
-  HoldDue-nil = (refl, by)
+  HoldDue-nil = (refl, AreWhere-nil history is_history, by)
     where
-      by : (fact : Fact) (held : IsHeldAt fact history.events called) → IsDue fact held [] → holds fact (opening history.config) ≡ true
-      by fact (inl (begun, left)) due = holds-opening fact history.config begun
-      by fact (inr made) due = absurd (none-some due.1 due.2)
+      by : (place : ℕ) (fact : Fact) (held : IsHeldAt fact events place) → IsDue fact place held [] → IsAhead [] place
+          → holds fact (opening history.config) ≡ true
+      by place fact (inl (inl (begun, left))) due ahead = holds-opening fact history.config begun
+      by place fact (inl (inr made)) due ahead = absurd (none-some due.1 due.2)
+      by place fact (inr made) due ahead = absurd (none-some due.1 due.2)
 
   -- so there is no order
   nowhere-held : LeadsNowhere history []
@@ -154,16 +257,9 @@ module _ (history : History) (is_history : IsHistory history) (called cpu number
 -- so have first events of a history none where one of their replies is denied by facts that are held
 pub nowhere-denied : (history : History) (count cpu number called returned : ℕ) (command : Command) (given : Reply) (facts : List Fact)
     → IsHistory history → IsCalled history.events called cpu number command → IsReturned (take count history.events) returned cpu number given
-    → AreHeldAt facts (take count history.events) called → deny history.config.granules facts (call_of command) given ≡ true
+    → AreHeldAt facts (take count history.events) called
+    → IsDenied history.config.granules (take count history.events) facts cpu number (call_of command) given
     → LeadsNowhere (first_part count history) []
-nowhere-denied history count cpu number called returned command given facts is_history is_called is_returned are_held =
-    let part = first_part count history in
-    let is_part : IsHistory part = IsHistory-take count history is_history in
-    let one = HasOnePlaces-from_history history is_history in
-    let known = (HasOnePlaces-from_history part is_part).is_known cpu number (returned, given, is_returned) in
-    let within = (slice_get-take count history.events known.0 (Called cpu number known.1) known.2).1 in
-    let at = one.one_call known.0 called cpu number known.1 command within is_called in
-    let same = same_command history.events one known.0 called cpu number known.1 command within is_called in
-    nowhere-held part is_part called cpu number returned command given facts
-    (subst (λ (m : Command). IsCalled part.events called cpu number m) same
-    (subst (λ (p : ℕ). IsCalled part.events p cpu number known.1) at known.2)) is_returned are_held
+nowhere-denied history count cpu number called returned command given facts is_history is_called is_returned =
+    nowhere-held (first_part count history) (IsHistory-take count history is_history) called cpu number returned command given facts
+    (called_first history count cpu number called returned command given is_history is_called is_returned) is_returned

@@ -10,6 +10,7 @@ pub mod SomeVerdict
 pub mod Counted
 pub mod Growing
 pub mod Looks
+pub mod Standings
 pub mod Steps
 pub mod Survival
 pub mod Beginnings
@@ -81,6 +82,10 @@ pub mod FactSteps
 pub mod RealmFacts
 pub mod TableFacts
 pub mod TagFacts
+pub mod RealmChanges
+pub mod RunFacts
+pub mod RecChanges
+pub mod RecFacts
 pub mod WideFacts
 pub mod VmidFacts
 pub mod PartFacts
@@ -88,6 +93,7 @@ pub mod EntryChanges
 pub mod EntryFacts
 pub mod PageFacts
 pub mod RamFacts
+pub mod RipasFacts
 pub mod FactKinds
 pub mod ManyFacts
 pub mod FactOrders

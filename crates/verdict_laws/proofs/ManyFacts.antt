@@ -1,7 +1,8 @@
 -- Where all facts of a list hold, no call is given a reply that they deny, one by itself or all together.
-use Rattle.std.proofs.Common.{◌≡◌, ℕ, ◌-◌, ◌^◌, ◌≤◌, ◌==◌, ◌&&◌, ◌||◌, nat_le, nat_lt, Bool, true, false, IsTrue, All, List, inl, inr, refl, sym, ◌∙◌, ap, eqb-true, arith}
+use Rattle.std.proofs.Common.{◌≡◌, ℕ, ◌-◌, ◌^◌, ◌≤◌, ◌==◌, ◌&&◌, ◌||◌, nat_le, nat_lt, Bool, true, false, IsTrue, All, List, is_some, inl, inr, refl, sym, ◌∙◌, ap, eq-eqb, eqb-true, arith}
+use Rattle.std.specs.Prelude.{is_none, not, unwrap_or}
 use Rattle.std.specs.List.{list_all, list_any}
-use Rattle.std.proofs.lemmas.Bool.{and_from, and_parts, le-leb, leb-true, lt-ltb, or_cases}
+use Rattle.std.proofs.lemmas.Bool.{and_from, and_parts, le-leb, leb-true, lt-ltb, not-true, or_cases}
 use Rattle.std.proofs.lemmas.Bool.Decides.{nat_tests}
 use Rattle.std.proofs.lemmas.List.Elements.{All-contains, All-weaker}
 use Rattle.std.proofs.lemmas.List.Sums.{AllPass-from_list_all, list_all-from_AllPass}
@@ -9,16 +10,17 @@ use Rattle.rmm_spec.specs.declared.call.Call.{Call}
 use Rattle.rmm_spec.specs.declared.call.Call.TheVariants as call
 use Rattle.rmm_spec.specs.declared.command.Command.{Command}
 use Rattle.rmm_spec.specs.declared.reply.Reply.{Reply}
-use Rattle.rmm_spec.specs.declared.tag.Tag.TheVariants.{Delegated, Rd}
+use Rattle.rmm_spec.specs.declared.tag.Tag.TheVariants.{Delegated, Rd, Rec}
 use Rattle.rmm_spec.specs.declared.version.Version.{Version}
 use Rattle.rmm_spec.specs.declared.version.Version.TheVariants.{One, Two, Large}
-use Rattle.rmm_spec.specs.Call.{call_of}
-use Rattle.rmm_spec.specs.Lookup.{allows_hash, has_tag, is_granule, is_vmid_used, realm_at}
+use Rattle.rmm_spec.specs.Call.{call_of, class_of}
+use Rattle.rmm_spec.specs.Lookup.{allows_hash, has_tag, is_granule, is_inside, is_new, is_vmid_used, no_rec, realm_at, rec_at, rec_inside, request_of}
 use Rattle.rmm_spec.specs.Rows.{Needed, all_allowed}
 use Rattle.rmm_spec.specs.Sound.{IsSound}
 use Rattle.rmm_spec.specs.State.{RealmRecord, State}
-use Rattle.rmm_spec.specs.Step.{Step}
-use Rattle.rmm_spec.specs.Step.Terms.{is_space, named, words_of}
+use Rattle.rmm_spec.specs.Step.{Step, outcome}
+use Rattle.rmm_spec.specs.Ownership.{is_accepted}
+use Rattle.rmm_spec.specs.Step.Terms.{is_page, is_space, named, words_of}
 use Rattle.rmm_spec.specs.Walk.{full, half}
 use Rattle.lemmas.proofs.Tests.{both_ways}
 use Rattle.spec_lemmas.proofs.Behind.{behind}
@@ -26,12 +28,20 @@ use Rattle.spec_lemmas.proofs.Members.{Contains-from_slice_get, passing_member}
 use Rattle.rmm_laws.proofs.Searches.{realm_there}
 use Rattle.rmm_laws.proofs.Spaces.{space_cases}
 use Rattle.verdict_laws.specs.declared.facts.Fact.{Fact}
-use Rattle.verdict_laws.specs.declared.facts.Fact.TheVariants.{PartOf, SoleVmid, Tagged, Wide}
-use Rattle.verdict_laws.specs.Facts.{are_within, denies, deny, deny_input, give_half, give_tag, give_vmid, gives_half, gives_no_owner, gives_none, gives_tag, gives_vmid, holds, is_refused_with, is_tag}
+use Rattle.verdict_laws.specs.declared.facts.Fact.TheVariants.{Activated, AsksFrom, AsksTo, HasRipas, OwnedBy, PartOf, Runnable, SoleVmid, Tagged, Wide}
+use Rattle.verdict_laws.specs.declared.placing.ExitReason.{ExitReason}
+use Rattle.verdict_laws.specs.declared.placing.Standing.{Standing}
+use Rattle.verdict_laws.specs.declared.placing.Standing.TheVariants.{Inside, Outside}
+use Rattle.verdict_laws.specs.Denying.{are_ready, are_within, denies, deny, deny_input, deny_inside, deny_new, deny_rec, enters_run, give_half, give_tag, give_vmid, gives_base, gives_half, gives_idle, gives_no_owner, gives_none, gives_other_ripas, gives_owner, gives_realm, gives_run, gives_runnable, gives_tag, gives_top, gives_vmid, is_refused_new, is_refused_with}
+use Rattle.verdict_laws.specs.Facts.{holds, is_one_entry, is_tag, is_told}
 use Rattle.verdict_laws.proofs.FactKinds.{held-denies}
-use Rattle.verdict_laws.proofs.FactSteps.{are_tagged, are_told, step-untold_there}
+use Rattle.verdict_laws.proofs.FactSteps.{are_tagged, are_told, step-untold, step-untold_there}
 use Rattle.verdict_laws.proofs.PartFacts.{no_owner-given, no_part}
-use Rattle.verdict_laws.proofs.TagFacts.{tag-from_is_tag}
+use Rattle.verdict_laws.proofs.RecFacts.{from_read, owner_read, run_read, to_read}
+use Rattle.verdict_laws.proofs.RunFacts.{read_run}
+use Rattle.verdict_laws.proofs.RipasFacts.{inside_told}
+use Rattle.verdict_laws.proofs.Standings.{reason_at, standing-inside, standing_of}
+use Rattle.verdict_laws.proofs.TagFacts.{IsCarried, carried_by, tag-from_is_tag}
 use Rattle.verdict_laws.proofs.VmidFacts.{none-given, vmid-unused}
 use Rattle.verdict_laws.proofs.WideFacts.{rd_tagged, read_wide}
 
@@ -101,6 +111,10 @@ module _ (s : State) (sound : IsSound s) where
         let none = no_part s owner (from_one (gives_no_owner owner) (no_owner-given s owner sound) parts.1) granule in
         and_from _ _ inside (rw (eqb-true n.granule granule names.0, tag-from_is_tag n.tag Delegated names.1)
         (ap (λ b. b || is_tag (s.tag granule) Delegated) (sym none) ∙ is))
+    has_tag-given n inside (AsksFrom rec base) is gives =
+        let parts = and_parts (n.granule == rec) (is_tag n.tag Rec) gives in
+        let there = sym (sound.recs.tagged rec) ∙ (from_read base (s.rec rec) is).2 in
+        rw (tag-from_is_tag n.tag Rec parts.1) (ap (λ g. has_tag s g Rec) (eqb-true n.granule rec parts.0) ∙ there)
     has_tag-given n inside _ is gives = both_ways gives refl
 
     -- so each granule that is named has its tag
@@ -132,7 +146,91 @@ module _ (s : State) (sound : IsSound s) where
         ∙ vmid-unused s rd its_vmid sound is (from_one (gives_none rd) (none-given s rd sound) parts.1)
     unused-given vmid _ is gives = both_ways gives refl
 
+    -- ---- RECs
+
+    -- what a REC asks for begins where a fact says
+    base-given : (rec base : ℕ) (fact : Fact) → holds fact s ≡ true → gives_base rec base fact ≡ true → base ≡ (request_of (rec_at s rec)).base
+    unfolding rec_at
+    base-given rec base (AsksFrom other its_base) is gives =
+        let parts = and_parts (rec == other) (base == its_base) gives in
+        eqb-true base its_base parts.1 ∙ sym (from_read its_base (s.rec other) is).1
+        ∙ ap (λ g. (request_of (unwrap_or (s.rec g) no_rec)).base) (sym (eqb-true rec other parts.0))
+    base-given rec base _ is gives = both_ways gives refl
+
+    -- and ends no earlier than one says
+    top-given : (rec top : ℕ) (fact : Fact) → holds fact s ≡ true → gives_top rec top fact ≡ true
+        → (is_some (rec_at s rec).request ≡ true) × (nat_le top (request_of (rec_at s rec)).top ≡ true)
+    unfolding rec_at
+    top-given rec top (AsksTo other its_top ripas) is gives =
+        let parts = and_parts (rec == other) (nat_le top its_top) gives in
+        let at = eqb-true rec other parts.0 in
+        let read = to_read its_top ripas (s.rec other) is in (
+          ap (λ g. is_some (unwrap_or (s.rec g) no_rec).request) at ∙ read.1,
+          (λ i. nat_le top ((ap (λ g. (request_of (unwrap_or (s.rec g) no_rec)).top) at ∙ read.2) i)) ∙ parts.1,
+        )
+    top-given rec top _ is gives = both_ways gives refl
+
+    -- it runs on no CPU where one says so
+    idle-given : (rec : ℕ) (fact : Fact) → holds fact s ≡ true → gives_idle rec fact ≡ true → is_none (rec_at s rec).cpu ≡ true
+    unfolding rec_at
+    idle-given rec (AsksFrom other base) is gives =
+        ap (λ g. is_none (unwrap_or (s.rec g) no_rec).cpu) (eqb-true rec other gives) ∙ (from_read base (s.rec other) is).0
+    idle-given rec (AsksTo other top ripas) is gives =
+        ap (λ g. is_none (unwrap_or (s.rec g) no_rec).cpu) (eqb-true rec other gives) ∙ (to_read top ripas (s.rec other) is).0
+    idle-given rec _ is gives = both_ways gives refl
+
+    -- it can run
+    runnable-given : (rec : ℕ) (fact : Fact) → holds fact s ≡ true → gives_runnable rec fact ≡ true → (rec_at s rec).runnable ≡ true
+    unfolding rec_at
+    runnable-given rec (Runnable other) is gives =
+        ap (λ g. (unwrap_or (s.rec g) no_rec).runnable) (eqb-true rec other gives) ∙ run_read (s.rec other) is
+    runnable-given rec _ is gives = both_ways gives refl
+
+    -- it is the realm's
+    owner-given : (rec rd : ℕ) (fact : Fact) → holds fact s ≡ true → gives_realm rec rd fact ≡ true → (rec_at s rec).owner ≡ rd
+    unfolding rec_at
+    owner-given rec rd (OwnedBy other its_rd) is gives =
+        let parts = and_parts (rec == other) (rd == its_rd) gives in
+        ap (λ g. (unwrap_or (s.rec g) no_rec).owner) (eqb-true rec other parts.0)
+        ∙ owner_read its_rd (s.rec other) is ∙ sym (eqb-true rd its_rd parts.1)
+    owner-given rec rd _ is gives = both_ways gives refl
+
+    -- a realm was activated
+    run-given : (rd : ℕ) (fact : Fact) → holds fact s ≡ true → gives_run rd fact ≡ true → is_new (realm_at s rd) ≡ false
+    run-given rd (Activated other) is gives = ap (λ g. is_new (realm_at s g)) (eqb-true rd other gives) ∙ read_run other s is
+    run-given rd _ is gives = both_ways gives refl
+
+    -- that of a REC was
+    owner_run-given : (rec : ℕ) (fact : Fact) → holds fact s ≡ true → gives_owner facts rec fact ≡ true
+        → is_new (realm_at s (rec_at s rec).owner) ≡ false
+    owner_run-given rec (OwnedBy other rd) is gives =
+        let parts = and_parts (rec == other) (list_any (gives_run rd) facts) gives in
+        let own = owner-given rec rd (OwnedBy other rd) is (and_from _ _ parts.0 (eq-eqb rd rd refl)) in
+        ap (λ g. is_new (realm_at s g)) own ∙ from_one (gives_run rd) (run-given rd) parts.1
+    owner_run-given rec _ is gives = both_ways gives refl
+
     module _ (cpu : ℕ) where
+      -- so no REC is refused to be entered for its realm
+      behind_run : (c : Call) → enters_run facts c ≡ true → are_told is_refused_new (behind s cpu c).0 ≡ false
+      unfolding behind enters_run
+      behind_run (call.RecEnter rec) run = rw (from_one (gives_owner facts rec) (owner_run-given rec) run) refl
+      behind_run _ run = both_ways run refl
+
+      -- nor is a call for its REC
+      behind_ready : (c : Call) → are_ready facts c ≡ true → are_told (is_refused_with 3) (behind s cpu c).0 ≡ false
+      unfolding behind are_ready
+      behind_ready (call.RecEnter rec) ready =
+          let parts = and_parts (list_any (gives_idle rec) facts) (list_any (gives_runnable rec) facts) ready in
+          rw (from_one (gives_idle rec) (idle-given rec) parts.0, from_one (gives_runnable rec) (runnable-given rec) parts.1) refl
+      behind_ready (call.RecDestroy rec) ready = rw (from_one (gives_idle rec) (idle-given rec) ready) refl
+      behind_ready (call.RttSetRipas rd rec base top) ready =
+          let parts = and_parts (list_any (gives_idle rec) facts) (list_any (gives_realm rec rd) facts) ready in
+          rw (
+            from_one (gives_idle rec) (idle-given rec) parts.0,
+            eq-eqb _ rd (from_one (gives_realm rec rd) (owner-given rec rd) parts.1),
+          ) refl
+      behind_ready _ ready = both_ways ready refl
+
       -- so no row behind those on words and tags refuses with ERROR_INPUT
       behind_within : (c : Call) → are_within facts c ≡ true → are_told (is_refused_with 1) (behind s cpu c).0 ≡ false
       unfolding behind are_within
@@ -159,22 +257,93 @@ module _ (s : State) (sound : IsSound s) where
       behind_within (call.RttReadEntry rd ipa level) within =
           let is = IsInHalf-at 1 level rd ipa within in
           rw (le-leb (realm_at s rd).start_level level (omega (arith, is.0, is.1.first)), is.1.inside) refl
+      behind_within (call.RttSetRipas rd rec base top) within =
+          let from = list_any (gives_base rec base) facts in
+          let parts = and_parts (nat_lt base top && is_page top && from) (list_any (gives_top rec top) facts) within in
+          let begins = and_parts (nat_lt base top && is_page top) from parts.0 in
+          let pages = and_parts (nat_lt base top) (is_page top) begins.0 in
+          let ends = from_one (gives_top rec top) (top-given rec top) parts.1 in
+          rw (
+            ends.0,
+            ends.1,
+            eq-eqb base _ (from_one (gives_base rec base) (base-given rec base) begins.1),
+            pages.0,
+            pages.1,
+          ) refl
       behind_within _ within = both_ways within refl
 
     -- ---- steps
 
-    -- no call is given a reply that they deny
-    pub held-deny : (granules : ℕ) (new : State) (cpu : ℕ) (command : Command) (given : Reply) → s.config.granules ≡ granules
-        → Step s cpu command given new → deny granules facts (call_of command) given ≡ true → ⊥
-    held-deny granules new cpu command given size step denied =
-        let c = call_of command in
-        elim (or_cases (list_any (λ (fact : Fact). denies fact c given) facts) (deny_input granules facts c given) denied) [
-          | inl one ↦ from_one (λ (fact : Fact). denies fact c given) (λ fact. held-denies fact s new cpu command given sound step) one
-          | inr input ↦
-              (let parts = and_parts (is_refused_with 1 given && all_allowed (words_of c) && list_all (give_tag granules facts) (named c))
-              (are_within facts c) input in
-              let front = and_parts (is_refused_with 1 given && all_allowed (words_of c)) (list_all (give_tag granules facts) (named c)) parts.0 in
-              let refused = and_parts (is_refused_with 1 given) (all_allowed (words_of c)) front.0 in
-              both_ways refused.0 (step-untold_there (is_refused_with 1) (λ words. refl) refl s new cpu command given refused.1
-              (are_tagged-given granules (named c) size front.1) (behind_within cpu c parts.1) step))
-        ]
+    module _ (new : State) (cpu : ℕ) (command : Command) (given : Reply) (step : Step s cpu command given new) where
+      -- the call
+      abbrev c : Call
+      c = call_of command
+
+      -- a call isn't refused with ERROR_INPUT where all is well that it says and names
+      input-denied : (granules : ℕ) → s.config.granules ≡ granules → deny_input granules facts c given ≡ true → ⊥
+      input-denied granules size denied =
+          let tags = list_all (give_tag granules facts) (named c) in
+          let parts = and_parts (is_refused_with 1 given && all_allowed (words_of c) && tags) (are_within facts c) denied in
+          let front = and_parts (is_refused_with 1 given && all_allowed (words_of c)) tags parts.0 in
+          let refused = and_parts (is_refused_with 1 given) (all_allowed (words_of c)) front.0 in
+          both_ways refused.0 (step-untold_there (is_refused_with 1) (λ words. refl) refl s new cpu command given refused.1
+          (are_tagged-given granules (named c) size front.1) (behind_within cpu c parts.1) step)
+
+      -- nor for a realm that was activated
+      new-denied : deny_new facts c given ≡ true → ⊥
+      new-denied denied =
+          let parts = and_parts (is_refused_new given) (enters_run facts c) denied in
+          both_ways parts.0 (step-untold is_refused_new (λ words. refl) refl refl s new cpu command given (behind_run cpu c parts.1) step)
+
+      -- nor for a REC that is ready
+      rec-denied : deny_rec facts c given ≡ true → ⊥
+      rec-denied denied =
+          let parts = and_parts (is_refused_with 3 given) (are_ready facts c) denied in
+          both_ways parts.0 (step-untold (is_refused_with 3) (λ words. refl) refl refl s new cpu command given (behind_ready cpu c parts.1) step)
+
+      -- so no call is given a reply that they deny
+      pub held-deny : (granules : ℕ) → s.config.granules ≡ granules → deny granules facts c given ≡ true → ⊥
+      held-deny granules size denied =
+          let one = list_any (λ (fact : Fact). denies fact c given) facts in
+          elim (or_cases (one || deny_input granules facts c given || deny_new facts c given) (deny_rec facts c given) denied) [
+            | inl others ↦ elim (or_cases (one || deny_input granules facts c given) (deny_new facts c given) others) [
+              | inl either ↦ elim (or_cases one (deny_input granules facts c given) either) [
+                | inl any ↦ from_one (λ (fact : Fact). denies fact c given) (λ fact. held-denies fact s new cpu command given sound step) any
+                | inr input ↦ input-denied granules size input
+              ]
+              | inr of_realm ↦ new-denied of_realm
+            ]
+            | inr of_rec ↦ rec-denied of_rec
+          ]
+
+    -- the REC that a CPU stands inside of is the one that runs on it
+    stands_inside : (cpu rec : ℕ) (reason : ExitReason) → is_inside s cpu ≡ true → standing_of s cpu ≡ Inside rec reason → rec_inside s cpu ≡ rec
+    stands_inside cpu rec reason inside stands =
+        let both : Inside (rec_inside s cpu) (reason_at (rec_at s (rec_inside s cpu))) ≡ Inside rec reason =
+        sym (standing-inside s cpu inside) ∙ stands in cc
+
+    -- and no call is given a reply that they deny there
+    pub held-deny_inside : (new : State) (cpu : ℕ) (command : Command) (given : Reply) (standing : Standing) → Step s cpu command given new
+        → standing_of s cpu ≡ standing → deny_inside facts standing (call_of command) given ≡ true → ⊥
+    unfolding deny_inside class_of
+    held-deny_inside new cpu command given standing step = by (call_of command) standing
+        (λ accepted. carried_by s cpu command given new (outcome s cpu (call_of command)) sound accepted refl step)
+      where
+        other_told : (rec ipa : ℕ) (reason : ExitReason) → IsCarried s cpu (call.IpaStateGet ipa) given new → standing_of s cpu ≡ Inside rec reason
+            → (fact : Fact) → holds fact s ≡ true → gives_other_ripas facts rec ipa given fact ≡ true → ⊥
+        other_told rec ipa reason carried stands (HasRipas rd at ripas) is gives =
+            let parts = and_parts (is_one_entry at ipa && not (is_told ripas given)) (list_any (gives_realm rec rd) facts) gives in
+            let both = and_parts (is_one_entry at ipa) (not (is_told ripas given)) parts.0 in
+            let inside = stands_inside cpu rec reason (and_parts (is_inside s cpu) _ carried.placed).0 stands in
+            let own = from_one (gives_realm rec rd) (owner-given rec rd) parts.1 in
+            both_ways (inside_told rd at ripas rec s new cpu given sound is own ipa inside carried both.0)
+            (not-true (is_told ripas given) both.1)
+        other_told rec ipa reason carried stands _ is gives = both_ways gives refl
+
+        by : (c : Call) (standing : Standing) → (is_accepted given ≡ true → IsCarried s cpu c given new) → standing_of s cpu ≡ standing
+            → deny_inside facts standing c given ≡ true → ⊥
+        by (call.IpaStateGet ipa) (Inside rec reason) carried stands denied =
+            let parts = and_parts (is_accepted given) (list_any (gives_other_ripas facts rec ipa given) facts) denied in
+            from_one (gives_other_ripas facts rec ipa given) (other_told rec ipa reason (carried parts.0) stands) parts.1
+        by _ Outside carried stands denied = both_ways denied refl
+        by _ (Inside rec reason) carried stands denied = both_ways denied refl

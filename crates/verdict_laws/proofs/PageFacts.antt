@@ -25,10 +25,11 @@ use Rattle.lemmas.proofs.Tests.{both_ways}
 use Rattle.spec_lemmas.proofs.Behind.{behind}
 use Rattle.spec_lemmas.proofs.TagLaws.{tag-has_tag}
 use Rattle.verdict_laws.specs.declared.facts.Fact.TheVariants as fact
-use Rattle.verdict_laws.specs.Facts.{creates_page, denies, frees_entry, gives_entry, has_page, is_one_entry, is_refused_with, is_tag, may_assign, needs_free, needs_other}
+use Rattle.verdict_laws.specs.Denying.{denies, is_other_entry, is_refused_with, needs_free, needs_other, reads_entry}
+use Rattle.verdict_laws.specs.Facts.{creates_page, creates_unknown, frees_entry, gives_entry, has_page, is_one_entry, is_tag, may_assign, may_reshape}
 use Rattle.verdict_laws.specs.Separate.{is_freed}
 use Rattle.verdict_laws.specs.Slices.{shows_names}
-use Rattle.verdict_laws.proofs.EntryChanges.{leaf-left, leaf_found, leaf_reached, same_entry-last}
+use Rattle.verdict_laws.proofs.EntryChanges.{leaf-left, leaf_found, leaf_reached, read-denied, same_entry-last}
 use Rattle.verdict_laws.proofs.FactSteps.{IsDoneSo, are_told, step-has, step-untold}
 use Rattle.verdict_laws.proofs.TagFacts.{IsCarried, carried_by, tag-denied}
 
@@ -111,10 +112,20 @@ page-made rd ipa page s new cpu command given step accepted gives =
 pub page-left : (rd ipa page : ℕ) (s new : State) (cpu : ℕ) (command : Command) (given : Reply) → IsSound s → Step s cpu command given new
     → (may_assign (call_of command) rd ipa || frees_entry (call_of command) rd ipa) ≡ false
     → has_page (s.leaf rd 3 (entry_number 3 ipa)) page ≡ true → has_page (new.leaf rd 3 (entry_number 3 ipa)) page ≡ true
-page-left rd ipa page s new cpu command given sound step stays =
-    let parts = or_parts (may_assign (call_of command) rd ipa) (frees_entry (call_of command) rd ipa) stays in
-    leaf-left (λ found. has_page found page) rd ipa s new cpu command given sound step
-    (record { stays = parts.0; freed = λ ripas. parts.1; init = ripas_page page Ram; requested = λ ripas _. ripas_page page ripas })
+page-left rd ipa page s new cpu command given sound step stays has =
+    let c = call_of command in
+    let (ripas, leaf) = page_there page (s.leaf rd 3 (entry_number 3 ipa)) has in
+    let parts = or_parts (may_assign c rd ipa) (frees_entry c rd ipa) stays in
+    let more = or_parts (may_reshape c rd ipa || creates_page c rd ipa) (creates_unknown c rd ipa) parts.0 in
+    let both = or_parts (may_reshape c rd ipa) (creates_page c rd ipa) more.0 in
+    leaf-left (λ (found : Option Entry). has_page found page) rd ipa s cpu sound (Assigned ripas page) leaf refl new command given step (record {
+      stays = both.0;
+      given = λ granule creates. both_ways creates both.1;
+      unknown = λ granule creates. both_ways creates more.1;
+      freed = λ frees. both_ways frees parts.1;
+      init = λ _. ripas_page page Ram;
+      requested = λ its _. ripas_page page its;
+    }) (eq-eqb page page refl)
 
 -- and no reply shows its granule with another tag, or gives another back for it
 page-shown : (rd ipa page : ℕ) (s new : State) (cpu : ℕ) (command : Command) (given : Reply) → IsSound s → Step s cpu command given new
@@ -144,16 +155,21 @@ page-shown rd ipa page s new cpu command given sound step has shows =
           ])
     ]
 
--- nor is one carried out that needs its entry unassigned
+-- nor is one carried out that needs its entry unassigned, or reads it as another
 pub page-denied : (rd ipa page : ℕ) (s new : State) (cpu : ℕ) (command : Command) (given : Reply) → IsSound s → Step s cpu command given new
     → has_page (s.leaf rd 3 (entry_number 3 ipa)) page ≡ true → denies (fact.Assigned rd ipa page) (call_of command) given ≡ true → ⊥
 page-denied rd ipa page s new cpu command given sound step has denied =
     let c = call_of command in
     let (ripas, leaf) = page_there page (s.leaf rd 3 (entry_number 3 ipa)) has in
-    elim (or_cases _ (is_accepted given && (needs_free c rd ipa || creates_page c rd ipa)) denied) [
+    let reads = reads_entry c rd ipa && is_other_entry 1 page given in
+    elim (or_cases _ (is_accepted given && (needs_free c rd ipa || creates_page c rd ipa || reads)) denied) [
       | inl shows ↦ page-shown rd ipa page s new cpu command given sound step has shows
       | inr done ↦
-          (let both = and_parts (is_accepted given) (needs_free c rd ipa || creates_page c rd ipa) done in
-          carried_free rd ipa page ripas s new cpu given c sound leaf
-          (carried_by s cpu command given new (outcome s cpu c) sound both.0 refl step) both.1)
+          (let both = and_parts (is_accepted given) (needs_free c rd ipa || creates_page c rd ipa || reads) done in
+          elim (or_cases (needs_free c rd ipa || creates_page c rd ipa) reads both.1) [
+            | inl needs ↦
+                carried_free rd ipa page ripas s new cpu given c sound leaf
+                (carried_by s cpu command given new (outcome s cpu c) sound both.0 refl step) needs
+            | inr read ↦ read-denied rd ipa s new cpu command given sound step (Assigned ripas page) leaf refl both.0 read
+          ])
     ]

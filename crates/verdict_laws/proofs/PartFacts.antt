@@ -37,7 +37,8 @@ use Rattle.rmm_laws.proofs.Records.{updated_like}
 use Rattle.rmm_laws.proofs.StepLaws.{step-refuses}
 use Rattle.verdict_laws.specs.declared.facts.Fact.{Fact}
 use Rattle.verdict_laws.specs.declared.facts.Fact.TheVariants.{Tagged, PartOf}
-use Rattle.verdict_laws.specs.Facts.{gives_no_owner, has_aux, has_root, holds, is_part, is_tag, needs, takes_part}
+use Rattle.verdict_laws.specs.Denying.{gives_no_owner}
+use Rattle.verdict_laws.specs.Facts.{has_aux, has_root, holds, is_part, is_tag, needs, takes_part}
 use Rattle.verdict_laws.specs.Slices.{changeable}
 use Rattle.verdict_laws.proofs.FactSteps.{IsDoneSo, step-has}
 use Rattle.verdict_laws.proofs.TagFacts.{carried_by, tag-from_is_tag, tag-is_tag, tag-left}

@@ -25,7 +25,8 @@ use Rattle.lemmas.proofs.Tests.{both_ways}
 use Rattle.spec_lemmas.proofs.Behind.{behind}
 use Rattle.rmm_laws.proofs.Cases.{by_address}
 use Rattle.rmm_laws.proofs.Keeps.{rec_change-rest, tag_change-rest, with_records}
-use Rattle.verdict_laws.specs.Facts.{is_refused_with, is_still_new, makes_realm, may_activate, needs_new}
+use Rattle.verdict_laws.specs.Denying.{is_refused_with, needs_new}
+use Rattle.verdict_laws.specs.Facts.{is_still_new, makes_realm, may_activate}
 use Rattle.verdict_laws.proofs.FactSteps.{IsDoneSo, are_told, step-has, step-untold}
 
 -- ---- behind a change

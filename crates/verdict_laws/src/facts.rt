@@ -1,12 +1,12 @@
 //! The law of facts: a reply that some deny isn't given while they last.
 
-ghost use Rattle.std.specs.Prelude.{◌≡◌, ℕ, true, List, [], take};
+ghost use Rattle.std.specs.Prelude.{ℕ, List, [], take};
 ghost use Rattle.rmm_spec.specs.declared.command.Command.{Command};
 ghost use Rattle.rmm_spec.specs.declared.reply.Reply.{Reply};
 ghost use Rattle.rmm_spec.specs.Call.{call_of};
 ghost use Rattle.rmm_spec.specs.HistoryText.{History, IsHistory};
 ghost use Rattle.rmm_spec.specs.Linearization.{IsCalled, IsReturned};
-ghost use Rattle.verdict_laws.specs.Facts.{AreHeldAt, deny};
+ghost use Rattle.verdict_laws.specs.HeldFacts.{AreHeldAt, IsDenied};
 ghost use Rattle.verdict_laws.specs.Order.{LeadsNowhere};
 ghost use Rattle.verdict_laws.specs.Parts.{first_part};
 
@@ -27,18 +27,32 @@ pub enum Fact {
     UnassignedRam { rd: u64, ipa: u64 },
     /// The address has an entry of the last level, with the page.
     Assigned { rd: u64, ipa: u64, page: u64 },
+    /// The address has an entry of the last level, which is protected and of the RIPAS, by its number.
+    HasRipas { rd: u64, ipa: u64, ripas: u64 },
     /// No realm but the one at the address, if one is there, has the VMID.
     SoleVmid { rd: u64, vmid: u64 },
     /// The granule is the root table of the realm or an auxiliary granule of the REC at the owner's address, or it is Delegated.
     PartOf { granule: u64, owner: u64 },
     /// A table of the realm's level covers the address.
     Covered { rd: u64, level: u8, ipa: u64 },
+    /// The realm is there, and was activated.
+    Activated { rd: u64 },
+    /// The REC is there, and the realm's.
+    OwnedBy { rec: u64, rd: u64 },
+    /// The REC is there, was made runnable, and didn't turn itself off.
+    Runnable { rec: u64 },
+    /// The REC is there, runs on no CPU, and asks for a RIPAS from the address on, or for none where that is 0.
+    AsksFrom { rec: u64, base: u64 },
+    /// The REC is there, runs on no CPU, and asks for the RIPAS, by its number, up to the address.
+    AsksTo { rec: u64, top: u64, ripas: u64 },
 }
 
-/// First events of a history, so many, have no order where one of their replies is denied by facts that hold while its call may take effect.
+/// First events of a history, so many, have no order where one of their replies is denied by facts that hold while its call may take effect, by
+/// themselves or where its CPU stands.
 pub fn nowhere_denied()
     ensures { (history : History) (count cpu number called returned : ℕ) (command : Command) (given : Reply) (facts : List Fact)
         → IsHistory history → IsCalled history.events called cpu number command
         → IsReturned (take count history.events) returned cpu number given → AreHeldAt facts (take count history.events) called
-        → deny history.config.granules facts (call_of command) given ≡ true → LeadsNowhere (first_part count history) [] }
+        → IsDenied history.config.granules (take count history.events) facts cpu number (call_of command) given
+        → LeadsNowhere (first_part count history) [] }
 {}

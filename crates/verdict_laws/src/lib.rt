@@ -42,7 +42,7 @@ pub use exchanges::{
 };
 pub use facts::{Fact, nowhere_denied};
 pub use making::{made_apart_exchange, made_apart_pass};
-pub use placing::{Standing, nowhere_out_of_place};
+pub use placing::{ExitReason, Standing, nowhere_out_of_place};
 pub use registers::{
     nowhere_without_possibilities, register_after_a_return, register_after_another_event,
     register_at_first, register_runs,

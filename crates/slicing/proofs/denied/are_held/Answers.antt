@@ -3,7 +3,7 @@ use Rattle.std.proofs.Common.{refl, subst}
 use Rattle.std.proofs.lemmas.List.{take_all}
 use Rattle.std.proofs.lemmas.List.Elements.{All-more}
 use Rattle.slicing.specs.Calls.{events_to}
-use Rattle.verdict_laws.specs.Facts.{AreHeldAt, IsHeldAt}
+use Rattle.verdict_laws.specs.HeldFacts.{AreHeldAt, IsHeldAt}
 use Rattle.slicing.proofs.denied.are_held.Goals as goal
 
 pub loop-fact-preserved : goal.loop-fact-preserved

@@ -1,7 +1,7 @@
 -- The facts before this one hold.
 use Rattle.std.proofs.Common.{take}
 use Rattle.slicing.specs.Calls.{events_to}
-use Rattle.verdict_laws.specs.Facts.{AreHeldAt}
+use Rattle.verdict_laws.specs.HeldFacts.{AreHeldAt}
 use Rattle.slicing.proofs.denied.are_held.Given as goal
 
 abbrev pub invariant-loop-fact : goal.invariant-loop-fact

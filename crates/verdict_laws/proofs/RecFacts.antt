@@ -1,0 +1,338 @@
+-- RECs: whose one is, whether it can run, and what it asks for while it runs on no CPU. What a call makes so stays so until another may end it, and
+-- isn't denied.
+use Rattle.std.proofs.Common.{◌≡◌, ℕ, ◌==◌, ◌&&◌, ◌||◌, true, false, Bool, Option, Some, None, IsTrue, is_some, refl, sym, ◌∙◌, ap, eqb-true, eq-eqb, arith}
+use Rattle.std.specs.Prelude.{is_none, nat_lt, not, unwrap_or}
+use Rattle.std.proofs.lemmas.Bool.{and_from, and_parts, false_from_ne_true, ltb-true, not-true, or_parts}
+use Rattle.rmm_spec.specs.declared.call.Call.{Call}
+use Rattle.rmm_spec.specs.declared.call.Call.TheVariants as call
+use Rattle.rmm_spec.specs.declared.change.RecUpdate.{RecUpdate}
+use Rattle.rmm_spec.specs.declared.change.RecUpdate.TheVariants.{Entered, Exited, HostCalled, RequestMoved, RipasRequested, SystemTurnedOff, TurnedOff}
+use Rattle.rmm_spec.specs.declared.command.Command.{Command}
+use Rattle.rmm_spec.specs.declared.reply.Reply.{Reply}
+use Rattle.rmm_spec.specs.Call.{call_of, class_of}
+use Rattle.rmm_spec.specs.Change.{changed, rec_updated}
+use Rattle.rmm_spec.specs.Lookup.{is_inside, no_rec, no_request, rec_at, rec_inside, request_of, ripas_number, runs_on}
+use Rattle.rmm_spec.specs.Ownership.{is_accepted}
+use Rattle.rmm_spec.specs.Sound.{IsSound}
+use Rattle.rmm_spec.specs.State.{HostCall, Pending, Psci, RecRecord, Request, RipasChange, State}
+use Rattle.rmm_spec.specs.Step.{Step, is_placed, outcome}
+use Rattle.rmm_spec.specs.Step.RealmCall.{ripas_asked}
+use Rattle.rmm_spec.specs.Step.Ripas.{reached_change}
+use Rattle.lemmas.proofs.Tests.{both_ways}
+use Rattle.spec_lemmas.proofs.Behind.{behind}
+use Rattle.rmm_laws.proofs.Searches.{inside_runs}
+use Rattle.verdict_laws.specs.declared.facts.Fact.{Fact}
+use Rattle.verdict_laws.specs.declared.facts.Fact.TheVariants.{AsksFrom, AsksTo}
+use Rattle.verdict_laws.specs.declared.placing.ExitReason.{ExitReason}
+use Rattle.verdict_laws.specs.declared.placing.ExitReason.TheVariants as exit_reason
+use Rattle.verdict_laws.specs.declared.placing.Standing.{Standing}
+use Rattle.verdict_laws.specs.declared.placing.Standing.TheVariants.{Inside}
+use Rattle.verdict_laws.specs.Denying.{asks_else}
+use Rattle.verdict_laws.specs.Facts.{asks_from, asks_to, can_run, destroys, enters, has_owner, holds, is_left_with, is_told, is_up_to, leaves_with, makes_owned, makes_runnable, moves_request, sets_request, turns_off}
+use Rattle.verdict_laws.proofs.RecChanges.{StaysDone, met_record, rec-kept}
+use Rattle.verdict_laws.proofs.Spared.{runs_on-read}
+use Rattle.verdict_laws.proofs.SparedCalls.{idle_elsewhere}
+use Rattle.verdict_laws.proofs.Standings.{by_pending, reason_at, standing-inside, standing_of}
+use Rattle.verdict_laws.proofs.TagFacts.{IsCarried, carried_by}
+
+-- addresses that differ do so either way
+apart : (one other : ℕ) → (one == other) ≡ false → (other == one) ≡ false
+apart one other differ = false_from_ne_true (other == one) (λ same. both_ways (eq-eqb one other (sym (eqb-true other one same))) differ)
+
+-- ---- what a call makes
+
+module _ (s : State) (cpu : ℕ) (given : Reply) (new : State) where
+  -- REC_CREATE makes a REC of the realm
+  made_owned : (rec rd : ℕ) (c : Call) → IsCarried s cpu c given new → makes_owned c rec rd ≡ true → has_owner (new.rec rec) rd ≡ true
+  unfolding behind changed makes_owned
+  made_owned rec rd (call.RecCreate its_rd other mpidr flags aux0 aux1) carried makes =
+      let parts = and_parts (rec == other) (rd == its_rd) makes in
+      rw (carried.done.1, parts.0) (eq-eqb its_rd rd (sym (eqb-true rd its_rd parts.1)))
+  made_owned rec rd _ carried makes = both_ways makes refl
+
+  -- and one that can run
+  made_runnable : (rec : ℕ) (c : Call) → IsCarried s cpu c given new → makes_runnable c rec ≡ true → can_run (new.rec rec) ≡ true
+  unfolding behind changed makes_runnable
+  made_runnable rec (call.RecCreate rd other mpidr flags aux0 aux1) carried makes =
+      let parts = and_parts (rec == other) (flags == 1) makes in rw (carried.done.1, parts.0) parts.1
+  made_runnable rec _ carried makes = both_ways makes refl
+
+  -- one asks for nothing once it is made, and for the rest of a stretch once a part is set
+  made_request : (rec base : ℕ) (c : Call) → IsCarried s cpu c given new → moves_request c given rec base ≡ true
+      → asks_from (new.rec rec) base ≡ true
+  unfolding behind changed reached_change rec_updated moves_request
+  made_request rec base (call.RecCreate rd other mpidr flags aux0 aux1) carried makes =
+      let parts = and_parts (rec == other) (base == 0) makes in
+      rw (carried.done.1, parts.0) (eq-eqb 0 base (sym (eqb-true base 0 parts.1)))
+  made_request rec base (call.RttSetRipas rd other from top) carried makes =
+      let parts = and_parts (rec == other) (is_told base given) makes in
+      let (end, (reached, is_ok, is_next)) = carried.done in
+      let told = eqb-true base end (ap (is_told base) (sym is_ok) ∙ parts.1) in
+      rw (is_next, parts.0) (and_from _ _ carried.rows.1.0 (eq-eqb end base (sym told)))
+  made_request rec base _ carried makes = both_ways makes refl
+
+-- ---- what calls leave
+
+module _ (test : Option RecRecord → Bool) (absent : test None ≡ false) (rec : ℕ) (s : State) (met : test (s.rec rec) ≡ true) (cpu : ℕ) where
+  -- A test that goes by neither where a REC runs nor what it asks for is met behind a call that doesn't destroy the REC; one that turns off is looked
+  -- at apart.
+  keeps_record : ((update : RecUpdate) → ¬ (update ≡ TurnedOff) → test (Some (rec_updated update (rec_at s rec))) ≡ true) → (c : Call)
+      → destroys c rec ≡ false → (turns_off c ≡ true → test (Some (rec_updated TurnedOff (rec_at s rec))) ≡ true)
+      → StaysDone test absent rec s met (behind s cpu c).1
+  unfolding behind destroys reached_change turns_off
+  keeps_record updated (call.RecDestroy other) keeps off = apart other rec keeps
+  keeps_record updated (call.RecEnter other) keeps off = λ here. updated (Entered cpu) (λ same. cc)
+  keeps_record updated (call.IpaStateSet base top ripas) keeps off = λ here. updated (RipasRequested base top (ripas_asked ripas)) (λ same. cc)
+  keeps_record updated (call.HostCall imm) keeps off = λ here. updated (HostCalled imm) (λ same. cc)
+  keeps_record updated call.CpuOff keeps off = λ here. off refl
+  keeps_record updated call.SystemOff keeps off = λ here. updated SystemTurnedOff (λ same. cc)
+  keeps_record updated call.Exit keeps off = λ here. updated Exited (λ same. cc)
+  keeps_record updated (call.RttInitRipas rd base top) keeps off = λ end. tt
+  keeps_record updated (call.RttSetRipas rd other base top) keeps off = λ end here. updated (RequestMoved end) (λ same. cc)
+  keeps_record updated _ keeps off = tt
+
+  module _ (idle : (found : Option RecRecord) → test found ≡ true → IsTrue (is_none (unwrap_or found no_rec).cpu)) where
+    -- a REC that runs on no CPU isn't the one that the CPU is inside of
+    not_own : is_inside s cpu ≡ true → rec ≡ rec_inside s cpu → ⊥
+    not_own inside here =
+        both_ways (inside_runs s cpu inside)
+        (ap (λ g. runs_on cpu (s.rec g)) (sym here) ∙ runs_on-read s.rec cpu rec ∙ idle_elsewhere cpu _ (idle (s.rec rec) met))
+
+    -- so a test that asks for that is met behind a call that neither destroys nor enters it, where it is once a part of a stretch is set
+    keeps_idle : (c : Call) → is_placed s cpu (class_of c) ≡ true → (destroys c rec || enters c rec) ≡ false
+        → ((end : ℕ) → sets_request c rec ≡ true → test (Some (rec_updated (RequestMoved end) (rec_at s rec))) ≡ true)
+        → StaysDone test absent rec s met (behind s cpu c).1
+    unfolding behind class_of destroys enters sets_request reached_change
+    keeps_idle (call.RecDestroy other) placed keeps moved = apart other rec (or_parts (other == rec) false keeps).0
+    keeps_idle (call.RecEnter other) placed keeps moved = λ here. both_ways (eq-eqb rec other here) keeps
+    keeps_idle (call.IpaStateSet base top ripas) placed keeps moved = λ here. absurd (not_own (and_parts (is_inside s cpu) _ placed).0 here)
+    keeps_idle (call.HostCall imm) placed keeps moved = λ here. absurd (not_own (and_parts (is_inside s cpu) _ placed).0 here)
+    keeps_idle call.CpuOff placed keeps moved = λ here. absurd (not_own (and_parts (is_inside s cpu) _ placed).0 here)
+    keeps_idle call.SystemOff placed keeps moved = λ here. absurd (not_own (and_parts (is_inside s cpu) _ placed).0 here)
+    keeps_idle call.Exit placed keeps moved = λ here. absurd (not_own placed here)
+    keeps_idle (call.RttInitRipas rd base top) placed keeps moved = λ end. tt
+    keeps_idle (call.RttSetRipas rd other base top) placed keeps moved = λ end here. moved end (eq-eqb rec other here)
+    keeps_idle _ placed keeps moved = tt
+
+-- ---- tests
+
+-- whose a REC is, and whether it can run, goes by no update but that it turns itself off
+owner_updated : (rd : ℕ) (update : RecUpdate) (rec : RecRecord) → has_owner (Some rec) rd ≡ true → has_owner (Some (rec_updated update rec)) rd ≡ true
+unfolding rec_updated
+owner_updated rd (Entered cpu) rec is = is
+owner_updated rd Exited rec is = is
+owner_updated rd (RipasRequested base top ripas) rec is = is
+owner_updated rd (HostCalled imm) rec is = is
+owner_updated rd TurnedOff rec is = is
+owner_updated rd SystemTurnedOff rec is = is
+owner_updated rd (RequestMoved base) rec is = is
+
+runnable_updated : (update : RecUpdate) (rec : RecRecord) → ¬ (update ≡ TurnedOff) → can_run (Some rec) ≡ true
+    → can_run (Some (rec_updated update rec)) ≡ true
+unfolding rec_updated
+runnable_updated (Entered cpu) rec other is = is
+runnable_updated Exited rec other is = is
+runnable_updated (RipasRequested base top ripas) rec other is = is
+runnable_updated (HostCalled imm) rec other is = is
+runnable_updated TurnedOff rec other is = absurd (other refl)
+runnable_updated SystemTurnedOff rec other is = is
+runnable_updated (RequestMoved base) rec other is = is
+
+-- what asks so runs on no CPU
+from_idle : (base : ℕ) (found : Option RecRecord) → asks_from found base ≡ true → IsTrue (is_none (unwrap_or found no_rec).cpu)
+from_idle base None asks = both_ways asks refl
+from_idle base (Some rec) asks = (and_parts (is_none rec.cpu) _ asks).0
+
+to_idle : (top ripas : ℕ) (found : Option RecRecord) → asks_to found top ripas ≡ true → IsTrue (is_none (unwrap_or found no_rec).cpu)
+to_idle top ripas None asks = both_ways asks refl
+to_idle top ripas (Some rec) asks = (and_parts (is_none rec.cpu) _ asks).0
+
+-- what is asked for is read so
+up_to_read : (found : Option Request) (top ripas : ℕ) → is_up_to found top ripas ≡ true
+    → (is_some found ≡ true) × ((unwrap_or found no_request).top ≡ top) × (ripas_number (unwrap_or found no_request).ripas ≡ ripas)
+up_to_read None top ripas is = both_ways is refl
+up_to_read (Some request) top ripas is =
+    let parts = and_parts (request.top == top) (ripas_number request.ripas == ripas) is in
+    (refl, eqb-true request.top top parts.0, eqb-true (ripas_number request.ripas) ripas parts.1)
+
+-- so it is once a part of it is set
+to_moved : (top ripas end : ℕ) (rec : RecRecord) → asks_to (Some rec) top ripas ≡ true
+    → asks_to (Some (rec_updated (RequestMoved end) rec)) top ripas ≡ true
+unfolding rec_updated
+to_moved top ripas end rec asks =
+    let parts = and_parts (is_none rec.cpu) (is_up_to rec.request top ripas) asks in
+    let read = up_to_read rec.request top ripas parts.1 in
+    and_from _ _ parts.0 (and_from _ _ (eq-eqb _ top read.1) (eq-eqb _ ripas read.2))
+
+-- what begins there is read so
+pub from_read : (base : ℕ) (found : Option RecRecord) → asks_from found base ≡ true
+    → (is_none (unwrap_or found no_rec).cpu ≡ true) × ((request_of (unwrap_or found no_rec)).base ≡ base) × (is_some found ≡ true)
+from_read base None asks = both_ways asks refl
+from_read base (Some rec) asks =
+    let parts = and_parts (is_none rec.cpu) ((request_of rec).base == base) asks in (parts.0, eqb-true _ base parts.1, refl)
+
+pub to_read : (top ripas : ℕ) (found : Option RecRecord) → asks_to found top ripas ≡ true
+    → (is_none (unwrap_or found no_rec).cpu ≡ true) × (is_some (unwrap_or found no_rec).request ≡ true)
+    × ((request_of (unwrap_or found no_rec)).top ≡ top) × (ripas_number (request_of (unwrap_or found no_rec)).ripas ≡ ripas)
+to_read top ripas None asks = both_ways asks refl
+to_read top ripas (Some rec) asks =
+    let parts = and_parts (is_none rec.cpu) (is_up_to rec.request top ripas) asks in
+    let read = up_to_read rec.request top ripas parts.1 in (parts.0, read.0, read.1, read.2)
+
+pub owner_read : (rd : ℕ) (found : Option RecRecord) → has_owner found rd ≡ true → (unwrap_or found no_rec).owner ≡ rd
+owner_read rd None is = both_ways is refl
+owner_read rd (Some rec) is = eqb-true rec.owner rd is
+
+pub run_read : (found : Option RecRecord) → can_run found ≡ true → (unwrap_or found no_rec).runnable ≡ true
+run_read None is = both_ways is refl
+run_read (Some rec) is = is
+
+-- ---- a REC that leaves
+
+-- why it does, if it asks for a RIPAS, says what it asks for
+pending_asked : (request : Request) (pending : Option Pending) (base top ripas : ℕ)
+    → by_pending request pending ≡ exit_reason.RipasChange base top ripas
+    → (request.base ≡ base) × (request.top ≡ top) × (ripas_number request.ripas ≡ ripas)
+pending_asked request None base top ripas is = cc
+pending_asked request (Some (Psci function)) base top ripas is = cc
+pending_asked request (Some RipasChange) base top ripas is = (cc, cc, cc)
+pending_asked request (Some (HostCall imm)) base top ripas is = cc
+
+-- it asks for something, where that has pages
+up_to_asked : (found : Option Request) (base top ripas : ℕ) → (unwrap_or found no_request).top ≡ top
+    → ripas_number (unwrap_or found no_request).ripas ≡ ripas → nat_lt base top ≡ true → is_up_to found top ripas ≡ true
+up_to_asked None base top ripas ends kind some = let more = ltb-true base top some in absurd (omega (arith, ends, more))
+up_to_asked (Some request) base top ripas ends kind some = and_from _ _ (eq-eqb _ top ends) (eq-eqb _ ripas kind)
+
+module _ (s : State) (cpu : ℕ) (given : Reply) (new : State) (rec base top ripas : ℕ)
+    (stands : standing_of s cpu ≡ Inside rec (exit_reason.RipasChange base top ripas)) where
+  -- its record, and what that says then
+  left_asking : IsCarried s cpu call.Exit given new
+      → (asks_from (new.rec rec) base ≡ true) × (nat_lt base top ≡ true → asks_to (new.rec rec) top ripas ≡ true)
+  unfolding behind class_of changed rec_updated
+  left_asking carried =
+      let at = rec_inside s cpu in
+      let r = rec_at s at in
+      let is : Inside at (reason_at r) ≡ Inside rec (exit_reason.RipasChange base top ripas) =
+      sym (standing-inside s cpu carried.placed) ∙ stands in
+      let here : rec ≡ at = cc in
+      let why : reason_at r ≡ exit_reason.RipasChange base top ripas = cc in
+      let asked = pending_asked (request_of r) r.pending base top ripas why in
+      let own = eq-eqb rec at here in (
+        rw (carried.done.1, own) (eq-eqb _ base asked.0),
+        λ some. rw (carried.done.1, own) (up_to_asked r.request base top ripas asked.1 asked.2 some),
+      )
+
+-- ---- steps
+
+module _ (rec : ℕ) (s new : State) (cpu : ℕ) (command : Command) (given : Reply) (sound : IsSound s) (step : Step s cpu command given new) where
+  -- the call
+  abbrev c : Call
+  c = call_of command
+
+  -- where it is accepted, it is carried out
+  carried : is_accepted given ≡ true → IsCarried s cpu c given new
+  carried accepted = carried_by s cpu command given new (outcome s cpu c) sound accepted refl step
+
+  module _ (rd : ℕ) where
+    -- where a call makes the REC, it is the realm's
+    pub owned-made : is_accepted given ≡ true → makes_owned c rec rd ≡ true → has_owner (new.rec rec) rd ≡ true
+    owned-made accepted = made_owned s cpu given new rec rd c (carried accepted)
+
+    -- and stays so until it is destroyed
+    pub owned-left : destroys c rec ≡ false → has_owner (s.rec rec) rd ≡ true → has_owner (new.rec rec) rd ≡ true
+    owned-left keeps is =
+        let test = λ (found : Option RecRecord). has_owner found rd in
+        let updated = λ (update : RecUpdate). owner_updated rd update (rec_at s rec) (met_record test refl rec s is) in
+        rec-kept test refl rec s is new cpu command given sound step (λ placed.
+        keeps_record test refl rec s is cpu (λ update _. updated update) c keeps (λ _. updated TurnedOff))
+
+  -- where a call makes it so, it can run
+  pub runnable-made : is_accepted given ≡ true → makes_runnable c rec ≡ true → can_run (new.rec rec) ≡ true
+  runnable-made accepted = made_runnable s cpu given new rec c (carried accepted)
+
+  -- until it is destroyed, or a REC turns itself off
+  pub runnable-left : (destroys c rec || turns_off c) ≡ false → can_run (s.rec rec) ≡ true → can_run (new.rec rec) ≡ true
+  runnable-left keeps is =
+      let parts = or_parts (destroys c rec) (turns_off c) keeps in
+      rec-kept can_run refl rec s is new cpu command given sound step (λ placed.
+      keeps_record can_run refl rec s is cpu (λ update other. runnable_updated update (rec_at s rec) other (met_record can_run refl rec s is)) c
+      parts.0 (λ off. both_ways off parts.1))
+
+  module _ (base : ℕ) where
+    -- where a call makes it ask for that, it does
+    pub from-made : is_accepted given ≡ true → moves_request c given rec base ≡ true → asks_from (new.rec rec) base ≡ true
+    from-made accepted = made_request s cpu given new rec base c (carried accepted)
+
+    -- until it is destroyed, is entered, or a part is set
+    pub from-left : (destroys c rec || enters c rec || sets_request c rec) ≡ false → asks_from (s.rec rec) base ≡ true
+        → asks_from (new.rec rec) base ≡ true
+    from-left keeps is =
+        let test = λ (found : Option RecRecord). asks_from found base in
+        let parts = or_parts (destroys c rec || enters c rec) (sets_request c rec) keeps in
+        rec-kept test refl rec s is new cpu command given sound step (λ placed.
+        keeps_idle test refl rec s is cpu (from_idle base) c placed parts.0 (λ end sets. both_ways sets parts.1))
+
+  module _ (top ripas : ℕ) where
+    -- what it asks for ends there until it is destroyed, or entered
+    pub to-left : (destroys c rec || enters c rec) ≡ false → asks_to (s.rec rec) top ripas ≡ true → asks_to (new.rec rec) top ripas ≡ true
+    to-left keeps is =
+        let test = λ (found : Option RecRecord). asks_to found top ripas in
+        rec-kept test refl rec s is new cpu command given sound step (λ placed.
+        keeps_idle test refl rec s is cpu (to_idle top ripas) c placed keeps (λ end _.
+        to_moved top ripas end (rec_at s rec) (met_record test refl rec s is)))
+
+  -- ---- replies
+
+  module _ (base : ℕ) where
+    -- a call isn't carried out as if it asked for something from elsewhere on
+    rows_asked : (asked : Call) → IsCarried s cpu asked given new → asks_from (s.rec rec) base ≡ true → asks_else asked given rec base ≡ true → ⊥
+    unfolding behind asks_else rec_at
+    rows_asked (call.RecEnter other) carried is other_words =
+        let parts = and_parts (rec == other) (not (is_told base given)) other_words in
+        let read = from_read base (s.rec rec) is in
+        let told : is_told base given ≡ true =
+        ap (is_told base) carried.done.0
+        ∙ eq-eqb base _ (sym (ap (λ g. (request_of (unwrap_or (s.rec g) no_rec)).base) (sym (eqb-true rec other parts.0)) ∙ read.1)) in
+        both_ways told (not-true (is_told base given) parts.1)
+    rows_asked (call.RttSetRipas rd other from top) carried is other_words =
+        let parts = and_parts (rec == other) (not (base == from)) other_words in
+        let read = from_read base (s.rec rec) is in
+        let begins = eqb-true from _ carried.rows.1.1.1.0 in
+        let same : base ≡ from = sym (begins
+        ∙ ap (λ g. (request_of (unwrap_or (s.rec g) no_rec)).base) (sym (eqb-true rec other parts.0)) ∙ read.1) in
+        both_ways (eq-eqb base from same) (not-true (base == from) parts.1)
+    rows_asked _ carried is other_words = both_ways other_words refl
+
+    pub from-denied : asks_from (s.rec rec) base ≡ true → (is_accepted given && asks_else c given rec base) ≡ true → ⊥
+    from-denied is denied =
+        let parts = and_parts (is_accepted given) (asks_else c given rec base) denied in rows_asked c (carried parts.0) is parts.1
+
+-- ---- RECs that leave
+
+-- where a REC leaves, so it is of it
+pub leaves-made : (fact : Fact) (s new : State) (cpu : ℕ) (command : Command) (given : Reply) (standing : Standing) → IsSound s
+    → Step s cpu command given new → is_accepted given ≡ true → standing_of s cpu ≡ standing
+    → leaves_with fact (call_of command) standing ≡ true → holds fact new ≡ true
+unfolding leaves_with
+leaves-made fact s new cpu command given standing sound step accepted =
+    let c = call_of command in by c standing (carried_by s cpu command given new (outcome s cpu c) sound accepted refl step)
+  where
+    of_reason : (fact : Fact) (rec : ℕ) (reason : ExitReason) → IsCarried s cpu call.Exit given new → standing_of s cpu ≡ Inside rec reason
+        → is_left_with fact rec reason ≡ true → holds fact new ≡ true
+    of_reason (AsksFrom rec base) at (exit_reason.RipasChange from top ripas) carried stands leaves =
+        let parts = and_parts (rec == at) (base == from) leaves in
+        (λ i. asks_from (new.rec (eqb-true rec at parts.0 i)) (eqb-true base from parts.1 i))
+        ∙ (left_asking s cpu given new at from top ripas stands carried).0
+    of_reason (AsksTo rec top ripas) at (exit_reason.RipasChange from its_top its_ripas) carried stands leaves =
+        let parts = and_parts (rec == at && top == its_top && ripas == its_ripas) (nat_lt from its_top) leaves in
+        let outer = and_parts (rec == at && top == its_top) (ripas == its_ripas) parts.0 in
+        let inner = and_parts (rec == at) (top == its_top) outer.0 in
+        (λ i. asks_to (new.rec (eqb-true rec at inner.0 i)) (eqb-true top its_top inner.1 i) (eqb-true ripas its_ripas outer.1 i))
+        ∙ (left_asking s cpu given new at from its_top its_ripas stands carried).1 parts.1
+    of_reason _ at _ carried stands leaves = both_ways leaves refl
+
+    by : (c : Call) (standing : Standing) → IsCarried s cpu c given new → standing_of s cpu ≡ standing
+        → leaves_with fact c standing ≡ true → holds fact new ≡ true
+    by call.Exit (Inside rec reason) carried stands leaves = of_reason fact rec reason carried stands leaves
+    by _ _ carried stands leaves = both_ways leaves refl
