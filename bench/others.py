@@ -1,17 +1,20 @@
 #!/usr/bin/env python3
 """Gives rmmfind histories that generate.py doesn't draw, good ones and ones with a changed reply, and times it beside rmmcheck.
 
-usage: others.py [--find PATH] [--check PATH] [--seconds S] [--loads LOAD ..] [--lines COUNT ..] [--refusals] [--instructions] [SEED]
+usage: others.py [--find PATH] [--check PATH] [--seconds S] [--loads LOAD ..] [--lines COUNT ..] [--refusals | --changes]
+                 [--instructions] [SEED]
 
 Eight CPUs call all the time, on 4,096 granules. Under `few` they delegate and undelegate four granules. Under `late` they do so with all,
 and each return may be delayed by up to 64 events. Under `recs` one realm has a REC on each CPU, and these extend and read the same
 four registers; under `recs-2` and `recs-4` so many realms share the CPUs. Under `parallel` all give pages to one new realm and set its
 RIPAS; under `stretches` its RECs ask for other RIPAS, which is set in parts while pages come and go; under `stretches-late` returns may be
-delayed too, and under `narrow` it is done in sixteen pages without delay, whose entries the host reads. A reply is changed at the beginning,
-in the middle or at the end; it may be right in another order. What was found is printed after the seconds that it took, and how many checks
-that is of the good history's lines up to the change.
+delayed too, under `narrow` it is done in sixteen pages without delay, whose entries the host reads, and under `roaming` any CPU enters
+any REC. A reply is changed at the beginning, in the middle or at the end; it may be right in another order. What was found is printed
+after the seconds that it took, and how many checks that is of the good history's lines up to the change.
 The loads of generate.py can be named too. With `--refusals`, of each function a call late in the history that was carried out is refused
-instead, once with each status; 200 events follow it. `--instructions` counts instructions in place of seconds, with valgrind.
+instead, once with each status; 200 events follow it. With `--changes`, of each function a call late in the history that was carried out and
+one that was refused get each other reply that is near: another status, none, or a word that is more or less. `--instructions` counts
+instructions in place of seconds, with valgrind.
 """
 import argparse
 import collections
@@ -179,9 +182,24 @@ class Narrow(Stretches):
         return [*super().host_calls(ipa), (RTT_READ_ENTRY, [self.rd, ipa, LAST_LEVEL])]
 
 
+class Roaming(Stretches):
+    """The same of RECs that any CPU enters, and whose RIPAS any CPU sets."""
+
+    def command(self, cpu):
+        rec, ipa = self.machine.running.get(cpu), self.draw.randrange(self.width) * PAGE_BYTES
+        if rec:
+            return (EXIT, []) if rec.pending or self.draw.random() < 0.1 else self.asked(ipa)
+        address = self.granules_of(self.draw.randrange(CPUS))[0]
+        request = self.machine.recs[address].request
+        if request and request.base < request.top and self.draw.random() < 0.7:
+            top = self.draw.randrange(request.base, request.top, PAGE_BYTES) + PAGE_BYTES
+            return RTT_SET_RIPAS, [self.rd, address, request.base, top]
+        return self.draw.choice([(REC_ENTER, [address]), *self.host_calls(ipa)])
+
+
 LOADS = {"few": (Few, 1), "late": (Many, 64), "recs": (Recs, 1), "recs-2": (partial(SharedRecs, realms=2), 1),
          "recs-4": (partial(SharedRecs, realms=4), 1), "parallel": (Parallel, 1), "stretches": (Stretches, 1),
-         "stretches-late": (Stretches, 64), "narrow": (Narrow, 1)}
+         "stretches-late": (Stretches, 64), "narrow": (Narrow, 1), "roaming": (Roaming, 1)}
 
 
 def call_line(cpu, number, function, words):
@@ -254,6 +272,34 @@ def refusals(history):
             yield f"{NAMES[function]} {reply}", [*history[:place], refused, *history[place + 1:place + 200]]
 
 
+def near(reply):
+    """Other replies like one."""
+    first, *words = reply.split()
+    refusals = ["err 1 0", "err 2 0", "err 3 0", "err 4 2", "err 4 3"]
+    yield from (other for other in [*refusals, *["ok"] * (first == "err")] if other != reply)
+    for place, word in enumerate(words if first == "ok" else []):
+        number = int(word, 16)
+        others = [number ^ 1] if number < 4 else [number + PAGE_BYTES, number - PAGE_BYTES] if number >= PAGE_BYTES else [number + 1]
+        for other in others:
+            yield " ".join([first, *words[:place], f"{other:x}", *words[place + 1:]])
+
+
+def changes(history):
+    """For each function, and for calls that were carried out and refused, the histories in which the middle one of the last third is replied so."""
+    calls, returned = {}, collections.defaultdict(list)
+    for place, line in enumerate(history):
+        kind, *words = line.split()
+        if kind == "c":
+            calls[words[0], words[1]] = words[2]
+        elif kind == "r" and place > 2 * len(history) // 3:
+            returned[calls[words[0], words[1]], words[2]].append(place)
+    for (function, _), places in sorted(returned.items()):
+        place = places[len(places) // 2]
+        _, cpu, number, reply = history[place].split(" ", 3)
+        for other in near(reply):
+            yield f"{NAMES[function]} {reply[:20]}: {other[:24]}", [*history[:place], f"r {cpu} {number} {other}", *history[place + 1:place + 200]]
+
+
 def answer_of(done):
     return "order" if done.returncode == 0 else done.stdout.strip().replace("\n", ", ") or f"status {done.returncode}"
 
@@ -282,11 +328,11 @@ def written(folder, name, lines):
     return path
 
 
-def kinds_of(good, draw, is_refused):
+def kinds_of(good, draw, changed):
     """The histories to search, by what was changed, each with the share of a check that leads up to the change."""
     count = len(good)
-    if is_refused:
-        return [(kind, history, (len(history) - 200) / count) for kind, history in refusals(good)]
+    if changed:
+        return [(kind, history, (len(history) - 200) / count) for kind, history in changed(good)]
     places = {"beginning": count // 10, "middle": count // 2, "end": count - 1}
     return [("good", good, 1), *((kind, changed_at(good, place, draw), place / count) for kind, place in places.items())]
 
@@ -298,7 +344,9 @@ def main():
     parser.add_argument("--seconds", type=float, default=60)
     parser.add_argument("--loads", nargs="*", default=list(LOADS))
     parser.add_argument("--lines", type=int, nargs="*", default=[1000, 10000])
-    parser.add_argument("--refusals", action="store_true")
+    changed = parser.add_mutually_exclusive_group()
+    changed.add_argument("--refusals", dest="changed", action="store_const", const=refusals)
+    changed.add_argument("--changes", dest="changed", action="store_const", const=changes)
     parser.add_argument("--instructions", action="store_true")
     parser.add_argument("seed", type=int, nargs="?", default=1)
     words = parser.parse_args()
@@ -310,9 +358,9 @@ def main():
             with tempfile.TemporaryDirectory() as folder:
                 texts = [written(folder, "history", good), written(folder, "certificate", certificate)]
                 _, check = measure([words.check, *texts], words.seconds)
-                for kind, history, share in kinds_of(good, draw, words.refusals):
+                for kind, history, share in kinds_of(good, draw, words.changed):
                     answer, spent = measure([words.find, written(folder, "searched", history)], words.seconds)
-                    print(f"{load:9} {count:8} {kind:{32 if words.refusals else 10}} {spent:9.2f} {unit}, "
+                    print(f"{load:9} {count:8} {kind:{58 if words.changed else 10}} {spent:9.2f} {unit}, "
                           f"{spent / check / share:5.1f} checks: {answer}", flush=True)
 
 
