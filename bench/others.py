@@ -9,7 +9,8 @@ and each return may be delayed by up to 64 events. Under `recs` one realm has a 
 four registers; under `recs-2` and `recs-4` so many realms share the CPUs. Under `parallel` all give pages to one new realm and set its
 RIPAS; under `stretches` its RECs ask for other RIPAS, which is set in parts while pages come and go; under `stretches-late` returns may be
 delayed too, under `narrow` it is done in sixteen pages without delay, whose entries the host reads, and under `roaming` any CPU enters
-any REC. A reply is changed at the beginning, in the middle or at the end; it may be right in another order. What was found is printed
+any REC; under `roaming-late` returns may be delayed too, and under `stopping` all CPUs but one stop, one after another, each in a call.
+A reply is changed at the beginning, in the middle or at the end; it may be right in another order. What was found is printed
 after the seconds that it took, and how many checks that is of the good history's lines up to the change.
 The loads of generate.py can be named too. With `--refusals`, of each function a call late in the history that was carried out is refused
 instead, once with each status; 200 events follow it. With `--changes`, of each function a call late in the history that was carried out and
@@ -197,9 +198,13 @@ class Roaming(Stretches):
         return self.draw.choice([(REC_ENTER, [address]), *self.host_calls(ipa)])
 
 
-LOADS = {"few": (Few, 1), "late": (Many, 64), "recs": (Recs, 1), "recs-2": (partial(SharedRecs, realms=2), 1),
-         "recs-4": (partial(SharedRecs, realms=4), 1), "parallel": (Parallel, 1), "stretches": (Stretches, 1),
-         "stretches-late": (Stretches, 64), "narrow": (Narrow, 1), "roaming": (Roaming, 1)}
+# How a load is drawn: by how many events its returns may be delayed, and whether all CPUs but the last stop one after another.
+Load = collections.namedtuple("Load", "kind delay stops", defaults=(1, False))
+
+LOADS = {"few": Load(Few), "late": Load(Many, 64), "recs": Load(Recs), "recs-2": Load(partial(SharedRecs, realms=2)),
+         "recs-4": Load(partial(SharedRecs, realms=4)), "parallel": Load(Parallel), "stretches": Load(Stretches),
+         "stretches-late": Load(Stretches, 64), "narrow": Load(Narrow), "roaming": Load(Roaming), "roaming-late": Load(Roaming, 64),
+         "stopping": Load(Roaming, 1, True)}
 
 
 def call_line(cpu, number, function, words):
@@ -211,7 +216,7 @@ def texts_of(load, count, draw):
     machine = Machine(GRANULES)
     if load not in LOADS:
         return run(machine, DRAWN[load](machine, draw), CPUS, count, draw)
-    kind, delay = LOADS[load]
+    kind, delay, stops = LOADS[load]
     source = kind(machine, draw)
     history = [f"rmh1 {GRANULES} {CPUS}"]
     commits = []
@@ -222,6 +227,8 @@ def texts_of(load, count, draw):
         commits.append((0, calls[0], machine.answer(0, function, words)))
         history.append(f"r 0 {calls[0]} {commits[-1][2]}")
         calls[0] += 1
+    first = len(history)
+    ends = [first + (count - first) * (cpu + 1) // CPUS if stops else count for cpu in range(CPUS)]
     while len(history) < count:
         cpu = draw.randrange(CPUS)
         state = waiting[cpu]
@@ -229,6 +236,8 @@ def texts_of(load, count, draw):
             function, words = source.command(cpu)
             history.append(call_line(cpu, calls[cpu], function, words))
             waiting[cpu] = (function, words)
+        elif len(history) >= ends[cpu]:
+            continue
         elif len(state) == 2:
             waiting[cpu] = (*state, machine.answer(cpu, *state), len(history) + draw.randint(0, delay - 1))
             commits.append((cpu, calls[cpu], waiting[cpu][2]))
@@ -236,7 +245,7 @@ def texts_of(load, count, draw):
             history.append(f"r {cpu} {calls[cpu]} {state[2]}")
             calls[cpu] += 1
             waiting[cpu] = None
-        elif all(other and len(other) == 4 for other in waiting):
+        elif all(other and len(other) == 4 for other, end in zip(waiting, ends) if len(history) < end):
             waiting[cpu] = (*state[:3], len(history))
     certificate = [f"k {cpu} {number}" if number < calls[cpu] else f"u {cpu} {number} {reply}" for cpu, number, reply in commits]
     return history, certificate

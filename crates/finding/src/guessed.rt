@@ -148,6 +148,7 @@ fn judged_guess(
 {
     let GuessedOrder {
         cpus,
+        claims,
         unexplained,
         unread,
     } = order;
@@ -158,7 +159,7 @@ fn judged_guess(
     if unread.is_none() && unexplained.is_some() {
         return Ok(Shown::Fails(unexplained));
     }
-    let order = certificate_of(alloc, history, cpus.as_slice(), &[])?;
+    let order = certificate_of(alloc, history, cpus.as_slice(), claims.as_slice())?;
     let judged = judgement_of(alloc, offers, history, order)?;
     match judged {
         Judged::Linearization(order) => Ok(Shown::Linearization(order)),

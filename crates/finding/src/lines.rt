@@ -3,9 +3,9 @@
 ghost use Rattle.std.specs.Prelude.{IfSome};
 ghost use Rattle.rmm_spec.specs.CertificateText.{IsLine};
 
-use crate::trail::Claim;
 use arrayvec::ArrayVec;
 use certificate::Certificate;
+use guessing::Claim;
 use history::History;
 use rmi_codec::reply_has_text;
 use rmi_view::copied_reply;

@@ -11,7 +11,7 @@ use history::History;
 use rmi_view::CommandRef;
 use rmm_spec::Event;
 use std::alloc::{AllocError, Global};
-use std::cmp::min;
+use std::cmp::{max, min};
 
 /// A return that may be the first up to which there is no order.
 #[derive(Clone, Copy)]
@@ -251,30 +251,56 @@ fn is_guessed_up_to(
     Ok(is_guessed)
 }
 
+/// Whether an order is guessed of the events before the return at a later place, of a call that is open at the first.
+pub(crate) fn is_guessed_before(
+    alloc: Global,
+    offers: &mut Offers,
+    history: &History,
+    first: u32,
+    later: u32,
+) -> Result<bool, AllocError> {
+    let open = open_at(history, first);
+    let parts = parts_from(alloc, offers, history, first_of(&open.called, first))?;
+    is_guessed_up_to(alloc, offers, &parts, later.saturating_sub(1))
+}
+
 /// The last place at which a call returns that is open at the place.
 pub(crate) fn last_return(history: &History, place: u32) -> u32
     ensures { place ≤ result }
 {
+    let mut last = place;
+    for returned in open_returns(history, place) {
+        if let Some(returned) = returned {
+            last = max(last, returned);
+        }
+    }
+    last
+}
+
+/// The places at which the calls return that are open at a place, by their CPUs.
+pub(crate) fn open_returns(history: &History, place: u32) -> [Option<u32>; 8] {
     let _fact = history.well_formed();
+    let mut returns = [None; 8];
     let mut has_event = [false; 8];
     let mut left = history.config().cpus();
-    let mut last = place;
     for at in place.saturating_add(1)..history.len() as u32 {
         if left == 0 {
             break;
         }
         let event = history.event(at as usize);
-        let Some(has_event) = has_event.get_mut(usize::from(cpu_of(&event))) else {
+        let cpu = usize::from(cpu_of(&event));
+        let (Some(has_event), Some(returned)) = (has_event.get_mut(cpu), returns.get_mut(cpu))
+        else {
             continue;
         };
         if *has_event {
             continue;
         }
         if matches!(event, Event::Returned { .. }) {
-            last = at;
+            *returned = Some(at);
         }
         *has_event = true;
         left = left.saturating_sub(1);
     }
-    last
+    returns
 }

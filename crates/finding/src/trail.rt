@@ -1,6 +1,6 @@
 //! The calls of kept orders as a tree, where what orders have in common stands once.
 
-use guessing::Placed;
+use guessing::{Claim, Placed};
 use rmi_view::copied_reply;
 use rmm_spec::{Line, Reply};
 use std::alloc::{AllocError, Global};
@@ -15,13 +15,6 @@ struct Step {
     // which of the claims it has, counted from 1; 0 where it returns
     claim: usize,
     before: usize,
-}
-
-/// What the last call of a CPU, which is open, is claimed to have been answered.
-#[derive(Drop)]
-pub(crate) struct Claim {
-    pub(crate) cpu: u8,
-    pub(crate) reply: Reply,
 }
 
 /// The calls of an order, and what those that are open are claimed to have been answered.

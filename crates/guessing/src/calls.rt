@@ -1,8 +1,6 @@
 //! Calls that are open at an event.
 
-ghost use Rattle.rmi_view.specs.Seen.{HasFewWords, reply_seen};
-ghost use Rattle.std.specs.Prelude.{◌≤◌, length, IfSome};
-
+use crate::asked::Asked;
 use crate::steps::Step;
 use history::History;
 use rmi_view::{CommandRef, ReplyRef};
@@ -26,10 +24,9 @@ pub(crate) struct OpenCall<'h> {
     pub(crate) is_placed: bool,
     /// The measurement that it reads or extends.
     pub(crate) register: Option<usize>,
-    ghost few: { length command.words.now ≤ 10 },
 }
 
-impl OpenCall<'_> {
+impl<'h> OpenCall<'h> {
     /// Whether it changes nothing, and doesn't stand in the order.
     pub(crate) fn is_waiting_look(&self) -> bool {
         self.is_look && !self.is_placed
@@ -38,6 +35,20 @@ impl OpenCall<'_> {
     /// Whether it reads or extends an extensible measurement.
     pub(crate) fn is_measured(&self) -> bool {
         self.register.is_some()
+    }
+
+    /// The call, as a machine is asked for it.
+    pub(crate) fn asked(&self) -> Asked<'h> {
+        Asked {
+            cpu: self.cpu,
+            command: self.command,
+            reply: if is_never(self.returned) {
+                None
+            } else {
+                Some(self.reply)
+            },
+            is_measured: self.is_measured(),
+        }
     }
 
     /// The call, as it was put in at the place.
@@ -54,9 +65,7 @@ impl OpenCall<'_> {
 }
 
 /// The command of the call at a place.
-pub(crate) fn command_at(history: &History, place: usize) -> Option<CommandRef<'_>>
-    ensures few { IfSome result (λ command. length command.words.now ≤ 10) }
-{
+pub(crate) fn command_at(history: &History, place: usize) -> Option<CommandRef<'_>> {
     if place >= history.len() {
         return None;
     }
@@ -64,9 +73,7 @@ pub(crate) fn command_at(history: &History, place: usize) -> Option<CommandRef<'
 }
 
 /// The reply of the return at a place.
-pub(crate) fn reply_at(history: &History, place: usize) -> Option<ReplyRef<'_>>
-    ensures few { IfSome result (λ reply. HasFewWords (reply_seen reply)) }
-{
+pub(crate) fn reply_at(history: &History, place: usize) -> Option<ReplyRef<'_>> {
     if place >= history.len() {
         return None;
     }
@@ -84,9 +91,7 @@ pub(crate) fn is_never(returned: u32) -> bool {
 }
 
 /// The reply of a call that returns at the place. One that doesn't return is carried out, without words.
-pub(crate) fn reply_of(history: &History, returned: u32) -> Option<ReplyRef<'_>>
-    ensures few { IfSome result (λ reply. HasFewWords (reply_seen reply)) }
-{
+pub(crate) fn reply_of(history: &History, returned: u32) -> Option<ReplyRef<'_>> {
     if is_never(returned) {
         return Some(ReplyRef::Ok(&[]));
     }
@@ -134,8 +139,13 @@ pub(crate) fn number_of(command: CommandRef<'_>) -> Option<usize> {
 
 /// Whether two calls name one word.
 pub fn shares_word(one: CommandRef<'_>, other: CommandRef<'_>) -> bool {
-    for word in one.words {
-        if other.words.contains(word) {
+    share_word(one.words, other.words)
+}
+
+/// Whether a word is among both.
+pub(crate) fn share_word(words: &[u64], others: &[u64]) -> bool {
+    for word in words {
+        if others.contains(word) {
             return true;
         }
     }

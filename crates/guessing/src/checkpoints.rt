@@ -103,7 +103,8 @@ impl Draft<'_> {
         let Some(between) = self.steps.as_slice().get(start.steps..steps) else {
             return Ok(None);
         };
-        if !takes_all(history, &mut machine, between)? {
+        let mut unkept = Vec::new(alloc);
+        if !takes_all(history, &mut machine, between, &mut unkept)? {
             return Ok(None);
         }
         let copy = machine.copy()?;

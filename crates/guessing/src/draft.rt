@@ -1,12 +1,10 @@
 //! An order that is put together event by event.
 
-use crate::calls::{
-    CPUS, OpenCall, command_at, is_look, is_never, measured, never, reply_of, shares_word,
-};
+use crate::calls::{CPUS, OpenCall, command_at, is_look, is_never, measured, never, reply_of};
 use crate::checkpoints::Checkpoints;
+use crate::claims::{Claim, copied_claims};
 use crate::open_calls::OpenCalls;
 use crate::registers::{Registers, Use};
-use crate::ripas::{ripas_read, ripas_set};
 use crate::steps::Step;
 use history::{EventRef, History, Places};
 use rmm_spec::FunctionId;
@@ -19,6 +17,8 @@ pub(crate) struct Draft<'h> {
     pub(crate) machine: Machine,
     pub(crate) open: OpenCalls<'h>,
     pub(crate) steps: Vec<Step>,
+    /// What those that don't return are claimed to have been answered.
+    pub(crate) claims: Vec<Claim>,
     pub(crate) checkpoints: Checkpoints,
     pub(crate) registers: Registers,
     // what returns there or later counts as what doesn't return
@@ -36,6 +36,7 @@ impl<'h> Draft<'h> {
             machine: Machine::new(alloc, history.config())?,
             open: OpenCalls::none(),
             steps: Vec::new(alloc),
+            claims: Vec::new(alloc),
             checkpoints: Checkpoints::none(alloc),
             registers: Registers::new(alloc),
             until,
@@ -48,6 +49,7 @@ impl<'h> Draft<'h> {
             machine: self.machine.copy()?,
             open: self.open,
             steps: self.steps.to_vec(alloc)?,
+            claims: copied_claims(alloc, self.claims.as_slice())?,
             checkpoints: self.checkpoints.copy()?,
             registers: self.registers.copy()?,
             until,
@@ -167,79 +169,8 @@ impl<'h> Draft<'h> {
         }
     }
 
-    // Puts in the CPU's call, after others that are open where it isn't given its reply without them.
-    fn place_with_others(
-        &mut self,
-        alloc: Global,
-        history: &History,
-        cpu: usize,
-        place: usize,
-    ) -> Result<bool, AllocError> {
-        if self.place_call(cpu, place)? {
-            self.place_looks(cpu, place)?;
-            return Ok(true);
-        }
-        if self.place_after(cpu, place, true)? {
-            return Ok(true);
-        }
-        if self.place_reordered(alloc, history, cpu, place)? {
-            self.place_looks(cpu, place)?;
-            return Ok(true);
-        }
-        self.place_after(cpu, place, false)
-    }
-
-    // The same, after those that are related, or that aren't and return, the one that returns next first.
-    fn place_after(&mut self, cpu: usize, place: usize, related: bool) -> Result<bool, AllocError> {
-        let Some(own) = self.open.of(cpu).copied() else {
-            return Ok(false);
-        };
-        let mut last = place;
-        for _other in 0..CPUS {
-            let Some(call) = self.open.next_return(last) else {
-                return Ok(false);
-            };
-            last = call.returned as usize;
-            if call.is_placed || self.is_related(&own, call) != related {
-                continue;
-            }
-            if is_never(call.returned) && !related {
-                return Ok(false);
-            }
-            let other = usize::from(call.cpu);
-            if self.places_both(other, cpu, place)? {
-                return Ok(true);
-            }
-        }
-        Ok(false)
-    }
-
-    // Puts in one CPU's call and then another's, where the machine gives them their replies.
-    fn places_both(&mut self, first: usize, cpu: usize, place: usize) -> Result<bool, AllocError> {
-        if !self.place_call(first, place)? {
-            return Ok(false);
-        }
-        self.place_looks(first, place)?;
-        if self.open.waits(cpu) && !self.place_call(cpu, place)? {
-            return Ok(false);
-        }
-        self.place_looks(cpu, place)?;
-        Ok(true)
-    }
-
-    // Whether a call and another open one share a word. Where the call reads a RIPAS, whether the other sets that, or names the entry.
-    fn is_related(&self, own: &OpenCall<'h>, other: &OpenCall<'h>) -> bool {
-        let Some(read) = ripas_read(own.command, own.reply) else {
-            return shares_word(own.command, other.command);
-        };
-        match ripas_set(&self.machine, other.command, other.reply) {
-            Some(set) => read.is_set_by(&set),
-            None => other.command.words.contains(&read.ipa),
-        }
-    }
-
-    // Puts in each open call that changes nothing and is given its reply now, after a CPU's call that may have changed something.
-    fn place_looks(&mut self, after: usize, place: usize) -> Result<(), AllocError> {
+    /// Puts in each open call that changes nothing and is given its reply now, after a CPU's call that may have changed something.
+    pub(crate) fn place_looks(&mut self, after: usize, place: usize) -> Result<(), AllocError> {
         if !self.open.has_looks() || self.open.is_look(after) {
             return Ok(());
         }

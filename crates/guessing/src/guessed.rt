@@ -1,5 +1,6 @@
 //! The guess.
 
+use crate::claims::Claim;
 use crate::draft::Draft;
 use crate::order::{Arranged, with_uses};
 use crate::registers::Unread;
@@ -13,6 +14,8 @@ use std::alloc::{AllocError, Global};
 pub struct GuessedOrder {
     /// The CPUs of its calls, one after another: of all calls that return, or of those up to the return that it doesn't explain.
     pub cpus: Vec<u8>,
+    /// What those of its calls that don't return are claimed to have been answered.
+    pub claims: Vec<Claim>,
     /// The place of that return.
     pub unexplained: Option<u32>,
     /// The first reading of a measurement, if any, that gave another value than in the order.
@@ -39,8 +42,10 @@ pub fn guess<T: Tries>(
     draft.add_open_calls(history)?;
     let placed = others(alloc, draft.steps.as_slice())?;
     let Arranged { cpus, unread } = with_uses(alloc, history, placed, &draft.registers, tries)?;
+    let Draft { claims, .. } = draft;
     Ok(GuessedOrder {
         cpus,
+        claims,
         unexplained,
         unread,
     })

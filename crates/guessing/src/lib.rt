@@ -6,20 +6,25 @@
 #![tactic(auto)]
 
 mod arrangement;
+mod asked;
 mod beginnings;
 mod calls;
 mod checkpoints;
+mod claims;
 mod draft;
+mod entry_order;
 mod first_parts;
 mod guessed;
 mod lanes;
 mod looking_back;
 mod moving;
+mod nearness;
 mod odds;
 mod open_calls;
 mod order;
 mod placing;
 mod precedence;
+mod rec_order;
 mod registers;
 mod reordering;
 mod replay;
@@ -27,9 +32,11 @@ mod ripas;
 mod solving;
 mod steps;
 mod tries;
+mod with_others;
 
 pub use arrangement::arranged;
 pub use calls::shares_word;
+pub use claims::Claim;
 pub use first_parts::FirstParts;
 pub use guessed::{GuessedOrder, guess};
 pub use order::{Arranged, Placed};

@@ -1,6 +1,7 @@
 //! A call that has to stand before calls that returned earlier.
 
 use crate::calls::OpenCall;
+use crate::claims::put_claims;
 use crate::draft::Draft;
 use crate::steps::{last_taken, takes, takes_all};
 use history::History;
@@ -28,12 +29,13 @@ impl<'h> Draft<'h> {
             return Ok(false);
         };
         let copy = machine.copy()?;
-        self.place_since(history, machine, copy, first, call)
+        self.place_since(alloc, history, machine, copy, first, call)
     }
 
     // The same, where both machines are after so many steps.
     fn place_since(
         &mut self,
+        alloc: Global,
         history: &History,
         looking: Machine,
         again: Machine,
@@ -44,7 +46,7 @@ impl<'h> Draft<'h> {
             return Ok(false);
         };
         let step = call.step(0);
-        let Some(index) = last_taken(history, looking, since, step)? else {
+        let Some(index) = last_taken(history, looking, since, step, alloc)? else {
             return Ok(false);
         };
         let Some(next) = since.get(index).copied() else {
@@ -52,13 +54,15 @@ impl<'h> Draft<'h> {
         };
         let (before, after) = since.split_at(index);
         let mut machine = again;
-        if !takes_all(history, &mut machine, before)? || !takes(history, &mut machine, step)? {
-            return Ok(false);
-        }
-        if !takes_all(history, &mut machine, after)? {
+        let mut claims = Vec::new(alloc);
+        if !takes_all(history, &mut machine, before, &mut claims)?
+            || !takes(history, &mut machine, step, &mut claims)?
+            || !takes_all(history, &mut machine, after, &mut claims)?
+        {
             return Ok(false);
         }
         self.machine = machine;
+        put_claims(&mut self.claims, claims.as_slice())?;
         self.note(
             usize::from(call.cpu),
             first.saturating_add(index),

@@ -47,6 +47,16 @@ impl<'h> OpenCalls<'h> {
         }
     }
 
+    /// The CPU's open call doesn't stand in the order any more.
+    pub(crate) fn take_back(&mut self, cpu: usize) {
+        if let Some(Some(call)) = self.calls.get_mut(cpu) {
+            call.is_placed = false;
+        }
+        if self.waits_for_a_look(cpu) {
+            self.looks = self.looks.saturating_add(1);
+        }
+    }
+
     /// The CPU's open call, which stands in the order, is open no longer.
     pub(crate) fn close(&mut self, cpu: usize) {
         if let Some(open) = self.calls.get_mut(cpu) {

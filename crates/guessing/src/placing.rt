@@ -1,8 +1,9 @@
 //! Open calls that are put in.
 
+use crate::asked::gives;
 use crate::draft::Draft;
 use crate::ripas::ripas_set;
-use crate::steps::{Step, gives, insert};
+use crate::steps::{Step, insert};
 use command_rows::Sight;
 use rmi_view::CommandRef;
 use rmm_spec::FunctionId;
@@ -14,14 +15,7 @@ impl Draft<'_> {
         let Some(call) = self.open.of(cpu) else {
             return Ok(false);
         };
-        let is_measured = call.is_measured();
-        if !gives(
-            &mut self.machine,
-            call.cpu,
-            call.command,
-            call.reply,
-            is_measured,
-        )? {
+        if !gives(&mut self.machine, call.asked(), &mut self.claims)? {
             return Ok(false);
         }
         let index = self.steps.len();

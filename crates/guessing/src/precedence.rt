@@ -3,6 +3,7 @@
 use crate::ripas::{RipasLook, RipasWrite};
 use crate::steps::Step;
 use history::History;
+use rmm_spec::Ripas;
 use std::alloc::{AllocError, Global};
 use std::cmp::min;
 
@@ -61,7 +62,8 @@ fn from_end(steps: &[Step], others: usize) -> Option<Step> {
 }
 
 /// What has to come before what, beside what is known, so that a look after the steps reads what it read. A step that can have left that comes
-/// before the look; each that changed it since comes before that step, or after the look. The last such step is taken. Empty where there is none.
+/// before the look; each that changed it since comes before that step, or after the look. The last such step is taken, or none where the entry was
+/// EMPTY at first. Empty where there is none.
 pub(crate) fn precedences(
     alloc: Global,
     history: &History,
@@ -90,10 +92,13 @@ pub(crate) fn precedences(
             })?;
         }
         if writes.are_all_after(step) {
-            break;
+            return Ok(Vec::new(alloc));
         }
     }
-    Ok(Vec::new(alloc))
+    if steps.len() > MOST || !look.read.is(Ripas::Empty) {
+        return Ok(Vec::new(alloc));
+    }
+    writes.all_later()
 }
 
 /// That a step which stands after a look has to come before it, where the look may read what that step leaves.
@@ -115,7 +120,7 @@ pub(crate) fn later_precedence(
             Some(write) => look.may_follow(write),
             None => false,
         };
-        if may_follow && !is_known(precedence, known) && !is_known(precedence.turned(), known) {
+        if may_follow && !is_decided(precedence, known) {
             return Some(precedence);
         }
     }
@@ -158,11 +163,32 @@ impl Writes<'_> {
                 found.push(precedence)?;
             }
         }
-        if !found.is_empty() {
-            found.push(Precedence {
-                first: last.called,
-                second: self.look.called,
-            })?;
+        let precedence = Precedence {
+            first: last.called,
+            second: self.look.called,
+        };
+        if !is_decided(precedence, self.known) {
+            found.push(precedence)?;
+        }
+        Ok(found)
+    }
+
+    // What has to come before what, so that all come after the look: it reads what was there at first. Empty where that can't be.
+    fn all_later(&self) -> Result<Vec<Precedence>, AllocError> {
+        let mut found = Vec::new(self.alloc);
+        for written in self.passed.iter().rev() {
+            let precedence = Precedence {
+                first: self.look.called,
+                second: written.step.called,
+            };
+            if self.look.called >= written.step.returned
+                || is_known(precedence.turned(), self.known)
+            {
+                return Ok(Vec::new(self.alloc));
+            }
+            if !is_known(precedence, self.known) {
+                found.push(precedence)?;
+            }
         }
         Ok(found)
     }
@@ -203,7 +229,12 @@ impl Precedence {
     }
 }
 
-// Whether it is one of those that are known.
-fn is_known(precedence: Precedence, known: &[Precedence]) -> bool {
+/// Whether it is one of those that are known, or the other way round.
+pub(crate) fn is_decided(precedence: Precedence, known: &[Precedence]) -> bool {
+    is_known(precedence, known) || is_known(precedence.turned(), known)
+}
+
+/// Whether it is one of those that are known.
+pub(crate) fn is_known(precedence: Precedence, known: &[Precedence]) -> bool {
     known.iter().any(|one| one.first == precedence.first && one.second == precedence.second)
 }

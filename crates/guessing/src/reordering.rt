@@ -1,15 +1,18 @@
-//! A RIPAS that was read otherwise than the order has it: calls that overlapped come in another order before it.
+//! An entry that was read otherwise than the order has it: calls that overlapped come in another order before it.
 
 use crate::calls::{OpenCall, command_at, reply_of};
+use crate::claims::put_claims;
 use crate::draft::Draft;
+use crate::entry_order::{entry_precedence, later_entry_precedence};
 use crate::moving::are_ordered;
-use crate::precedence::{Parts, Precedence, later_precedence, precedences};
+use crate::precedence::{Parts, Precedence, is_decided, later_precedence, precedences};
+use crate::rec_order::rec_inside;
 use crate::replay::{Replay, Stopped};
 use crate::ripas::{RipasLook, ripas_read};
 use crate::steps::Step;
 use command_rows::Sight;
 use history::History;
-use rmm_spec::{Accepted, FunctionId};
+use rmm_spec::{Accepted, FunctionId, Reply};
 use std::alloc::{AllocError, Global};
 use std::cmp::min;
 
@@ -38,7 +41,7 @@ enum Reordered {
 }
 
 impl<'h> Draft<'h> {
-    /// Puts in the CPU's call, where it reads a RIPAS and would read another now, after calls that overlapped were put in another order.
+    /// Puts in the CPU's call, where it reads an entry and would read it otherwise now, after calls that overlapped were put in another order.
     pub(crate) fn place_reordered(
         &mut self,
         alloc: Global,
@@ -74,18 +77,18 @@ impl<'h> Draft<'h> {
         Ok(false)
     }
 
-    // Whether the open call reads a RIPAS, and would read another now.
+    // Whether the open call reads an entry, and would read it otherwise now.
     fn reads_otherwise(&self, call: &OpenCall<'h>) -> bool {
-        let Some(read) = ripas_read(call.command, call.reply) else {
+        if ripas_read(call.command, call.reply).is_none() {
             return false;
-        };
-        match self.machine.outcome(call.cpu, &call.command.to_command()) {
-            Ok(Accepted::Done { words, .. }) => words.last() != Some(&read.ripas),
+        }
+        match self.machine.outcome_seen(call.cpu, call.command) {
+            Ok(Accepted::Done { words, .. }) => !call.reply.is(&Reply::Ok(words)),
             _ => false,
         }
     }
 
-    // What has to come before what, beside what is known, so that the step is given its reply. Empty where it reads no RIPAS.
+    // What has to come before what, beside what is known, so that the step is given its reply: as a RIPAS was read, or calls on a REC came before.
     fn found(
         &self,
         alloc: Global,
@@ -100,14 +103,27 @@ impl<'h> Draft<'h> {
             early,
             late: failing.since.as_slice(),
         };
-        let Some(look) = self.look(history, failing.step, parts) else {
-            return Ok(Vec::new(alloc));
-        };
-        let mut found = precedences(alloc, history, look, parts, known)?;
-        if found.is_empty() {
-            if let Some(one) = later_precedence(history, look, failing.rest.as_slice(), known) {
-                found.push(one)?;
+        let mut found = Vec::new(alloc);
+        if let Some(one) = entry_precedence(history, failing.step, parts, known) {
+            found.push(one)?;
+            return Ok(found);
+        }
+        let one = match self.look(history, failing.step, parts) {
+            Some(look) => {
+                found = precedences(alloc, history, look, parts, known)?;
+                if !found.is_empty() {
+                    return Ok(found);
+                }
+                later_precedence(history, look, failing.rest.as_slice(), known)
             }
+            None => self.rec_precedence(history, failing.step),
+        };
+        let one = match one {
+            Some(one) if !is_decided(one, known) => Some(one),
+            _ => later_entry_precedence(history, failing.step, failing.rest.as_slice(), known),
+        };
+        if let Some(one) = one {
+            found.push(one)?;
         }
         Ok(found)
     }
@@ -118,7 +134,10 @@ impl<'h> Draft<'h> {
         let read = ripas_read(command, reply_of(history, step.returned)?)?;
         let rd = match command.function {
             FunctionId::RttReadEntry => *command.words.first()?,
-            _ => self.realm_inside(history, step.cpu, before)?,
+            _ => {
+                let rec = self.machine.rec(rec_inside(history, step.cpu, before)?)?;
+                rec.owner.address()
+            }
         };
         Some(RipasLook {
             rd,
@@ -126,22 +145,6 @@ impl<'h> Draft<'h> {
             called: step.called,
             returned: step.returned,
         })
-    }
-
-    // The realm whose REC runs on the CPU after the steps.
-    fn realm_inside(&self, history: &History, cpu: u8, steps: Parts<'_>) -> Option<u64> {
-        for others in 0..steps.len() {
-            let step = steps.from_end(others)?;
-            if step.cpu != cpu {
-                continue;
-            }
-            let command = command_at(history, step.called as usize)?;
-            if matches!(command.function, FunctionId::RecEnter) {
-                let rec = self.machine.rec(*command.words.first()?)?;
-                return Some(rec.owner.address());
-            }
-        }
-        None
     }
 
     // Gives the steps their replies in an order with what is known, and the call its own.
@@ -166,7 +169,7 @@ impl<'h> Draft<'h> {
             return Ok(Reordered::Cannot);
         };
         let mut replay = Replay::new(alloc, start)?;
-        match replay.take_all(history, steps.as_slice())? {
+        match replay.take_all(history, steps.as_slice(), call.returned)? {
             Some(Stopped { step, passed }) => {
                 let rest = match steps.as_slice().get(passed..) {
                     Some(rest) => rest.to_vec(alloc)?,
@@ -187,12 +190,22 @@ impl<'h> Draft<'h> {
         }
     }
 
-    // Takes another order of the steps after the first, with the CPU's call in it.
+    // Takes another order of the steps after the first, with the CPU's call in it. Open calls that only look may wait on.
     fn take_order(&mut self, first: usize, replay: Replay, cpu: usize) -> Result<(), AllocError> {
-        let mut order = replay.order;
+        let Replay {
+            mut order,
+            machine,
+            claims,
+            waiting,
+            ..
+        } = replay;
+        for step in &waiting {
+            self.open.take_back(usize::from(step.cpu));
+        }
+        put_claims(&mut self.claims, claims.as_slice())?;
         self.steps.truncate(first);
         self.steps.append(&mut order)?;
-        self.machine = replay.machine;
+        self.machine = machine;
         self.note_placed(cpu)
     }
 
@@ -206,8 +219,8 @@ impl<'h> Draft<'h> {
         first
     }
 
-    // Where the call stands that was made at the place, or how many stand.
-    fn last_index(&self, called: u32) -> usize {
+    /// Where the call stands that was made at the place, or how many stand.
+    pub(crate) fn last_index(&self, called: u32) -> usize {
         for (index, step) in self.steps.iter().enumerate().rev() {
             if step.called == called {
                 return index;

@@ -1,6 +1,7 @@
 //! Steps that are given their replies once more, in another order.
 
 use crate::calls::{command_at, is_look, is_never, reply_of};
+use crate::claims::Claim;
 use crate::steps::{Step, insert, last_taken, takes, takes_all};
 use history::History;
 use spec_machine::Machine;
@@ -13,8 +14,9 @@ pub(crate) struct Replay {
     start: Machine,
     pub(crate) machine: Machine,
     pub(crate) order: Vec<Step>,
-    // calls that change nothing, and weren't given their replies where they stood
-    waiting: Vec<Step>,
+    pub(crate) claims: Vec<Claim>,
+    /// Calls that change nothing, and weren't given their replies where they stood.
+    pub(crate) waiting: Vec<Step>,
 }
 
 /// A step that isn't given its reply, and how many steps were gone through before that showed.
@@ -40,16 +42,18 @@ impl Replay {
             start,
             machine,
             order: Vec::new(alloc),
+            claims: Vec::new(alloc),
             waiting: Vec::new(alloc),
         })
     }
 
-    /// Gives the steps their replies, one after another. A call that changes nothing may come earlier or later than it stands here. Returned is
-    /// the first step that isn't given its reply, where one isn't.
+    /// Gives the steps up to an event their replies, one after another. A call that changes nothing may come earlier or later than it stands here, or
+    /// wait where it returns after that event. Returned is the first step that isn't given its reply, where one isn't.
     pub(crate) fn take_all(
         &mut self,
         history: &History,
         steps: &[Step],
+        until: u32,
     ) -> Result<Option<Stopped>, AllocError> {
         for (passed, step) in steps.iter().enumerate() {
             if let Some(step) = self.overdue(step.at) {
@@ -60,9 +64,9 @@ impl Replay {
                 return Ok(Some(Stopped { step, passed }));
             }
         }
-        match self.waiting.first() {
+        match self.overdue(until) {
             Some(step) => Ok(Some(Stopped {
-                step: *step,
+                step,
                 passed: steps.len(),
             })),
             None => Ok(None),
@@ -103,7 +107,7 @@ impl Replay {
         step: Step,
         may_be_earlier: bool,
     ) -> Result<Option<Standing>, AllocError> {
-        if takes(history, &mut self.machine, step)? {
+        if takes(history, &mut self.machine, step, &mut self.claims)? {
             return Ok(Some(Standing {
                 index: self.order.len(),
                 at: step.at,
@@ -117,10 +121,11 @@ impl Replay {
         };
         let (before, since) = self.order.as_slice().split_at(first);
         let mut machine = self.start.copy()?;
-        if !takes_all(history, &mut machine, before)? {
+        let mut unkept = Vec::new(self.alloc);
+        if !takes_all(history, &mut machine, before, &mut unkept)? {
             return Ok(None);
         }
-        let Some(index) = last_taken(history, machine, since, step)? else {
+        let Some(index) = last_taken(history, machine, since, step, self.alloc)? else {
             return Ok(None);
         };
         let Some(next) = since.get(index) else {
@@ -139,7 +144,7 @@ impl Replay {
         }
         let mut left = Vec::new(self.alloc);
         for step in &self.waiting {
-            if takes(history, &mut self.machine, *step)? {
+            if takes(history, &mut self.machine, *step, &mut self.claims)? {
                 self.order.push(Step { at: place, ..*step })?;
             } else {
                 left.push(*step)?;
@@ -150,8 +155,8 @@ impl Replay {
     }
 }
 
-// Whether the step changes nothing.
-fn is_a_look(history: &History, step: Step) -> bool {
+/// Whether the step changes nothing.
+pub(crate) fn is_a_look(history: &History, step: Step) -> bool {
     if is_never(step.returned) {
         return false;
     }

@@ -62,14 +62,24 @@ pub(crate) fn ripas_set(
     command: CommandRef<'_>,
     reply: ReplyRef<'_>,
 ) -> Option<RipasSet> {
-    let (base, end, ripas) = match (command.function, command.words, reply) {
-        (FunctionId::RttSetRipas, [_, rec, base, _], ReplyRef::Ok([end])) => {
-            (*base, *end, machine.rec(*rec)?.request?.ripas)
+    let (base, top, ripas) = match (command.function, command.words) {
+        (FunctionId::RttSetRipas, [_, rec, base, top]) => {
+            (*base, *top, machine.rec(*rec)?.request?.ripas)
         }
-        (FunctionId::RttInitRipas, [_, base, _], ReplyRef::Ok([end])) => (*base, *end, Ripas::Ram),
+        (FunctionId::RttInitRipas, [_, base, top]) => (*base, *top, Ripas::Ram),
         _ => return None,
     };
+    let end = end_of(reply, top)?;
     Some(RipasSet { base, end, ripas })
+}
+
+// How far a call sets a RIPAS, by its reply; one that doesn't return up to the top at most.
+fn end_of(reply: ReplyRef<'_>, top: u64) -> Option<u64> {
+    match reply {
+        ReplyRef::Ok([end]) => Some(*end),
+        ReplyRef::Ok([]) => Some(top),
+        _ => None,
+    }
 }
 
 impl RipasRead {
@@ -102,14 +112,16 @@ impl RipasLook {
     pub(crate) fn write_of(self, history: &History, step: Step) -> Option<RipasWrite> {
         let command = command_at(history, step.called as usize)?;
         let reply = reply_of(history, step.returned)?;
-        match (command.function, command.words, reply) {
-            (FunctionId::RttSetRipas, [rd, _, base, _], ReplyRef::Ok([end]))
-            | (FunctionId::RttInitRipas, [rd, base, _], ReplyRef::Ok([end]))
-                if *rd == self.rd && self.read.lies_in(*base, *end) => {
+        match (command.function, command.words) {
+            (FunctionId::RttSetRipas, [rd, _, base, top])
+            | (FunctionId::RttInitRipas, [rd, base, top])
+                if *rd == self.rd && self.read.lies_in(*base, end_of(reply, *top)?) => {
                 step.sets.map(RipasWrite::Sets)
             }
-            (FunctionId::DataDestroy, [rd, ipa], ReplyRef::Ok(_))
-                if *rd == self.rd && *ipa == self.read.ipa => { Some(RipasWrite::Destroys) }
+            (FunctionId::DataDestroy, [rd, ipa])
+                if *rd == self.rd && *ipa == self.read.ipa && matches!(reply, ReplyRef::Ok(_)) => {
+                Some(RipasWrite::Destroys)
+            }
             _ => None,
         }
     }

@@ -1,19 +1,16 @@
 //! Calls that stand in an order, and a machine after them.
 
-ghost use Rattle.std.specs.Prelude.{◌≤◌, length};
-
-use crate::calls::{command_at, reply_of};
+use crate::asked::{Asked, ENTRIES, gives};
+use crate::calls::{command_at, is_never, reply_of};
+use crate::claims::Claim;
 use crate::order::Placed;
 use command_rows::Sight;
 use history::History;
 use memory_map::{can_be_set, entry_number};
-use rmi_view::{CommandRef, ReplyRef};
+use rmi_view::ReplyRef;
 use rmm_spec::{Accepted, Reply, Ripas, Stretch};
 use spec_machine::Machine;
 use std::alloc::{AllocError, Global};
-
-/// The entries of a table.
-const ENTRIES: u64 = 512;
 
 /// A call of an order, with the places of its events and of the event at which it was put in.
 #[derive(Clone, Copy)]
@@ -28,50 +25,49 @@ pub(crate) struct Step {
     pub(crate) at: u32,
 }
 
-/// Whether the machine gives a call its reply, and carries it out. Extensible measurements are looked at later: what is read of them may be
-/// anything, and extensions change nothing.
-pub(crate) fn gives(
-    machine: &mut Machine,
-    cpu: u8,
-    command: CommandRef<'_>,
-    reply: ReplyRef<'_>,
-    is_measured: bool,
-) -> Result<bool, AllocError>
-    requires { length command.words.now ≤ 10 }
-{
-    if is_measured {
-        return Ok(machine.outcome(cpu, &command.to_command()).is_ok());
+impl Step {
+    // The call, as a machine is asked for it.
+    fn asked(self, history: &History) -> Option<Asked<'_>> {
+        let reply = if is_never(self.returned) {
+            None
+        } else {
+            Some(reply_of(history, self.returned)?)
+        };
+        Some(Asked {
+            cpu: self.cpu,
+            command: command_at(history, self.called as usize)?,
+            reply,
+            is_measured: self.is_measured,
+        })
     }
-    machine.offer_seen(cpu, command, reply)
 }
 
-/// Whether the machine gives each step its reply, and carries them out.
+/// Whether the machine gives each step its reply, and carries them out. What is claimed of those that don't return is noted.
 pub(crate) fn takes_all(
     history: &History,
     machine: &mut Machine,
     steps: &[Step],
+    claims: &mut Vec<Claim>,
 ) -> Result<bool, AllocError> {
     for step in steps {
-        if !takes(history, machine, *step)? {
+        if !takes(history, machine, *step, claims)? {
             return Ok(false);
         }
     }
     Ok(true)
 }
 
-/// Whether the machine gives the step its reply, and carries it out.
+/// Whether the machine gives the step its reply, and carries it out. What is claimed of one that doesn't return is noted.
 pub(crate) fn takes(
     history: &History,
     machine: &mut Machine,
     step: Step,
+    claims: &mut Vec<Claim>,
 ) -> Result<bool, AllocError> {
-    let Some(command) = command_at(history, step.called as usize) else {
-        return Ok(false);
-    };
-    let Some(reply) = reply_of(history, step.returned) else {
-        return Ok(false);
-    };
-    gives(machine, step.cpu, command, reply, step.is_measured)
+    match step.asked(history) {
+        Some(asked) => gives(machine, asked, claims),
+        None => Ok(false),
+    }
 }
 
 /// Before which of the steps, the last of them, the machine may give a call its reply, from where it is on.
@@ -80,14 +76,16 @@ pub(crate) fn last_taken(
     machine: Machine,
     steps: &[Step],
     call: Step,
+    alloc: Global,
 ) -> Result<Option<usize>, AllocError> {
     let mut machine = machine;
+    let mut unkept = Vec::new(alloc);
     let mut last = None;
     for (index, step) in steps.iter().enumerate() {
         if would_take(history, &machine, call) {
             last = Some(index);
         }
-        if !takes(history, &mut machine, *step)? {
+        if !takes(history, &mut machine, *step, &mut unkept)? {
             return Ok(last);
         }
     }
@@ -96,15 +94,16 @@ pub(crate) fn last_taken(
 
 // Whether the machine may give the step its reply.
 fn would_take(history: &History, machine: &Machine, step: Step) -> bool {
-    let Some(command) = command_at(history, step.called as usize) else {
+    let Some(asked) = step.asked(history) else {
         return false;
     };
-    let Some(reply) = reply_of(history, step.returned) else {
-        return false;
+    let outcome = machine.outcome_seen(asked.cpu, asked.command);
+    let Some(reply) = asked.reply else {
+        return outcome.is_ok();
     };
-    match machine.outcome(step.cpu, &command.to_command()) {
+    match outcome {
         Err(refusal) => reply.is(&refusal.reply()),
-        Ok(Accepted::Done { words, .. }) => step.is_measured || reply.is(&Reply::Ok(words)),
+        Ok(Accepted::Done { words, .. }) => asked.is_measured || reply.is(&Reply::Ok(words)),
         Ok(Accepted::Reaches(stretch)) => may_reach(machine, &stretch, reply),
     }
 }

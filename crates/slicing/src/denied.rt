@@ -20,7 +20,7 @@ use crate::standing::standing_before;
 use crate::supposing::{
     maker_before, supposed, supposed_entry, supposed_page, supposed_tag, supposed_together,
 };
-use crate::supposing_recs::{maker_with, supposed_inside, supposed_of_rec};
+use crate::supposing_recs::{maker_with, supposed_idle, supposed_inside, supposed_of_rec};
 use history::History;
 use rmm_spec::Call;
 use verdict_laws::{Fact, nowhere_denied};
@@ -53,9 +53,11 @@ fn is_denied_together(history: &History, count: u32, last: &LastReturn<'_>) -> b
 {
     let named = supposed_together(history, count, last);
     let of_rec = supposed_of_rec(history, count, last);
+    let idle = supposed_idle(history, count, last);
     let inside = supposed_inside(history, count, last);
     are_denying(history, count, last, named.as_slice())
         || are_denying(history, count, last, of_rec.as_slice())
+        || are_denying(history, count, last, idle.as_slice())
         || are_denying(history, count, last, inside.as_slice())
 }
 

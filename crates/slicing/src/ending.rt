@@ -45,8 +45,10 @@ pub(crate) fn is_left(fact: Fact, call: &CallAt<'_>) -> bool
         Fact::Activated { rd } => !may_narrow(&call.call, rd),
         Fact::OwnedBy { rec, .. } => !destroys(&call.call, rec),
         Fact::Runnable { rec } => !destroys(&call.call, rec) && !turns_off(&call.call),
-        Fact::AsksFrom { rec, .. } => {
-            !destroys(&call.call, rec) && !enters(&call.call, rec) && !sets_request(&call.call, rec)
+        Fact::AsksFrom { rec, base } => {
+            !destroys(&call.call, rec)
+                && !enters(&call.call, rec)
+                && !sets_from(&call.call, rec, base)
         }
         Fact::AsksTo { rec, .. } => !destroys(&call.call, rec) && !enters(&call.call, rec),
     }
@@ -62,12 +64,16 @@ fn enters(call: &Call, rec: u64) -> bool
     }
 }
 
-#[tactic(auto, unfolding(verdict_laws::specs::Facts::sets_request))]
-fn sets_request(call: &Call, rec: u64) -> bool
-    ensures { result ≡ laws.sets_request call.now rec }
+#[tactic(auto, unfolding(verdict_laws::specs::Facts::sets_from))]
+fn sets_from(call: &Call, rec: u64, base: u64) -> bool
+    ensures { result ≡ laws.sets_from call.now rec base }
 {
     match call {
-        Call::RttSetRipas { rec: other, .. } => rec == *other,
+        Call::RttSetRipas {
+            rec: other,
+            base: from,
+            ..
+        } => rec == *other && base == *from,
         _ => false,
     }
 }

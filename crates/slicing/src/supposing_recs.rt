@@ -65,6 +65,23 @@ fn supposed_set(
     facts
 }
 
+/// What may deny together that the REC runs, where it asks for something.
+pub(crate) fn supposed_idle(history: &History, count: u32, last: &LastReturn<'_>) -> Together {
+    let mut facts = Together::new();
+    let (rec, other) = match (last.call, last.reply) {
+        (Call::RecEnter { rec }, ReplyRef::Err(3, _)) => (rec, Fact::Runnable { rec }),
+        (Call::RttSetRipas { rd, rec, .. }, ReplyRef::Err(3, _)) => {
+            (rec, Fact::OwnedBy { rec, rd })
+        }
+        _ => return facts,
+    };
+    if let Some(fact) = asked_to(history, count, last.called, rec) {
+        facts.push(fact);
+        facts.push(other);
+    }
+    facts
+}
+
 /// From where on it asks for something, if a call says it.
 fn asked(history: &History, count: u32, last: &LastReturn<'_>, rec: u64) -> Together {
     let mut facts = Together::new();

@@ -1,8 +1,8 @@
 -- RECs: whose one is, whether it can run, and what it asks for while it runs on no CPU. What a call makes so stays so until another may end it, and
 -- isn't denied.
-use Rattle.std.proofs.Common.{◌≡◌, ℕ, ◌==◌, ◌&&◌, ◌||◌, true, false, Bool, Option, Some, None, IsTrue, is_some, refl, sym, ◌∙◌, ap, eqb-true, eq-eqb, arith}
+use Rattle.std.proofs.Common.{◌≡◌, ℕ, ◌==◌, ◌&&◌, ◌||◌, true, false, Bool, Option, Some, None, IsTrue, is_some, refl, sym, ◌∙◌, ap, eqb-true, eq-eqb, arith, inl, inr}
 use Rattle.std.specs.Prelude.{is_none, nat_lt, not, unwrap_or}
-use Rattle.std.proofs.lemmas.Bool.{and_from, and_parts, false_from_ne_true, ltb-true, not-true, or_parts}
+use Rattle.std.proofs.lemmas.Bool.{and_from, and_parts, cases_Bool, false_from_ne_true, ltb-true, not-true, or_parts}
 use Rattle.rmm_spec.specs.declared.call.Call.{Call}
 use Rattle.rmm_spec.specs.declared.call.Call.TheVariants as call
 use Rattle.rmm_spec.specs.declared.change.RecUpdate.{RecUpdate}
@@ -21,6 +21,7 @@ use Rattle.rmm_spec.specs.Step.Ripas.{reached_change}
 use Rattle.lemmas.proofs.Tests.{both_ways}
 use Rattle.spec_lemmas.proofs.Behind.{behind}
 use Rattle.rmm_laws.proofs.Searches.{inside_runs}
+use Rattle.rmm_laws.proofs.StepLaws.{step-refuses}
 use Rattle.verdict_laws.specs.declared.facts.Fact.{Fact}
 use Rattle.verdict_laws.specs.declared.facts.Fact.TheVariants.{AsksFrom, AsksTo}
 use Rattle.verdict_laws.specs.declared.placing.ExitReason.{ExitReason}
@@ -28,7 +29,7 @@ use Rattle.verdict_laws.specs.declared.placing.ExitReason.TheVariants as exit_re
 use Rattle.verdict_laws.specs.declared.placing.Standing.{Standing}
 use Rattle.verdict_laws.specs.declared.placing.Standing.TheVariants.{Inside}
 use Rattle.verdict_laws.specs.Denying.{asks_else}
-use Rattle.verdict_laws.specs.Facts.{asks_from, asks_to, can_run, destroys, enters, has_owner, holds, is_left_with, is_told, is_up_to, leaves_with, makes_owned, makes_runnable, moves_request, sets_request, turns_off}
+use Rattle.verdict_laws.specs.Facts.{asks_from, asks_to, can_run, destroys, enters, has_owner, holds, is_left_with, is_told, is_up_to, leaves_with, makes_owned, makes_runnable, moves_request, sets_from, turns_off}
 use Rattle.verdict_laws.proofs.RecChanges.{StaysDone, met_record, rec-kept}
 use Rattle.verdict_laws.proofs.Spared.{runs_on-read}
 use Rattle.verdict_laws.proofs.SparedCalls.{idle_elsewhere}
@@ -72,6 +73,19 @@ module _ (s : State) (cpu : ℕ) (given : Reply) (new : State) where
   made_request rec base _ carried makes = both_ways makes refl
 
 -- ---- what calls leave
+
+-- a call that sets a part of what the REC asks for
+unfoldable sets_request : Call → ℕ → Bool
+sets_request (call.RttSetRipas rd other base top) rec = rec == other
+sets_request _ rec = false
+
+-- from elsewhere on, if not from there
+asks_elsewhere : (c : Call) (given : Reply) (rec base : ℕ) → sets_request c rec ≡ true → sets_from c rec base ≡ false
+    → asks_else c given rec base ≡ true
+unfolding asks_else sets_from sets_request
+asks_elsewhere (call.RttSetRipas rd other from top) given rec base sets apart =
+    and_from _ _ sets (ap not (ap (λ same. same && base == from) (sym sets) ∙ apart))
+asks_elsewhere _ given rec base sets apart = both_ways sets refl
 
 module _ (test : Option RecRecord → Bool) (absent : test None ≡ false) (rec : ℕ) (s : State) (met : test (s.rec rec) ≡ true) (cpu : ℕ) where
   -- A test that goes by neither where a REC runs nor what it asks for is met behind a call that doesn't destroy the REC; one that turns off is looked
@@ -264,27 +278,6 @@ module _ (rec : ℕ) (s new : State) (cpu : ℕ) (command : Command) (given : Re
     pub from-made : is_accepted given ≡ true → moves_request c given rec base ≡ true → asks_from (new.rec rec) base ≡ true
     from-made accepted = made_request s cpu given new rec base c (carried accepted)
 
-    -- until it is destroyed, is entered, or a part is set
-    pub from-left : (destroys c rec || enters c rec || sets_request c rec) ≡ false → asks_from (s.rec rec) base ≡ true
-        → asks_from (new.rec rec) base ≡ true
-    from-left keeps is =
-        let test = λ (found : Option RecRecord). asks_from found base in
-        let parts = or_parts (destroys c rec || enters c rec) (sets_request c rec) keeps in
-        rec-kept test refl rec s is new cpu command given sound step (λ placed.
-        keeps_idle test refl rec s is cpu (from_idle base) c placed parts.0 (λ end sets. both_ways sets parts.1))
-
-  module _ (top ripas : ℕ) where
-    -- what it asks for ends there until it is destroyed, or entered
-    pub to-left : (destroys c rec || enters c rec) ≡ false → asks_to (s.rec rec) top ripas ≡ true → asks_to (new.rec rec) top ripas ≡ true
-    to-left keeps is =
-        let test = λ (found : Option RecRecord). asks_to found top ripas in
-        rec-kept test refl rec s is new cpu command given sound step (λ placed.
-        keeps_idle test refl rec s is cpu (to_idle top ripas) c placed keeps (λ end _.
-        to_moved top ripas end (rec_at s rec) (met_record test refl rec s is)))
-
-  -- ---- replies
-
-  module _ (base : ℕ) where
     -- a call isn't carried out as if it asked for something from elsewhere on
     rows_asked : (asked : Call) → IsCarried s cpu asked given new → asks_from (s.rec rec) base ≡ true → asks_else asked given rec base ≡ true → ⊥
     unfolding behind asks_else rec_at
@@ -304,9 +297,34 @@ module _ (rec : ℕ) (s new : State) (cpu : ℕ) (command : Command) (given : Re
         both_ways (eq-eqb base from same) (not-true (base == from) parts.1)
     rows_asked _ carried is other_words = both_ways other_words refl
 
+    -- until it is destroyed, is entered, or a part is set from there on
+    pub from-left : (destroys c rec || enters c rec || sets_from c rec base) ≡ false → asks_from (s.rec rec) base ≡ true
+        → asks_from (new.rec rec) base ≡ true
+    from-left keeps is =
+        let test = λ (found : Option RecRecord). asks_from found base in
+        let parts = or_parts (destroys c rec || enters c rec) (sets_from c rec base) keeps in
+        elim (cases_Bool (is_accepted given)) [
+          | inl accepted ↦ rec-kept test refl rec s is new cpu command given sound step (λ placed.
+              keeps_idle test refl rec s is cpu (from_idle base) c placed parts.0 (λ end sets.
+              absurd (rows_asked c (carried accepted) is (asks_elsewhere c given rec base sets parts.1))))
+          | inr refused ↦ ap (λ (t : State). test (t.rec rec)) (step-refuses s new cpu command given step refused) ∙ is
+        ]
+
+  module _ (top ripas : ℕ) where
+    -- what it asks for ends there until it is destroyed, or entered
+    pub to-left : (destroys c rec || enters c rec) ≡ false → asks_to (s.rec rec) top ripas ≡ true → asks_to (new.rec rec) top ripas ≡ true
+    to-left keeps is =
+        let test = λ (found : Option RecRecord). asks_to found top ripas in
+        rec-kept test refl rec s is new cpu command given sound step (λ placed.
+        keeps_idle test refl rec s is cpu (to_idle top ripas) c placed keeps (λ end _.
+        to_moved top ripas end (rec_at s rec) (met_record test refl rec s is)))
+
+  -- ---- replies
+
+  module _ (base : ℕ) where
     pub from-denied : asks_from (s.rec rec) base ≡ true → (is_accepted given && asks_else c given rec base) ≡ true → ⊥
     from-denied is denied =
-        let parts = and_parts (is_accepted given) (asks_else c given rec base) denied in rows_asked c (carried parts.0) is parts.1
+        let parts = and_parts (is_accepted given) (asks_else c given rec base) denied in rows_asked base c (carried parts.0) is parts.1
 
 -- ---- RECs that leave
 

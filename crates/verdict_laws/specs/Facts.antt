@@ -376,9 +376,10 @@ unfoldable pub enters : Call → ℕ → Bool
 enters (call.RecEnter other) rec = rec == other
 enters _ rec = false
 
-unfoldable pub sets_request : Call → ℕ → Bool
-sets_request (call.RttSetRipas rd other base top) rec = rec == other
-sets_request _ rec = false
+-- whether the call sets a part of what the REC asks for, from there on
+unfoldable pub sets_from : Call → ℕ → ℕ → Bool
+sets_from (call.RttSetRipas rd other from top) rec base = rec == other && base == from
+sets_from _ rec base = false
 
 -- whether the call may end the fact, where it is carried out with that reply
 abbrev pub may_end : Fact → Call → Reply → Bool
@@ -396,5 +397,5 @@ may_end (HasRipas rd ipa ripas) c given =
 may_end (Activated rd) c given = may_narrow c rd
 may_end (OwnedBy rec rd) c given = destroys c rec
 may_end (Runnable rec) c given = destroys c rec || turns_off c
-may_end (AsksFrom rec base) c given = destroys c rec || enters c rec || sets_request c rec
+may_end (AsksFrom rec base) c given = destroys c rec || enters c rec || sets_from c rec base
 may_end (AsksTo rec top ripas) c given = destroys c rec || enters c rec

@@ -2,5 +2,5 @@
 use Rattle.finding.proofs.Common.{◌≤◌}
 use Rattle.finding.proofs.suspecting.last_return.Given as goal
 
-abbrev pub invariant-loop-at : goal.invariant-loop-at
-invariant-loop-at l = l.place ≤ l.last
+abbrev pub invariant-loop-returned : goal.invariant-loop-returned
+invariant-loop-returned l = l.place ≤ l.last
