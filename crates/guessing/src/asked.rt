@@ -28,6 +28,7 @@ pub(crate) struct Asked<'h> {
 
 /// Whether the machine gives a call its reply, and carries it out. What is claimed of one that doesn't return is noted. Extensible measurements
 /// are looked at later: what is read of them may be anything, and extensions change nothing.
+#[inline(always)]
 pub(crate) fn gives(
     machine: &mut Machine,
     asked: Asked<'_>,
@@ -44,6 +45,7 @@ pub(crate) fn gives(
 }
 
 // Whether the machine carries out a call that doesn't return. What is claimed of it is noted.
+#[inline(never)]
 fn carries_out(
     machine: &mut Machine,
     cpu: u8,

@@ -38,6 +38,7 @@ impl<'h> OpenCall<'h> {
     }
 
     /// The call, as a machine is asked for it.
+    #[inline(always)]
     pub(crate) fn asked(&self) -> Asked<'h> {
         Asked {
             cpu: self.cpu,

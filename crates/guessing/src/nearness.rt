@@ -5,7 +5,7 @@ use crate::ripas::{RipasRead, ripas_read, ripas_set};
 use command_rows::Sight;
 use command_words::{Names, named};
 use rmi_view::{CommandRef, ReplyRef};
-use rmm_spec::{Refusal, Tag};
+use rmm_spec::{FunctionId, Refusal, Tag};
 use spec_machine::Machine;
 
 /// The nearer a call is to another, the likelier the other needs it for its reply.
@@ -38,6 +38,8 @@ pub(crate) enum Need {
     Rec(u64),
     /// Granules that it names, beside its realm.
     Granules(Names),
+    /// What its one word is about.
+    Word(u64),
     /// What its words beside its realm are about.
     Words,
 }
@@ -49,6 +51,9 @@ pub(crate) fn need_of(machine: &Machine, own: &OpenCall<'_>) -> Need {
     }
     if let Some(rec) = rec_of(own.command) {
         return Need::Rec(rec);
+    }
+    if let [word] = own.command.words {
+        return Need::Word(*word);
     }
     match machine.outcome_seen(own.cpu, own.command) {
         Err(Refusal::Input(_)) => Need::Granules(named(&own.command.call())),
@@ -67,11 +72,14 @@ pub(crate) fn nearness_of(
         Need::Ripas(read) => may_set(machine, *read, other),
         Need::Rec(rec) => is_about(machine, *rec, other),
         Need::Granules(names) => touches(names, other),
+        Need::Word(word) => other.command.words.contains(word),
         Need::Words => share_word(beside_realm(own.command), beside_realm(other.command)),
     };
     if is_close {
         Nearness::Close
-    } else if !matches!(need, Need::Ripas(_)) && shares_word(own.command, other.command) {
+    } else if matches!(need, Need::Ripas(_) | Need::Word(_)) {
+        Nearness::Apart
+    } else if shares_word(own.command, other.command) {
         Nearness::Loose
     } else {
         Nearness::Apart
@@ -110,20 +118,25 @@ fn is_about(machine: &Machine, rec: u64, other: &OpenCall<'_>) -> bool {
 
 /// The REC that a command enters or destroys, or whose request it serves.
 pub(crate) fn rec_of(command: CommandRef<'_>) -> Option<u64> {
-    granule_named(command, Tag::Rec)
+    match (command.function, command.words) {
+        (FunctionId::RecEnter | FunctionId::RecDestroy, [rec])
+        | (FunctionId::RttSetRipas, [_, rec, _, _]) => Some(*rec),
+        _ => None,
+    }
 }
 
 // The words of a command without that of its realm, which comes first.
 fn beside_realm<'h>(command: CommandRef<'h>) -> &'h [u64] {
     match command.words.get(1..) {
-        Some(rest) if !rest.is_empty() && granule_named(command, Tag::Rd).is_some() => rest,
+        Some(rest) if !rest.is_empty() && names_realm(command) => rest,
         _ => command.words,
     }
 }
 
-// The granule that a command needs with the tag.
-fn granule_named(command: CommandRef<'_>, tag: Tag) -> Option<u64> {
-    let names = named(&command.call());
-    let name = names.as_slice().iter().find(|name| name.tag == tag)?;
-    Some(name.granule)
+// Whether a command names its realm.
+fn names_realm(command: CommandRef<'_>) -> bool {
+    named(&command.call())
+        .as_slice()
+        .iter()
+        .any(|name| name.tag == Tag::Rd)
 }

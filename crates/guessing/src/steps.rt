@@ -27,6 +27,7 @@ pub(crate) struct Step {
 
 impl Step {
     // The call, as a machine is asked for it.
+    #[inline(always)]
     fn asked(self, history: &History) -> Option<Asked<'_>> {
         let reply = if is_never(self.returned) {
             None

@@ -44,12 +44,12 @@ impl Draft<'_> {
         let need = need_of(&self.machine, &own);
         let mut last = place;
         for _other in 0..CPUS * CPUS {
-            let Some(call) = self.open.next_return(last).copied() else {
+            let Some(call) = self.open.next_return(last) else {
                 return Ok(false);
             };
             last = call.returned as usize;
             if call.is_placed
-                || !nearness_of(&self.machine, &own, &need, &call).is_within(furthest)
+                || !nearness_of(&self.machine, &own, &need, call).is_within(furthest)
             {
                 continue;
             }
