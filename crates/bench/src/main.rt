@@ -35,7 +35,8 @@ const GATE: [&str; 10] = [
 
 fn main(rt: HostRuntime) -> Result<()> {
     let given: Vec<String> = env::args(&rt)?.collect(rt.alloc())?;
-    for words in lines_of(rt.alloc(), given.as_slice(), &GATE)? {
+    let lines = lines_of(rt.alloc(), given.as_slice(), &GATE)?;
+    for words in &lines {
         run(&rt, rt.alloc(), words.as_slice())?;
     }
     Ok(())

@@ -33,15 +33,18 @@ pub(crate) fn run<R: Print + Threads + Wait + Clock + Sync>(
         }
         ["scenarios", first, count] => judge_scenarios(rt, alloc, number(first)?, number(count)?),
         [kind, first, count, commands] => {
-            let batch = Batch {
-                first: number(first)?,
-                count: number(count)?,
-                commands: number(commands)?,
-            };
-            run_batch(rt, alloc, kind, batch)
+            run_batch(rt, alloc, kind, batch_of(first, count, commands)?)
         }
         _ => bail!("runs, stops, all, replies, time, scenarios or gate, and its words?"),
     }
+}
+
+fn batch_of(first: &str, count: &str, commands: &str) -> Result<Batch> {
+    Ok(Batch {
+        first: number(first)?,
+        count: number(count)?,
+        commands: number(commands)?,
+    })
 }
 
 // Judges the runs of a batch, those in which one CPU is stopped, or both, or counts the replies of the first.

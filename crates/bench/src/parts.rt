@@ -20,16 +20,34 @@ pub(crate) fn run<R: Print + Threads + Wait + Clock + Sync>(
     match words {
         ["measure", kind, count] => measures::extend(rt, kind, number(count)?),
         ["walk", rounds] => walks::walk_all(rt, alloc, number(rounds)?),
-        ["queue", kind, producers] => {
-            let timing = queues::timed(rt, alloc, kind, number(producers)?, 1)?;
-            println!(rt; "{}", timing.count)?;
-            Ok(())
-        }
+        ["queue", kind, producers] => count_events(rt, alloc, kind, number(producers)?),
         ["queue", kind, producers, rounds] => {
-            let timing = queues::timed(rt, alloc, kind, number(producers)?, number(rounds)?)?;
-            timing.print(rt)?;
-            Ok(())
+            time_events(rt, alloc, kind, number(producers)?, number(rounds)?)
         }
         _ => bail!("measure, walk, queue, world, monitor or gate, and its words?"),
     }
+}
+
+// Prints how many events came through in a round.
+fn count_events<R: Print + Threads + Wait + Clock + Sync>(
+    rt: &R,
+    alloc: Global,
+    kind: &str,
+    producers: u64,
+) -> Result<()> {
+    let timing = queues::timed(rt, alloc, kind, producers, 1)?;
+    println!(rt; "{}", timing.count)?;
+    Ok(())
+}
+
+// Prints how many events came through in so many rounds, and in what time.
+fn time_events<R: Print + Threads + Wait + Clock + Sync>(
+    rt: &R,
+    alloc: Global,
+    kind: &str,
+    producers: u64,
+    rounds: u64,
+) -> Result<()> {
+    let timing = queues::timed(rt, alloc, kind, producers, rounds)?;
+    Ok(timing.print(rt)?)
 }

@@ -1,6 +1,7 @@
 //! The files of the folder where the program runs.
 
 use anyhow::Result;
+use std::alloc::Global;
 use std::fs;
 use std::rt::Files;
 
@@ -11,11 +12,15 @@ pub(crate) fn files_ending<R: Files + AllocGlobal + Clone + Drop>(
 ) -> Result<Vec<String>> {
     let mut names = Vec::new(rt.alloc());
     for entry in fs::read_dir(rt, ".")? {
-        let entry = entry?;
-        if entry.file_name().ends_with(ending) {
-            names.push(String::from_str(rt.alloc(), entry.file_name())?)?;
-        }
+        push_ending(rt.alloc(), &mut names, entry?.file_name(), ending)?;
     }
     names.sort()?;
     Ok(names)
+}
+
+fn push_ending(alloc: Global, names: &mut Vec<String>, name: &str, ending: &str) -> Result<()> {
+    if name.ends_with(ending) {
+        names.push(String::from_str(alloc, name)?)?;
+    }
+    Ok(())
 }

@@ -19,9 +19,13 @@ const OFFERS: u64 = 100_000;
 /// The verdict on the order of a history that is found, or that there is none.
 pub(crate) fn outcome<R: Files + AllocGlobal>(rt: &R, file: &str) -> Result<String> {
     let bytes = fs::read(rt, file).context(file)?;
-    match history::read(rt.alloc(), bytes.as_slice()) {
-        Ok(history) => found(rt.alloc(), &history),
-        Err(HistoryFault::BadLine(line)) => Ok(format!(in rt.alloc(); "fault history {line}")?),
+    outcome_of(rt.alloc(), bytes.as_slice())
+}
+
+fn outcome_of(alloc: Global, bytes: &[u8]) -> Result<String> {
+    match history::read(alloc, bytes) {
+        Ok(history) => found(alloc, &history),
+        Err(HistoryFault::BadLine(line)) => Ok(format!(in alloc; "fault history {line}")?),
         Err(HistoryFault::NoMemory) => bail!("no memory"),
     }
 }

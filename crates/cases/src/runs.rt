@@ -12,12 +12,16 @@ use world_runs::run_text;
 /// The report of a scenario's fault, or the last line of its run.
 pub(crate) fn outcome<R: Files + AllocGlobal>(rt: &R, file: &str) -> Result<String> {
     let bytes = fs::read(rt, file).context(file)?;
-    let mut text = Vec::new(rt.alloc());
-    if report(rt.alloc(), bytes.as_slice(), &mut text)?.is_some() {
+    outcome_of(rt.alloc(), bytes.as_slice())
+}
+
+fn outcome_of(alloc: Global, bytes: &[u8]) -> Result<String> {
+    let mut text = Vec::new(alloc);
+    if report(alloc, bytes, &mut text)?.is_some() {
         let report = std::str::from_utf8(text.as_slice())?;
-        return Ok(String::from_str(rt.alloc(), report.trim_end())?);
+        return Ok(String::from_str(alloc, report.trim_end())?);
     }
-    last_line(rt.alloc(), bytes.as_slice(), &mut text)
+    last_line(alloc, bytes, &mut text)
 }
 
 fn last_line(alloc: Global, bytes: &[u8], text: &mut Vec<u8>) -> Result<String> {

@@ -38,8 +38,12 @@ pub(crate) fn judge_files<R: Files + Print + AllocGlobal + Clone + Drop>(rt: &R)
 // Whether each answer is the one that the file says.
 fn judge_file<R: Files + Print + AllocGlobal>(rt: &R, file: &str) -> Result<bool> {
     let text = fs::read_to_string(rt, file).context(file)?;
+    judge_text(rt, file, text.as_str())
+}
+
+fn judge_text<R: Print + AllocGlobal>(rt: &R, file: &str, text: &str) -> Result<bool> {
     let mut are_right = true;
-    for case in &cases_of(rt.alloc(), text.as_str())? {
+    for case in &cases_of(rt.alloc(), text)? {
         are_right &= judge_case(rt, file, case)?;
     }
     Ok(are_right)

@@ -1,7 +1,7 @@
 //! Machines after some of an order's steps, from which later steps are made once more.
 
 use crate::draft::Draft;
-use crate::steps::takes_all;
+use crate::steps::takes_all_unclaimed;
 use history::History;
 use spec_machine::Machine;
 use std::alloc::{AllocError, Global};
@@ -65,21 +65,18 @@ impl Checkpoints {
             return Ok(None);
         };
         if steps.saturating_sub(last.steps) >= APART {
-            let copy = Checkpoint {
-                steps: last.steps,
-                machine: last.machine.copy()?,
-            };
-            self.keep(copy)?;
+            self.keep(last.steps, &last.machine)?;
         }
         Ok(Some(last))
     }
 
-    // Keeps one, and at most so many.
-    fn keep(&mut self, checkpoint: Checkpoint) -> Result<(), AllocError> {
+    // Keeps a copy of the machine after the first steps, and at most so many machines.
+    fn keep(&mut self, steps: usize, machine: &Machine) -> Result<(), AllocError> {
+        let machine = machine.copy()?;
         if self.all.len() >= KEPT {
             self.all.remove(0);
         }
-        self.all.push(checkpoint)?;
+        self.all.push(Checkpoint { steps, machine })?;
         Ok(())
     }
 }
@@ -92,26 +89,45 @@ impl Draft<'_> {
         history: &History,
         steps: usize,
     ) -> Result<Option<Machine>, AllocError> {
-        let start = match self.checkpoints.take(steps)? {
-            Some(checkpoint) => checkpoint,
-            None => Checkpoint {
+        let mut start = self.checkpoint_before(alloc, history, steps)?;
+        if self.goes_on(alloc, history, &mut start, steps)? {
+            Ok(Some(start.machine))
+        } else {
+            Ok(None)
+        }
+    }
+
+    // Takes a checkpoint's machine on to where it is after the first steps, so many, with a checkpoint there. Whether it gets there.
+    fn goes_on(
+        &mut self,
+        alloc: Global,
+        history: &History,
+        start: &mut Checkpoint,
+        steps: usize,
+    ) -> Result<bool, AllocError> {
+        let Some(between) = self.steps.as_slice().get(start.steps..steps) else {
+            return Ok(false);
+        };
+        if !takes_all_unclaimed(history, &mut start.machine, between, alloc)? {
+            return Ok(false);
+        }
+        self.checkpoints.keep(steps, &start.machine)?;
+        Ok(true)
+    }
+
+    // The last checkpoint after at most so many steps, or the machine before all steps where there is none.
+    fn checkpoint_before(
+        &mut self,
+        alloc: Global,
+        history: &History,
+        steps: usize,
+    ) -> Result<Checkpoint, AllocError> {
+        match self.checkpoints.take(steps)? {
+            Some(checkpoint) => Ok(checkpoint),
+            None => Ok(Checkpoint {
                 steps: 0,
                 machine: Machine::new(alloc, history.config())?,
-            },
-        };
-        let mut machine = start.machine;
-        let Some(between) = self.steps.as_slice().get(start.steps..steps) else {
-            return Ok(None);
-        };
-        let mut unkept = Vec::new(alloc);
-        if !takes_all(history, &mut machine, between, &mut unkept)? {
-            return Ok(None);
+            }),
         }
-        let copy = machine.copy()?;
-        self.checkpoints.keep(Checkpoint {
-            steps,
-            machine: copy,
-        })?;
-        Ok(Some(machine))
     }
 }

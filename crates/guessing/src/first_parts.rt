@@ -2,6 +2,7 @@
 
 use crate::draft::Draft;
 use crate::guessed::{DraftSoFar, drafted};
+use crate::registers::Register;
 use crate::solving::order_found;
 use crate::tries::Tries;
 use history::{EventRef, History};
@@ -30,11 +31,7 @@ impl<'h> FirstParts<'h> {
         tries: &mut T,
     ) -> Result<FirstParts<'h>, AllocError> {
         let DraftSoFar { draft, unexplained } = drafted(alloc, history, from)?;
-        let mut read = Vec::new(alloc);
-        for register in &draft.registers.all {
-            let found = order_found(alloc, history, register, tries)?;
-            read.push(found.unread.is_none())?;
-        }
+        let read = which_read(alloc, history, draft.registers.all.as_slice(), tries)?;
         Ok(FirstParts {
             history,
             draft,
@@ -61,6 +58,19 @@ impl<'h> FirstParts<'h> {
         }
         let until = u32::try_from(count).unwrap_or(u32::MAX);
         let mut draft = self.draft.copy(alloc, until)?;
+        if !self.goes_on(alloc, &mut draft, count)? {
+            return Ok(false);
+        }
+        self.reads_all(alloc, &draft, tries)
+    }
+
+    // Whether the draft takes the events after the first ones, up to so many. Then the calls that are open there are added to their measurements.
+    fn goes_on(
+        &self,
+        alloc: Global,
+        draft: &mut Draft<'h>,
+        count: usize,
+    ) -> Result<bool, AllocError> {
         for place in self.from..min(count, self.history.len()) {
             let event = self.history.event(place);
             if !draft.take(alloc, self.history, place, EventRef::of(&event))? {
@@ -68,7 +78,7 @@ impl<'h> FirstParts<'h> {
             }
         }
         draft.add_open_calls(self.history)?;
-        self.reads_all(alloc, &draft, tries)
+        Ok(true)
     }
 
     // Whether the calls on each measurement have an order in which each reads what it read. Those of the first events were asked.
@@ -87,10 +97,7 @@ impl<'h> FirstParts<'h> {
             };
             let read = match known {
                 Some(read) => read,
-                None => {
-                    let found = order_found(alloc, self.history, register, tries)?;
-                    found.unread.is_none()
-                }
+                None => is_read(alloc, self.history, register, tries)?,
             };
             if !read {
                 return Ok(false);
@@ -98,4 +105,29 @@ impl<'h> FirstParts<'h> {
         }
         Ok(true)
     }
+}
+
+// Of each measurement whether its calls have an order in which each reads what it read.
+fn which_read<T: Tries>(
+    alloc: Global,
+    history: &History,
+    registers: &[Register],
+    tries: &mut T,
+) -> Result<Vec<bool>, AllocError> {
+    let mut read = Vec::new(alloc);
+    for register in registers {
+        read.push(is_read(alloc, history, register, tries)?)?;
+    }
+    Ok(read)
+}
+
+// Whether a measurement's calls have an order in which each reads what it read.
+fn is_read<T: Tries>(
+    alloc: Global,
+    history: &History,
+    register: &Register,
+    tries: &mut T,
+) -> Result<bool, AllocError> {
+    let found = order_found(alloc, history, register, tries)?;
+    Ok(found.unread.is_none())
 }

@@ -1,9 +1,9 @@
 //! A call that has to stand before calls that returned earlier.
 
 use crate::calls::OpenCall;
-use crate::claims::put_claims;
+use crate::claims::{Claim, put_claims};
 use crate::draft::Draft;
-use crate::steps::{last_taken, takes, takes_all};
+use crate::steps::{Step, last_taken, takes, takes_all};
 use history::History;
 use spec_machine::Machine;
 use std::alloc::{AllocError, Global};
@@ -28,46 +28,69 @@ impl<'h> Draft<'h> {
         let Some(machine) = self.machine_after(alloc, history, first)? else {
             return Ok(false);
         };
-        let copy = machine.copy()?;
-        self.place_since(alloc, history, machine, copy, first, call)
+        let Some(index) = self.index_since(alloc, history, &machine, first, &call)? else {
+            return Ok(false);
+        };
+        let at = first.saturating_add(index);
+        self.place_since(alloc, history, machine, first, at, &call)
     }
 
-    // The same, where both machines are after so many steps.
+    // Before which of the steps after the first, the last of them, the call may be given its reply, where the machine is before these.
+    fn index_since(
+        &self,
+        alloc: Global,
+        history: &History,
+        machine: &Machine,
+        first: usize,
+        call: &OpenCall<'h>,
+    ) -> Result<Option<usize>, AllocError> {
+        match self.steps.as_slice().get(first..) {
+            Some(since) => last_taken(history, machine.copy()?, since, call.step(0), alloc),
+            None => Ok(None),
+        }
+    }
+
+    // Puts the call in before the step of that index, where the machine is after the first steps, if those after it are given their replies.
     fn place_since(
         &mut self,
         alloc: Global,
         history: &History,
-        looking: Machine,
-        again: Machine,
+        machine: Machine,
         first: usize,
-        call: OpenCall<'h>,
+        at: usize,
+        call: &OpenCall<'h>,
     ) -> Result<bool, AllocError> {
-        let Some(since) = self.steps.as_slice().get(first..) else {
+        let Some(next) = self.steps.as_slice().get(at).copied() else {
             return Ok(false);
         };
-        let step = call.step(0);
-        let Some(index) = last_taken(history, looking, since, step, alloc)? else {
-            return Ok(false);
-        };
-        let Some(next) = since.get(index).copied() else {
-            return Ok(false);
-        };
-        let (before, after) = since.split_at(index);
-        let mut machine = again;
-        let mut claims = Vec::new(alloc);
-        if !takes_all(history, &mut machine, before, &mut claims)?
-            || !takes(history, &mut machine, step, &mut claims)?
-            || !takes_all(history, &mut machine, after, &mut claims)?
-        {
+        let mut machine = machine;
+        if !self.takes_since(alloc, history, &mut machine, first, at, call)? {
             return Ok(false);
         }
         self.machine = machine;
+        self.note(usize::from(call.cpu), at, next.at as usize)?;
+        Ok(true)
+    }
+
+    // Whether the machine gives the steps after the first their replies, and the call its own before the step of that index, and carries them out.
+    fn takes_since(
+        &mut self,
+        alloc: Global,
+        history: &History,
+        machine: &mut Machine,
+        first: usize,
+        at: usize,
+        call: &OpenCall<'h>,
+    ) -> Result<bool, AllocError> {
+        let steps = self.steps.as_slice();
+        let (Some(before), Some(after)) = (steps.get(first..at), steps.get(at..)) else {
+            return Ok(false);
+        };
+        let mut claims = Vec::new(alloc);
+        if !takes_between(history, machine, (before, after), call.step(0), &mut claims)? {
+            return Ok(false);
+        }
         put_claims(&mut self.claims, claims.as_slice())?;
-        self.note(
-            usize::from(call.cpu),
-            first.saturating_add(index),
-            next.at as usize,
-        )?;
         Ok(true)
     }
 
@@ -82,4 +105,20 @@ impl<'h> Draft<'h> {
         }
         first
     }
+}
+
+// Whether the machine gives the steps of both parts their replies, and the call between them its own, and carries them out.
+fn takes_between(
+    history: &History,
+    machine: &mut Machine,
+    steps: (&[Step], &[Step]),
+    call: Step,
+    claims: &mut Vec<Claim>,
+) -> Result<bool, AllocError> {
+    let (before, after) = steps;
+    Ok(
+        takes_all(history, machine, before, claims)?
+            && takes(history, machine, call, claims)?
+            && takes_all(history, machine, after, claims)?,
+    )
 }

@@ -77,28 +77,7 @@ pub(crate) fn precedences(
         known,
         passed: Vec::new(alloc),
     };
-    for others in 0..min(steps.len(), MOST) {
-        let Some(step) = steps.from_end(others) else {
-            break;
-        };
-        if let Some(write) = look.write_of(history, step) {
-            let found = writes.with_last(step, write)?;
-            if !found.is_empty() {
-                return Ok(found);
-            }
-            writes.passed.push(Written {
-                step,
-                destroys: matches!(write, RipasWrite::Destroys),
-            })?;
-        }
-        if writes.are_all_after(step) {
-            return Ok(Vec::new(alloc));
-        }
-    }
-    if steps.len() > MOST || !look.read.is(Ripas::Empty) {
-        return Ok(Vec::new(alloc));
-    }
-    writes.all_later()
+    writes.found_in(history, steps)
 }
 
 /// That a step which stands after a look has to come before it, where the look may read what that step leaves.
@@ -128,6 +107,42 @@ pub(crate) fn later_precedence(
 }
 
 impl Writes<'_> {
+    // What has to come before what, so that the look reads what one of the steps leaves, or what was there at first. Empty where that can't be.
+    fn found_in(
+        &mut self,
+        history: &History,
+        steps: Parts<'_>,
+    ) -> Result<Vec<Precedence>, AllocError> {
+        for others in 0..min(steps.len(), MOST) {
+            let Some(step) = steps.from_end(others) else {
+                break;
+            };
+            if let Some(write) = self.look.write_of(history, step) {
+                let found = self.with_last(step, write)?;
+                if !found.is_empty() {
+                    return Ok(found);
+                }
+                self.pass(step, write)?;
+            }
+            if self.are_all_after(step) {
+                return Ok(Vec::new(self.alloc));
+            }
+        }
+        if steps.len() > MOST || !self.look.read.is(Ripas::Empty) {
+            return Ok(Vec::new(self.alloc));
+        }
+        self.all_later()
+    }
+
+    // Passes a step that changes the RIPAS.
+    fn pass(&mut self, step: Step, write: RipasWrite) -> Result<(), AllocError> {
+        self.passed.push(Written {
+            step,
+            destroys: matches!(write, RipasWrite::Destroys),
+        })?;
+        Ok(())
+    }
+
     // What has to come before what, so that the look reads what this step leaves, or what is left of it once the page is taken back.
     fn with_last(&self, step: Step, write: RipasWrite) -> Result<Vec<Precedence>, AllocError> {
         if self.look.may_follow(write) {

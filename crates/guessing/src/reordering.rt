@@ -62,15 +62,26 @@ impl<'h> Draft<'h> {
             since: Vec::new(alloc),
             rest: Vec::new(alloc),
         };
+        self.takes_another(alloc, history, &call, place, &mut failing, &mut known)
+    }
+
+    // Whether another order is found and taken, where a step fails now, by what has to come before what.
+    fn takes_another(
+        &mut self,
+        alloc: Global,
+        history: &History,
+        call: &OpenCall<'h>,
+        place: usize,
+        failing: &mut Failing,
+        known: &mut Vec<Precedence>,
+    ) -> Result<bool, AllocError> {
         for _try in 0..TRIES {
-            let mut found = self.found(alloc, history, &failing, known.as_slice())?;
-            if found.is_empty() {
+            if !self.finds_more(alloc, history, failing, known)? {
                 return Ok(false);
             }
-            known.append(&mut found)?;
-            match self.reordered(alloc, history, known.as_slice(), &call, place)? {
+            match self.reordered(alloc, history, known.as_slice(), call, place)? {
                 Reordered::Taken => return Ok(true),
-                Reordered::Fails(next) => failing = next,
+                Reordered::Fails(next) => *failing = next,
                 Reordered::Cannot => return Ok(false),
             }
         }
@@ -88,6 +99,22 @@ impl<'h> Draft<'h> {
         }
     }
 
+    // Whether something has to come before something beside what is known, so that the step is given its reply. Now it is known.
+    fn finds_more(
+        &self,
+        alloc: Global,
+        history: &History,
+        failing: &Failing,
+        known: &mut Vec<Precedence>,
+    ) -> Result<bool, AllocError> {
+        let mut found = self.found(alloc, history, failing, known.as_slice())?;
+        if found.is_empty() {
+            return Ok(false);
+        }
+        known.append(&mut found)?;
+        Ok(true)
+    }
+
     // What has to come before what, beside what is known, so that the step is given its reply: as a RIPAS was read, or calls on a REC came before.
     fn found(
         &self,
@@ -103,29 +130,36 @@ impl<'h> Draft<'h> {
             early,
             late: failing.since.as_slice(),
         };
-        let mut found = Vec::new(alloc);
         if let Some(one) = entry_precedence(history, failing.step, parts, known) {
-            found.push(one)?;
-            return Ok(found);
+            return listed(alloc, Some(one));
         }
-        let one = match self.look(history, failing.step, parts) {
-            Some(look) => {
-                found = precedences(alloc, history, look, parts, known)?;
-                if !found.is_empty() {
-                    return Ok(found);
-                }
-                later_precedence(history, look, failing.rest.as_slice(), known)
+        let look = self.look(history, failing.step, parts);
+        if let Some(look) = look {
+            let found = precedences(alloc, history, look, parts, known)?;
+            if !found.is_empty() {
+                return Ok(found);
             }
+        }
+        listed(alloc, self.later_found(history, failing, look, known))
+    }
+
+    // That a later step comes before it, or the last step that changed its REC, where it reads no RIPAS.
+    fn later_found(
+        &self,
+        history: &History,
+        failing: &Failing,
+        look: Option<RipasLook>,
+        known: &[Precedence],
+    ) -> Option<Precedence> {
+        let rest = failing.rest.as_slice();
+        let one = match look {
+            Some(look) => later_precedence(history, look, rest, known),
             None => self.rec_precedence(history, failing.step),
         };
-        let one = match one {
+        match one {
             Some(one) if !is_decided(one, known) => Some(one),
-            _ => later_entry_precedence(history, failing.step, failing.rest.as_slice(), known),
-        };
-        if let Some(one) = one {
-            found.push(one)?;
+            _ => later_entry_precedence(history, failing.step, rest, known),
         }
-        Ok(found)
     }
 
     // The look that a step after these is, where it reads a RIPAS.
@@ -165,48 +199,51 @@ impl<'h> Draft<'h> {
         if !are_ordered(&mut steps, known) {
             return Ok(Reordered::Cannot);
         }
+        self.replayed(alloc, history, first, steps.as_slice(), call)
+    }
+
+    // Gives these steps their replies after the first, so many.
+    fn replayed(
+        &mut self,
+        alloc: Global,
+        history: &History,
+        first: usize,
+        steps: &[Step],
+        call: &OpenCall<'h>,
+    ) -> Result<Reordered, AllocError> {
         let Some(start) = self.machine_after(alloc, history, first)? else {
             return Ok(Reordered::Cannot);
         };
         let mut replay = Replay::new(alloc, start)?;
-        match replay.take_all(history, steps.as_slice(), call.returned)? {
-            Some(Stopped { step, passed }) => {
-                let rest = match steps.as_slice().get(passed..) {
-                    Some(rest) => rest.to_vec(alloc)?,
-                    None => Vec::new(alloc),
-                };
-                let since = replay.order;
-                Ok(Reordered::Fails(Failing {
-                    step,
-                    first,
-                    since,
-                    rest,
-                }))
-            }
-            None => {
-                self.take_order(first, replay, usize::from(call.cpu))?;
-                Ok(Reordered::Taken)
-            }
+        match replay.take_all(history, steps, call.returned)? {
+            Some(stopped) => failed(alloc, first, replay, stopped, steps),
+            None => self.take_order(first, replay, usize::from(call.cpu)),
         }
     }
 
-    // Takes another order of the steps after the first, with the CPU's call in it. Open calls that only look may wait on.
-    fn take_order(&mut self, first: usize, replay: Replay, cpu: usize) -> Result<(), AllocError> {
-        let Replay {
-            mut order,
-            machine,
-            claims,
-            waiting,
-            ..
-        } = replay;
-        for step in &waiting {
+    // Takes another order of the steps after the first, with the CPU's call in it.
+    fn take_order(
+        &mut self,
+        first: usize,
+        replay: Replay,
+        cpu: usize,
+    ) -> Result<Reordered, AllocError> {
+        let mut replay = replay;
+        self.take_steps(first, &mut replay)?;
+        self.machine = replay.into_machine();
+        self.note_placed(cpu)?;
+        Ok(Reordered::Taken)
+    }
+
+    // Takes the steps and their claims. Open calls that only look may wait on.
+    fn take_steps(&mut self, first: usize, replay: &mut Replay) -> Result<(), AllocError> {
+        for step in &replay.waiting {
             self.open.take_back(usize::from(step.cpu));
         }
-        put_claims(&mut self.claims, claims.as_slice())?;
+        put_claims(&mut self.claims, replay.claims.as_slice())?;
         self.steps.truncate(first);
-        self.steps.append(&mut order)?;
-        self.machine = machine;
-        self.note_placed(cpu)
+        self.steps.append(&mut replay.order)?;
+        Ok(())
     }
 
     // The first of the steps that have to come before or after another.
@@ -231,4 +268,33 @@ impl<'h> Draft<'h> {
         }
         self.steps.len()
     }
+}
+
+// What is there, as a list.
+fn listed(alloc: Global, one: Option<Precedence>) -> Result<Vec<Precedence>, AllocError> {
+    let mut list = Vec::new(alloc);
+    if let Some(one) = one {
+        list.push(one)?;
+    }
+    Ok(list)
+}
+
+// That a step fails after those that were given their replies, and before the rest.
+fn failed(
+    alloc: Global,
+    first: usize,
+    replay: Replay,
+    stopped: Stopped,
+    steps: &[Step],
+) -> Result<Reordered, AllocError> {
+    let rest = match steps.get(stopped.passed..) {
+        Some(rest) => rest.to_vec(alloc)?,
+        None => Vec::new(alloc),
+    };
+    Ok(Reordered::Fails(Failing {
+        step: stopped.step,
+        first,
+        since: replay.order,
+        rest,
+    }))
 }

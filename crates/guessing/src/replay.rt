@@ -2,7 +2,7 @@
 
 use crate::calls::{command_at, is_look, is_never, reply_of};
 use crate::claims::Claim;
-use crate::steps::{Step, insert, last_taken, takes, takes_all};
+use crate::steps::{Step, insert, last_taken, takes, takes_all_unclaimed};
 use history::History;
 use spec_machine::Machine;
 use std::alloc::{AllocError, Global};
@@ -73,6 +73,11 @@ impl Replay {
         }
     }
 
+    /// The machine after the steps.
+    pub(crate) fn into_machine(self) -> Machine {
+        self.machine
+    }
+
     // A call that waits, and has returned by the place.
     fn overdue(&self, place: u32) -> Option<Step> {
         self.waiting
@@ -116,16 +121,20 @@ impl Replay {
         if !may_be_earlier {
             return Ok(None);
         }
+        self.earlier_standing(history, step)
+    }
+
+    // The last place among the steps at which the step may be given its reply, since it was made.
+    fn earlier_standing(
+        &self,
+        history: &History,
+        step: Step,
+    ) -> Result<Option<Standing>, AllocError> {
         let Some(first) = self.order.iter().position(|other| other.at > step.called) else {
             return Ok(None);
         };
         let (before, since) = self.order.as_slice().split_at(first);
-        let mut machine = self.start.copy()?;
-        let mut unkept = Vec::new(self.alloc);
-        if !takes_all(history, &mut machine, before, &mut unkept)? {
-            return Ok(None);
-        }
-        let Some(index) = last_taken(history, machine, since, step, self.alloc)? else {
+        let Some(index) = self.last_since(history, before, since, step)? else {
             return Ok(None);
         };
         let Some(next) = since.get(index) else {
@@ -135,6 +144,22 @@ impl Replay {
             index: first.saturating_add(index),
             at: next.at,
         }))
+    }
+
+    // Before which of the later steps, the last of them, the step may be given its reply.
+    fn last_since(
+        &self,
+        history: &History,
+        before: &[Step],
+        since: &[Step],
+        step: Step,
+    ) -> Result<Option<usize>, AllocError> {
+        let mut machine = self.start.copy()?;
+        if takes_all_unclaimed(history, &mut machine, before, self.alloc)? {
+            last_taken(history, machine, since, step, self.alloc)
+        } else {
+            Ok(None)
+        }
     }
 
     // Gives those that wait their replies, where they are given them now.

@@ -71,6 +71,17 @@ pub(crate) fn takes(
     }
 }
 
+/// The same, where the claims aren't kept.
+pub(crate) fn takes_all_unclaimed(
+    history: &History,
+    machine: &mut Machine,
+    steps: &[Step],
+    alloc: Global,
+) -> Result<bool, AllocError> {
+    let mut unkept = Vec::new(alloc);
+    takes_all(history, machine, steps, &mut unkept)
+}
+
 /// Before which of the steps, the last of them, the machine may give a call its reply, from where it is on.
 pub(crate) fn last_taken(
     history: &History,
@@ -81,12 +92,23 @@ pub(crate) fn last_taken(
 ) -> Result<Option<usize>, AllocError> {
     let mut machine = machine;
     let mut unkept = Vec::new(alloc);
+    last_taken_by(history, &mut machine, steps, call, &mut unkept)
+}
+
+// The same, where the claims are noted.
+fn last_taken_by(
+    history: &History,
+    machine: &mut Machine,
+    steps: &[Step],
+    call: Step,
+    claims: &mut Vec<Claim>,
+) -> Result<Option<usize>, AllocError> {
     let mut last = None;
     for (index, step) in steps.iter().enumerate() {
-        if would_take(history, &machine, call) {
+        if would_take(history, machine, call) {
             last = Some(index);
         }
-        if !takes(history, &mut machine, *step, &mut unkept)? {
+        if !takes(history, machine, *step, claims)? {
             return Ok(last);
         }
     }

@@ -51,19 +51,23 @@ impl<S: Site> Monitor<S> {
         let Monitor {
             journal,
             recorder,
+            granules,
             ..
         } = self;
+        drop(granules);
         let (mut scribe, mut passes, mut history) = (scribe, passes, history);
         let passes = passes.as_mut_slice();
         recorder.drain_rest(rt, &mut scribe, passes, &mut history)?;
+        let Ordered { mut journal, order } = journal.into_inner();
+        recorder.keeps_real_time(rt, &mut scribe, order, passes);
+        drop(recorder);
+        drop(scribe);
         let mut tokens = tokens;
         let tokens = tokens.as_mut_slice();
-        let Ordered { mut journal, order } = journal.into_inner();
         journal.audit(tokens);
         if let Err(unlisted) = journal.compare(tokens) {
             return Err(CloseFault::Disagrees(unlisted));
         }
-        recorder.keeps_real_time(rt, &mut scribe, order, passes);
         let certificate = certificate_of(alloc, &journal, &history)?;
         Ok((history, certificate))
     }

@@ -66,16 +66,17 @@ impl<S: Site> Monitor<S> {
         ensures cpus { IfOk result (λ made. AreCpus made.0 made.1.items made.2.items) }
         ensures scribe { IfOk result (λ made. made.3 ≡ record { queue = made.0.queue; cpus = config.cpus; events = [] }) }
     {
+        let granules = Granules::new(alloc, &config)?;
+        let (journal, tokens) = Journal::new(alloc, blank, config)?;
         let Queue {
             recorder,
             passes,
             scribe,
             order,
         } = queue;
-        let (journal, tokens) = Journal::new(alloc, blank, config)?;
         let monitor = Monitor {
             config,
-            granules: Granules::new(alloc, &config)?,
+            granules,
             journal: Soon::new(Ordered { journal, order }),
             recorder,
         };

@@ -100,10 +100,14 @@ fn decimals(rt: HostRuntime) -> Result<(), Fail> {
 }
 
 fn are_three(parts: &mut Parts<'_>) -> bool {
-    parts.next_part() == Some(b"a".as_slice())
-        && parts.next_part() == Some(b"".as_slice())
-        && parts.next_part() == Some(b"bc".as_slice())
+    is_next(parts, b"a")
+        && is_next(parts, b"")
+        && is_next(parts, b"bc")
         && parts.next_part().is_none()
+}
+
+fn is_next(parts: &mut Parts<'_>, text: &[u8]) -> bool {
+    parts.next_part() == Some(text)
 }
 
 #[test]

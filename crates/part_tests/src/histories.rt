@@ -61,9 +61,13 @@ pub(crate) fn record(history: &mut History, event: Event) -> Result<(), Fail> {
 
 fn record_lines(history: &mut History, lines: &str) -> Result<(), Fail> {
     for line in lines.lines() {
-        record(history, event(line)?)?;
+        record_line(history, line)?;
     }
     Ok(())
+}
+
+fn record_line(history: &mut History, line: &str) -> Result<(), Fail> {
+    record(history, event(line)?)
 }
 
 // One of four events, of which two calls come first.
@@ -234,7 +238,9 @@ fn has_copy(alloc: Global, history: &History) -> Result<bool, Fail> {
 #[test]
 fn copies_each_event(rt: HostRuntime) -> Result<(), Fail> {
     let history = read(rt.alloc(), TEXT.as_bytes())?;
-    assert!(rt; has_copy(rt.alloc(), &history)?);
+    let is_copied = has_copy(rt.alloc(), &history);
+    drop(history);
+    assert!(rt; is_copied?);
     Ok(())
 }
 

@@ -98,7 +98,8 @@ fn is_long_line_told(alloc: Global, line: &[u8], is_long: bool) -> Result<bool, 
     reader.feed(b"rmh1 4 1\n")?;
     let is_early = reader.feed(line).is_err();
     let is_late = is_told(&mut reader, b"\n");
-    Ok(is_early == is_long && is_late && is_bad_at_end(reader, 2)?)
+    let is_bad = is_bad_at_end(reader, 2)?;
+    Ok(is_early == is_long && is_late && is_bad)
 }
 
 // The same of a certificate's line.
@@ -193,6 +194,7 @@ fn is_late_told_twice(alloc: Global, reader: &mut Reader) -> Result<bool, Fail> 
 fn tells_a_bad_line_before_the_rest(rt: HostRuntime) -> Result<(), Fail> {
     let mut reader = Reader::new(rt.alloc());
     let is_late = is_late_told_twice(rt.alloc(), &mut reader)?;
-    assert!(rt; is_late && is_bad_at_end(reader, 500)?);
+    let is_bad = is_bad_at_end(reader, 500)?;
+    assert!(rt; is_late && is_bad);
     Ok(())
 }

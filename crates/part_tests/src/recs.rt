@@ -40,6 +40,20 @@ fn gives(
         && is_ok(&realm_call(realm, rec, command, ripas), words)
 }
 
+// Whether an Enter of the CPU is answered with these words.
+fn enters(realm: &mut Realm, rec: &mut Rec, cpu: u8, words: &[u64]) -> bool {
+    is_ok(&enter(realm, rec, cpu), words)
+}
+
+// Whether an Enter of the CPU is refused with this status and index.
+fn is_refused(realm: &mut Realm, rec: &mut Rec, cpu: u8, fault: (u8, u8)) -> bool {
+    matches!(enter(realm, rec, cpu), Reply::Err(status, index) if (status, index) == fault)
+}
+
+fn exits(rec: &mut Rec, words: &[u64]) -> bool {
+    is_ok(&exit(rec), words)
+}
+
 #[test]
 fn rem_extended_by_three_bytes(rt: HostRuntime) {
     let (mut realm, mut rec) = realm_and_rec();
@@ -61,27 +75,34 @@ fn rem_extended_by_three_bytes(rt: HostRuntime) {
 #[test]
 fn life_of_a_rec(rt: HostRuntime) {
     let (mut realm, mut rec) = realm_and_rec();
+    assert!(rt; enters(&mut realm, &mut rec, 0, &[0]));
+    assert!(rt; is_refused(&mut realm, &mut rec, 1, (3, 0)));
+    assert!(rt; calls_its_host_once(&mut realm, &mut rec));
+    assert!(rt; enters(&mut realm, &mut rec, 0, &[0]));
+    assert!(rt; turns_off(&mut realm, &mut rec));
+    assert!(rt; is_refused(&mut realm, &mut rec, 0, (2, 1)));
+}
+
+fn calls_its_host_once(realm: &mut Realm, rec: &mut Rec) -> bool {
     let call = command(FunctionId::HostCall, 0x2a, 0, 0);
-    assert!(rt; is_ok(&enter(&mut realm, &mut rec, 0), &[0]));
-    assert_eq!(rt; enter(&mut realm, &mut rec, 1), Reply::Err(3, 0));
-    assert!(rt; gives(&mut realm, &mut rec, &call, None, &[]));
-    assert!(rt; !gives(&mut realm, &mut rec, &call, None, &[]));
-    assert!(rt; is_ok(&exit(&mut rec), &[5, 0x2a, 0, 0]));
-    assert!(rt; is_ok(&enter(&mut realm, &mut rec, 0), &[0]));
+    gives(realm, rec, &call, None, &[])
+        && !gives(realm, rec, &call, None, &[])
+        && exits(rec, &[5, 0x2a, 0, 0])
+}
+
+fn turns_off(realm: &mut Realm, rec: &mut Rec) -> bool {
     let off = command(FunctionId::SystemOff, 0, 0, 0);
-    assert!(rt; gives(&mut realm, &mut rec, &off, None, &[]));
-    assert!(rt; is_ok(&exit(&mut rec), &[3, 0x8400_0008, 0, 0]));
-    assert_eq!(rt; enter(&mut realm, &mut rec, 0), Reply::Err(2, 1));
+    gives(realm, rec, &off, None, &[]) && exits(rec, &[3, 0x8400_0008, 0, 0])
 }
 
 #[test]
 fn ripas_change(rt: HostRuntime) {
     let (mut realm, mut rec) = realm_and_rec();
-    assert!(rt; is_ok(&enter(&mut realm, &mut rec, 0), &[0]));
+    assert!(rt; enters(&mut realm, &mut rec, 0, &[0]));
     let set = command(FunctionId::IpaStateSet, 0x1000, 0x3000, 1);
     assert!(rt; gives(&mut realm, &mut rec, &set, None, &[]));
-    assert!(rt; is_ok(&exit(&mut rec), &[4, 0x1000, 0x3000, 1]));
-    assert!(rt; is_ok(&enter(&mut realm, &mut rec, 0), &[0x1000]));
+    assert!(rt; exits(&mut rec, &[4, 0x1000, 0x3000, 1]));
+    assert!(rt; enters(&mut realm, &mut rec, 0, &[0x1000]));
     let get = command(FunctionId::IpaStateGet, 0x2000, 0, 0);
     assert!(rt; gives(&mut realm, &mut rec, &get, Some(Ripas::Ram), &[1]));
 }

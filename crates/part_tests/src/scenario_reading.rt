@@ -1,11 +1,10 @@
 //! Scenario files, and what is read of them.
 
-use rmm_spec::{Version, Will};
-use scenario::{ScenarioFault, read_scenario};
+use crate::lines::expect_line;
+use rmm_spec::{Command, Version, Will};
+use scenario::{Due, Scenario, ScenarioFault, read_scenario};
 use std::process::Abort;
 use std::test::Fail;
-
-const PROGRAMS: &str = "programs = [['c4000151 1000'], ['c4000151 2000', 'c4000152 2000']]\n";
 
 // The number of the fault that bytes have, or 0.
 fn fault_number(rt: &(impl AllocGlobal + Abort), bytes: &[u8]) -> u8 {
@@ -23,11 +22,15 @@ fn fault_number(rt: &(impl AllocGlobal + Abort), bytes: &[u8]) -> u8 {
 // Each paragraph is a scenario of two CPUs, behind a line with the number of its fault.
 fn all_have_their_faults(rt: &(impl AllocGlobal + Abort), paragraphs: &str) -> Result<(), Fail> {
     for paragraph in paragraphs.split("\n\n") {
-        let (number, text) = paragraph.split_once('\n').ok_or("a line before the text")?;
-        let number: u8 = number.parse()?;
-        assert_eq!(rt; fault_number(rt, text.as_bytes()), number, "at {text}");
+        let holds = has_its_fault(rt, paragraph)?;
+        expect_line(rt, holds, paragraph);
     }
     Ok(())
+}
+
+fn has_its_fault(rt: &(impl AllocGlobal + Abort), paragraph: &str) -> Result<bool, Fail> {
+    let (number, text) = paragraph.split_once('\n').ok_or("a line before the text")?;
+    Ok(fault_number(rt, text.as_bytes()) == number.parse::<u8>()?)
 }
 
 #[test]
@@ -395,91 +398,123 @@ fn ranges(rt: HostRuntime) -> Result<(), Fail> {
 
 #[test]
 fn versions(rt: HostRuntime) -> Result<(), Fail> {
-    for (kind, text) in [
-        (0, "1"),
-        (0, "2"),
-        (0, "0x2"),
-        (3, "0"),
-        (3, "3"),
-        (3, "-1"),
-        (3, "4294967297"),
-        (3, "9223372036854775807"),
-        (2, "'2'"),
-        (2, "2.0"),
-        (2, "[2]"),
-        (2, "true"),
-    ] {
-        let scenario = format!(in rt.alloc();
-            "granules = 4\ncpus = 1\nprograms = [[]]\nversion = {text}\n"
-        )?;
-        assert_eq!(rt; fault_number(&rt, scenario.as_bytes()), kind, "at {text}");
+    expect_versions(&rt, 0, "1|2|0x2")?;
+    expect_versions(&rt, 3, "0|3|-1|4294967297|9223372036854775807")?;
+    expect_versions(&rt, 2, "'2'|2.0|[2]|true")
+}
+
+fn expect_versions(rt: &(impl AllocGlobal + Abort), fault: u8, texts: &str) -> Result<(), Fail> {
+    for text in texts.split('|') {
+        let number = fault_of_version(rt, text)?;
+        expect_line(rt, number == fault, text);
     }
     Ok(())
+}
+
+fn fault_of_version(rt: &(impl AllocGlobal + Abort), text: &str) -> Result<u8, Fail> {
+    let scenario = format!(in rt.alloc();
+        "granules = 4\ncpus = 1\nprograms = [[]]\nversion = {text}\n"
+    )?;
+    Ok(fault_number(rt, scenario.as_bytes()))
 }
 
 #[test]
 fn commands_and_turns(rt: HostRuntime) -> Result<(), Fail> {
-    for (kind, texts) in [
-        (
-            4,
-            "c4000151|c4000151 |c4000151  1000| c4000151 1000|c4000151 1000 |C4000151 1000|c4000151 01000|c4000151 1000 2000|c4000150 1|",
-        ),
-        (
-            5,
-            "2|01|0 go|0 Stop|0  stop|0 stop | 0|giveup|-1|0stop|0 give up|",
-        ),
-        (0, "0 stop|0 giveup|1|1 stop|0"),
-    ] {
-        for text in texts.split('|') {
-            let scenario = match kind {
-                4 => format!(in rt.alloc();
-                    "granules = 4\ncpus = 2\nprograms = [[], ['{text}']]\n"
-                )?,
-                _ => format!(in rt.alloc();
-                    "granules = 4\ncpus = 2\nprograms = [[], []]\nturns = ['0', '{text}']\nlimit = 1\n"
-                )?,
-            };
-            assert_eq!(rt; fault_number(&rt, scenario.as_bytes()), kind, "at {text}");
-        }
+    let no_commands = "c4000151|c4000151 |c4000151  1000| c4000151 1000|c4000151 1000 |\
+        C4000151 1000|c4000151 01000|c4000151 1000 2000|c4000150 1|";
+    let no_turns = "2|01|0 go|0 Stop|0  stop|0 stop | 0|giveup|-1|0stop|0 give up|";
+    expect_commands(&rt, 4, no_commands)?;
+    expect_turns(&rt, 5, no_turns)?;
+    expect_turns(&rt, 0, "0 stop|0 giveup|1|1 stop|0")
+}
+
+fn expect_commands(rt: &(impl AllocGlobal + Abort), fault: u8, texts: &str) -> Result<(), Fail> {
+    for text in texts.split('|') {
+        let number = fault_of_command(rt, text)?;
+        expect_line(rt, number == fault, text);
     }
     Ok(())
 }
 
+fn fault_of_command(rt: &(impl AllocGlobal + Abort), text: &str) -> Result<u8, Fail> {
+    let scenario = format!(in rt.alloc(); "granules = 4\ncpus = 2\nprograms = [[], ['{text}']]\n")?;
+    Ok(fault_number(rt, scenario.as_bytes()))
+}
+
+fn expect_turns(rt: &(impl AllocGlobal + Abort), fault: u8, texts: &str) -> Result<(), Fail> {
+    for text in texts.split('|') {
+        let number = fault_of_turn(rt, text)?;
+        expect_line(rt, number == fault, text);
+    }
+    Ok(())
+}
+
+fn fault_of_turn(rt: &(impl AllocGlobal + Abort), text: &str) -> Result<u8, Fail> {
+    let scenario = format!(in rt.alloc();
+        "granules = 4\ncpus = 2\nprograms = [[], []]\nturns = ['0', '{text}']\nlimit = 1\n"
+    )?;
+    Ok(fault_number(rt, scenario.as_bytes()))
+}
+
+const STATED: &str = "granules = 16
+cpus = 2
+programs = [['c4000151 1000'], ['c4000151 2000', 'c4000152 2000']]
+queue = 7
+limit = 2
+version = 2
+turns = ['0', '1 giveup', '0 stop']
+";
+
+fn has_its_numbers(scenario: &Scenario) -> bool {
+    let config = scenario.config();
+    config.granules() == 16
+        && config.cpus() == 2
+        && matches!(config.version(), Version::Two)
+        && scenario.queue() == 7
+        && scenario.limit() == 2
+}
+
+fn has_its_programs(programs: &[Vec<Command>]) -> bool {
+    match programs {
+        [_, second] => ends_in_its_command(second.as_slice()),
+        _ => false,
+    }
+}
+
+fn ends_in_its_command(program: &[Command]) -> bool {
+    matches!(program.last(), Some(last) if last.words.as_slice() == [0x2000].as_slice())
+}
+
+fn has_its_turns(turns: &[Due]) -> bool {
+    match turns {
+        [first, second, third] => {
+            (first.cpu, second.cpu, third.cpu) == (0, 1, 0)
+                && matches!(first.will, Will::Go)
+                && matches!(second.will, Will::GiveUp)
+                && matches!(third.will, Will::Stop)
+        }
+        _ => false,
+    }
+}
+
 #[test]
 fn what_is_stated(rt: HostRuntime) -> Result<(), Fail> {
-    let text = format!(in rt.alloc();
-        "granules = 16\ncpus = 2\n{PROGRAMS}queue = 7\nlimit = 2\nversion = 2\nturns = ['0', '1 giveup', '0 stop']\n"
-    )?;
-    let scenario = read_scenario(rt.alloc(), text.as_bytes())?;
-    assert_eq!(rt; scenario.config().granules(), 16);
-    assert_eq!(rt; scenario.config().cpus(), 2);
-    assert!(rt; matches!(scenario.config().version(), Version::Two));
-    assert_eq!(rt; scenario.queue(), 7);
-    assert_eq!(rt; scenario.limit(), 2);
-    assert_eq!(rt; scenario.programs().len(), 2);
-    let last = scenario
-        .programs()
-        .get(1)
-        .and_then(|program| program.as_slice().last());
-    assert_eq!(rt;
-        last.ok_or("a program")?.words.as_slice(),
-        [0x2000].as_slice()
-    );
-    let [first, second, third] = *scenario.turns() else {
-        return Err(Fail::from("three turns"));
-    };
-    assert!(rt; first.cpu == 0 && matches!(first.will, Will::Go));
-    assert!(rt; second.cpu == 1 && matches!(second.will, Will::GiveUp));
-    assert!(rt; third.cpu == 0 && matches!(third.will, Will::Stop));
+    let scenario = read_scenario(rt.alloc(), STATED.as_bytes())?;
+    assert!(rt; has_its_numbers(&scenario));
+    assert!(rt; has_its_programs(scenario.programs()) && has_its_turns(scenario.turns()));
     Ok(())
+}
+
+fn is_filled_up(scenario: &Scenario) -> bool {
+    scenario.queue() == 4096
+        && scenario.limit() == 1_000_000
+        && matches!(scenario.config().version(), Version::One)
+        && scenario.turns().is_empty()
 }
 
 #[test]
 fn what_is_left_out(rt: HostRuntime) -> Result<(), Fail> {
     let scenario = read_scenario(rt.alloc(), b"granules = 1\ncpus = 1\nprograms = [[]]")?;
-    assert_eq!(rt; scenario.queue(), 4096);
-    assert_eq!(rt; scenario.limit(), 1_000_000);
-    assert!(rt; matches!(scenario.config().version(), Version::One));
-    assert!(rt; scenario.turns().is_empty());
+    assert!(rt; is_filled_up(&scenario));
     Ok(())
 }

@@ -1,133 +1,160 @@
-//! Indices at the edges of tables, and each method of a table once.
+//! Commands that walk, on the quiet machine of `plans`. Its realm at 15000 has its root at 19000, a table of level 2 in each half (13000,
+//! and 1a000 above), those of level 3 at 17000, 11000 and (above) 1c000, a data granule at 1b000, and a REC at 16000.
 
-ghost use Rattle.rtt_table.specs.Shaped.{IsShaped};
-
-use memory_map::Ipa;
-use rmm_spec::{Entry, EntryTest, Place, Ripas};
-use rtt_table::{Table, index_of};
+use crate::plans::{expect_ready, expect_traces, inside, realm, table_at};
+use command_core::{Cell, CpuPlace};
+use memory_map::Pa;
+use realm_desc::{Rec, RipasRequest};
+use rmm_spec::{Entry, Place, Ripas};
+use std::alloc::Global;
 use std::test::Fail;
 
-#[test]
-fn indices_at_each_level(rt: HostRuntime) {
-    for (level, ipa, want) in [
-        (3, 0, 0),
-        (3, 0xfff, 0),
-        (3, 0x1000, 1),
-        (3, 0x1f_f000, 511),
-        (3, 0x20_0000, 0),
-        (2, 0x1f_ffff, 0),
-        (2, 0x20_0000, 1),
-        (2, 0x3fe0_0000, 511),
-        (2, 0x4000_0000, 0),
-        (1, 0x3fff_ffff, 0),
-        (1, 0x4000_0000, 1),
-        (1, 0x40_0000_0000, 256),
-        (1, 0x7f_c000_0000, 511),
-        (1, 0x80_0000_0000, 0),
-        (0, 0x7f_ffff_ffff, 0),
-        (0, 0x80_0000_0000, 1),
-        (0, 0x8000_0000_0000, 256),
-        (0, 0xff80_0000_0000, 511),
-    ] {
-        assert_eq!(rt;
-            index_of(level, Ipa::new(ipa)),
-            want,
-            "level {level}, {ipa:x}"
-        );
-    }
-}
+const TABLES: &str = "\
+c400015d 15000 1d000 0 1 -> take 15000, take 1d000, ready
+c400015d 15000 1d000 40000000 2 -> take 15000, take 1d000, take 19000, free 15000, ready
+c400015d 15000 1d000 80000000 3 -> take 15000, take 1d000, take 19000, free 15000, ready
+c400015d 15000 1d000 400000 3 -> take 15000, take 1d000, take 19000, free 15000, take 13000, free 19000, ready
+c400015d 15000 1d000 0 3 -> take 15000, take 1d000, take 19000, free 15000, take 13000, free 19000, ready
+c400015d 15000 1000 0 2 -> take 1000, ready
+c400015d 15000 1d000 1000 3 -> ready
+c400015e 15000 0 2 -> take 15000, take 19000, free 15000, take 13000, ready
+c400015e 15000 80000000 2 -> take 15000, take 19000, free 15000, ready
+c400015e 15000 200000 3 -> take 15000, take 19000, free 15000, take 13000, free 19000, take 11000, ready
+c400015e 15000 400000 3 -> take 15000, take 19000, free 15000, take 13000, free 19000, ready
+c4000166 15000 0 2 -> take 15000, take 19000, free 15000, take 13000, ready
+c4000166 15000 200000 3 -> take 15000, take 19000, free 15000, take 13000, free 19000, take 11000, ready
+c4000161 15000 0 1 -> take 15000, take 19000, free 15000, ready
+c4000161 15000 0 2 -> take 15000, take 19000, free 15000, take 13000, free 19000, ready
+c4000161 15000 0 3 -> take 15000, take 19000, free 15000, take 13000, free 19000, take 17000, free 13000, ready
+c4000161 15000 8000000000 1 -> take 15000, ready
+";
 
-fn place() -> Place
-    ensures { IsShaped result }
-{
-    Place {
-        rd: 0x1000,
-        level: 3,
-        base: 0x20_0000,
-        width: 0x27,
-    }
-}
+const PAGES: &str = "\
+c4000153 15000 1d000 2000 f000 0 0 0 0 0 -> take f000, take 15000, take 1d000, take 19000, take 13000, free 19000, take 17000, free 13000, ready
+c4000153 15000 1d000 2000 1000 0 0 0 0 0 -> take 1000, ready
+c4000154 15000 1d000 2000 -> take 15000, take 1d000, take 19000, free 15000, take 13000, free 19000, take 17000, free 13000, ready
+c4000154 15000 1d000 40000000 -> take 15000, take 1d000, take 19000, free 15000, ready
+c4000155 15000 1000 -> take 15000, take 19000, free 15000, take 13000, free 19000, take 17000, free 13000, take 1b000, ready
+c4000155 15000 2000 -> take 15000, take 19000, free 15000, take 13000, free 19000, take 17000, free 13000, ready
+c400015f 15000 4000001000 ff000 -> take 15000, take 19000, free 15000, take 1a000, free 19000, take 1c000, free 1a000, ready
+c4000162 15000 4000000000 -> take 15000, take 19000, free 15000, take 1a000, free 19000, take 1c000, free 1a000, ready
+c4000162 15000 0 -> take 15000, ready
+";
 
-#[test]
-fn entries_are_set(rt: HostRuntime) -> Result<(), Fail> {
-    let fill = Entry::Unassigned(Ripas::Empty);
-    let mut table = Table::new(rt.alloc(), place(), fill)?;
-    let Place {
-        rd,
+const STRETCHES: &str = "\
+c4000168 15000 2000 4000 -> take 15000, take 19000, take 13000, free 19000, take 17000, free 13000, ready
+c4000168 15000 40000000 80000000 -> take 15000, take 19000, ready
+c4000169 15000 16000 0 2000 -> take 15000, take 16000, take 19000, free 15000, take 13000, free 19000, take 17000, free 13000, ready
+c4000169 15000 16000 1000 2000 -> take 15000, take 16000, ready
+";
+
+const CALLS: &str = "\
+c4000198 1000 -> take 15000, take 16000, take 19000, take 13000, free 19000, take 17000, free 13000, ready
+c4000198 40000000 -> take 15000, take 16000, take 19000, ready
+c4000198 4000000000 -> take 15000, take 16000, ready
+";
+
+const FROM_OUTSIDE: &str = "\
+c400015d 15000 1d000 400000 3
+c400015e 15000 200000 3
+c4000166 15000 200000 3
+c4000161 15000 0 3
+c4000153 15000 1d000 2000 f000 0 0 0 0 0
+c4000154 15000 1d000 2000
+c4000155 15000 1000
+c400015f 15000 4000001000 ff000
+c4000162 15000 4000000000
+c4000168 15000 2000 4000
+c4000169 15000 16000 0 2000
+";
+
+fn table(
+    alloc: Global,
+    level: u8,
+    base: u64,
+    fill: Entry,
+    links: &[(usize, Entry)],
+) -> Result<Cell, Fail> {
+    let place = Place {
+        rd: 0x1_5000,
         level,
         base,
-        width,
-    } = table.place();
-    let given = place();
-    assert!(rt; (rd, level, base, width) == (given.rd, given.level, given.base, given.width));
-    assert!(rt; table.is_uniform() && !table.is_live());
-    table.set_entry(511, Entry::Assigned(Ripas::Ram, 0x5000));
-    assert!(rt; table.entry(511) == Entry::Assigned(Ripas::Ram, 0x5000));
-    assert!(rt; table.entry(510) == fill);
-    assert!(rt; table.is_live() && !table.is_uniform());
-    table.set_entry(511, fill);
-    table.set_entry(0, Entry::Unassigned(Ripas::Ram));
-    assert!(rt; !table.is_live() && !table.is_uniform());
-    Ok(())
-}
-
-#[test]
-fn other_kinds_of_entry(rt: HostRuntime) -> Result<(), Fail> {
-    let mut table = Table::new(rt.alloc(), place(), Entry::UnassignedNs)?;
-    assert!(rt; !table.is_live() && table.is_uniform());
-    table.set_entry(7, Entry::AssignedNs(0x8000));
-    assert!(rt; table.is_live() && !table.is_uniform());
-    assert!(rt; table.has(EntryTest::Live) && !table.has(EntryTest::Link));
-    table.set_entry(7, Entry::Table(0x8000));
-    assert!(rt; table.is_live() && !table.is_uniform());
-    assert!(rt; table.has(EntryTest::Live) && table.has(EntryTest::Link));
-    table.set_entry(7, Entry::UnassignedNs);
-    assert!(rt; !table.is_live() && !table.has_link());
-    Ok(())
-}
-
-#[test]
-fn entries_unlike_another(rt: HostRuntime) -> Result<(), Fail> {
-    let fill = Entry::Unassigned(Ripas::Ram);
-    let mut table = Table::new(rt.alloc(), place(), fill)?;
-    assert!(rt; !table.has(EntryTest::Unlike(fill)));
-    assert!(rt; table.has(EntryTest::Unlike(Entry::UnassignedNs)));
-    table.set_entry(511, Entry::Unassigned(Ripas::Empty));
-    assert!(rt; table.has(EntryTest::Unlike(fill)));
-    let page = Entry::AssignedNs(0);
-    let mapped = Table::new(rt.alloc(), place(), page)?;
-    assert!(rt; mapped.is_uniform() && mapped.has(EntryTest::Unlike(page)));
-    Ok(())
-}
-
-#[test]
-fn ripas_of_a_stretch(rt: HostRuntime) -> Result<(), Fail> {
-    let mut table = Table::new(rt.alloc(), place(), Entry::Unassigned(Ripas::Empty))?;
-    table.set_ripas(10, 12, Ripas::Ram);
-    for (index, want) in [
-        (9, Ripas::Empty),
-        (10, Ripas::Ram),
-        (11, Ripas::Ram),
-        (12, Ripas::Empty),
-    ] {
-        assert!(rt; table.entry(index) == Entry::Unassigned(want), "at {index}");
+        width: 0x27,
+    };
+    let mut table = table_at(alloc, place, fill)?;
+    for (index, entry) in links {
+        table.set_entry(*index % 512, *entry);
     }
-    Ok(())
+    Ok(Cell::Rtt(table))
+}
+
+// A REC whose realm asks for its first pages.
+fn asking_rec() -> Cell {
+    let mut rec = Rec::new(
+        Pa::new(0x1_5000),
+        0,
+        1,
+        Pa::new(0x1_4000),
+        Pa::new(0x1_8000),
+    );
+    rec.request = Some(RipasRequest {
+        base: 0,
+        top: 0x3000,
+        ripas: Ripas::Ram,
+    });
+    Cell::Rec(rec)
+}
+
+/// What lies in each granule of the realm with tables.
+pub(crate) fn cell_at(alloc: Global, granule: Pa) -> Result<Cell, Fail> {
+    let empty = Entry::Unassigned(Ripas::Empty);
+    let page = Entry::Assigned(Ripas::Ram, 0x1_b000);
+    Ok(match granule.address() {
+        0x1_5000 => realm(alloc, 0x1_9000, 3)?,
+        0x1_9000 => {
+            let links = [(0, Entry::Table(0x1_3000)), (256, Entry::Table(0x1_a000))];
+            table(alloc, 1, 0, empty, &links)?
+        }
+        0x1_3000 => {
+            let links = [(0, Entry::Table(0x1_7000)), (1, Entry::Table(0x1_1000))];
+            table(alloc, 2, 0, empty, &links)?
+        }
+        0x1_7000 => table(alloc, 3, 0, empty, &[(1, page)])?,
+        0x1_1000 => table(alloc, 3, 0x20_0000, empty, &[])?,
+        0x1_a000 => {
+            let link = (0, Entry::Table(0x1_c000));
+            table(alloc, 2, 0x40_0000_0000, Entry::UnassignedNs, &[link])?
+        }
+        0x1_c000 => {
+            let page = (0, Entry::AssignedNs(0xf_f000));
+            table(alloc, 3, 0x40_0000_0000, Entry::UnassignedNs, &[page])?
+        }
+        0x1_6000 => asking_rec(),
+        0x1_4000 | 0x1_8000 => Cell::RecAux,
+        0x1_b000 => Cell::Data,
+        0x1_d000 | 0x1_e000 => Cell::Delegated,
+        _ => Cell::Undelegated,
+    })
 }
 
 #[test]
-fn ripas_of_assigned_entries(rt: HostRuntime) -> Result<(), Fail> {
-    let mut table = Table::new(rt.alloc(), place(), Entry::Assigned(Ripas::Empty, 0x5000))?;
-    table.set_entry(11, Entry::Assigned(Ripas::Destroyed, 0x6000));
-    table.set_entry(12, Entry::Assigned(Ripas::Empty, 0x7000));
-    table.set_ripas(10, 12, Ripas::Ram);
-    for (index, want) in [
-        (9, Entry::Assigned(Ripas::Empty, 0x5000)),
-        (10, Entry::Assigned(Ripas::Ram, 0x5000)),
-        (11, Entry::Assigned(Ripas::Ram, 0x6000)),
-        (12, Entry::Assigned(Ripas::Empty, 0x7000)),
-    ] {
-        assert!(rt; table.entry(index) == want, "at {index}");
-    }
-    Ok(())
+fn tables_are_walked_hand_over_hand(rt: HostRuntime) -> Result<(), Fail> {
+    expect_traces(&rt, &CpuPlace::Outside, TABLES)
+}
+
+#[test]
+fn pages_are_taken_below_their_table(rt: HostRuntime) -> Result<(), Fail> {
+    expect_traces(&rt, &CpuPlace::Outside, PAGES)
+}
+
+#[test]
+fn ripas_keeps_what_it_changes(rt: HostRuntime) -> Result<(), Fail> {
+    expect_traces(&rt, &CpuPlace::Outside, STRETCHES)?;
+    expect_traces(&rt, &inside(0x1_6000, 0x1_5000), CALLS)
+}
+
+#[test]
+fn any_granules_held_end_in_ready_for_walks(rt: HostRuntime) -> Result<(), Fail> {
+    expect_ready(&rt, &CpuPlace::Outside, FROM_OUTSIDE)?;
+    expect_ready(&rt, &inside(0x1_6000, 0x1_5000), "c4000198 1000\n")
 }

@@ -55,12 +55,17 @@ fn push_texts(
 pub(crate) fn feed_script(alloc: Global, script: &str, out: &mut Vec<u8>) -> Result<(), Fault> {
     let texts = texts_of(alloc, script)?;
     let (history, certificate) = (texts.history.as_bytes(), texts.certificate.as_bytes());
+    let verdict = fed(alloc, history, certificate)?;
+    Ok(push_texts(history, certificate, &verdict, out)?)
+}
+
+// The verdict of a session that is fed the certificate.
+fn fed(alloc: Global, history: &[u8], certificate: &[u8]) -> Result<Verdict, Fault> {
     let mut session = Session::new(alloc, history::read(alloc, history)?)?;
     for place in 0..certificate.len() {
         feed(&mut session, &certificate[place..place + 1])?;
     }
-    let verdict = session.finish()?;
-    Ok(push_texts(history, certificate, &verdict, out)?)
+    Ok(session.finish()?)
 }
 
 // A session that was refused memory is refused it from then on, also where there is some.

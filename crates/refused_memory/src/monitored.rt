@@ -9,7 +9,8 @@ use crate::judged::push_judged;
 use history::History;
 use memory_map::Config;
 use monitor::{
-    CpuPass, CpuToken, Done, Monitor, Open, Queue, Refused, ScribePass, Site, fit_a_history,
+    Certificate, CpuPass, CpuToken, Done, Monitor, Open, Queue, Refused, ScribePass, Site,
+    fit_a_history,
 };
 use rmi_codec::read_command;
 use std::alloc::{AllocError, Global};
@@ -181,6 +182,7 @@ fn execute<S: Site, R: Wait>(
     if !matches!(answer, Err(Refused::NoMemory)) {
         return Ok(lines);
     }
+    drop(answer);
     let answer = ask(rt, alloc, monitor, tokens, passes, cpu, text)?;
     push_answer(&answer, &mut lines)?;
     Ok(lines)
@@ -271,9 +273,18 @@ fn push_closed<S: Site, R: Wait>(
     }
     let Drained { scribe, history } = drained;
     let (recorded, order) = monitor.close(rt, alloc, tokens, passes, scribe, history)?;
+    push_texts(alloc, &recorded, &order, out)
+}
+
+fn push_texts(
+    alloc: Global,
+    recorded: &History,
+    order: &Certificate,
+    out: &mut Vec<u8>,
+) -> Result<(), Fault> {
     let mut history = Vec::new(alloc);
-    write_history(&recorded, &mut history)?;
+    write_history(recorded, &mut history)?;
     let mut certificate = Vec::new(alloc);
-    write_certificate(&order, &mut certificate)?;
+    write_certificate(order, &mut certificate)?;
     push_judged(alloc, history.as_slice(), certificate.as_slice(), out)
 }

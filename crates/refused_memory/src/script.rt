@@ -85,12 +85,17 @@ pub(crate) fn texts_of(alloc: Global, script: &str) -> Result<Texts, Fault> {
     };
     write!(texts.history, "{header}\n")?;
     for (number, step) in steps.lines().enumerate() {
-        let (command, reply) = parts_of(step)?;
-        write!(
-            texts.history,
-            "c 0 {number} {command}\nr 0 {number} {reply}\n"
-        )?;
-        write!(texts.certificate, "k 0 {number}\n")?;
+        push_step(&mut texts, number, step)?;
     }
     Ok(texts)
+}
+
+fn push_step(texts: &mut Texts, number: usize, step: &str) -> Result<(), Fault> {
+    let (command, reply) = parts_of(step)?;
+    write!(
+        texts.history,
+        "c 0 {number} {command}\nr 0 {number} {reply}\n"
+    )?;
+    write!(texts.certificate, "k 0 {number}\n")?;
+    Ok(())
 }

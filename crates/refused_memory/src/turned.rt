@@ -23,21 +23,30 @@ pub(crate) fn play_turns(alloc: Global, out: &mut Vec<u8>) -> Result<(), Fault> 
     Err(Fault::Wrong("CPUs that don't come to an end"))
 }
 
-// Each CPU delegates the granule.
 fn opened(alloc: Global) -> Result<World, Fault> {
     let Some(config) = Config::new(4, 2) else {
         return Err(Fault::Wrong("no such machine"));
     };
-    let mut programs = Vec::new(alloc);
-    for _cpu in 0..2 {
-        let mut program: Vec<Command> = Vec::new(alloc);
-        program.push(read_command("c4000151 1000")?)?;
-        programs.push(program)?;
-    }
+    let programs = programs(alloc)?;
     if !can_open(&config, programs.as_slice()) {
         return Err(Fault::Wrong("programs of another machine"));
     }
     Ok(World::new(alloc, &config, programs)?)
+}
+
+// Each CPU delegates the granule.
+fn programs(alloc: Global) -> Result<Vec<Vec<Command>>, Fault> {
+    let mut programs = Vec::new(alloc);
+    for _cpu in 0..2 {
+        programs.push(program(alloc)?)?;
+    }
+    Ok(programs)
+}
+
+fn program(alloc: Global) -> Result<Vec<Command>, Fault> {
+    let mut program = Vec::new(alloc);
+    program.push(read_command("c4000151 1000")?)?;
+    Ok(program)
 }
 
 // A turn of each CPU. Whether one moved.

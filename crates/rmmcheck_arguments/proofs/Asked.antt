@@ -1,10 +1,14 @@
 -- From clap's clauses to the words that ask for something.
-use Rattle.std.proofs.Common.{◌≡◌, ◌∙◌, List, Option, Some, None, true, ap, sym, refl, option_map}
+use Rattle.std.proofs.Common.{◌≡◌, ◌∙◌, List, Option, Some, None, Bool, true, false, ◌||◌, ap, ap₂, sym, refl, option_map}
 use Rattle.clap.specs.Words.{App, Row, Text, HasMatchesOf, app_of, first_of, is_simple, is_simple_and_free, subcommand_of, subcommand_rows_of}
 use Rattle.clap.specs.declared.builder.command.Command.{Command}
 use Rattle.clap.specs.declared.parser.matches.ArgMatches.{ArgMatches}
 use Rattle.clap.proofs.OnLiterals.{clap_on_literals}
 use Rattle.rmmcheck_arguments.specs.Words.{rmmcheck_command, value_of}
+
+-- of two false values none is true
+pub neither : {x y : Bool} → x ≡ false → y ≡ false → (x || y) ≡ false
+neither p q = ap₂ (λ (a b : Bool). a || b) p q
 
 -- the value is read from the rows of the subcommand
 pub value_of-rows : (id : Text) (sub : Option (Text × List Row)) (rows : List Row) → Some rows ≡ option_map (λ found. found.1) sub

@@ -12,11 +12,15 @@ pub record Form : Type 0 where
 abbrev pub check_form : Form
 check_form = record { name = codes "check"; paths = codes "HISTORY" ∷ codes "CERT" ∷ [] }
 
+-- a scenario is played
+abbrev pub play_form : Text → Form
+play_form name = record { name = name; paths = codes "SCENARIO" ∷ [] }
+
 abbrev pub run_form : Form
-run_form = record { name = codes "run"; paths = codes "SCENARIO" ∷ [] }
+run_form = play_form (codes "run")
 
 abbrev pub threads_form : Form
-threads_form = record { name = codes "threads"; paths = codes "SCENARIO" ∷ [] }
+threads_form = play_form (codes "threads")
 
 abbrev pub forms : List Form
 forms = check_form ∷ run_form ∷ threads_form ∷ []

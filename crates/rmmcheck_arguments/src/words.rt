@@ -1,8 +1,9 @@
 //! The words of the command line.
 
 ghost use Rattle.std.specs.Prelude.{◌≡◌, ◌≢◌, ℕ, List, IfOk, IfSome, IfNone, Err, Some, false, codes, map, option_map, string_bytes};
-ghost use Rattle.clap.specs.Words.{app_of, kind_of, rule_of, subcommand_rows_of};
-ghost use Rattle.rmmcheck_arguments.specs.Words.{AreRefused, Asks, IsAsked, rmmcheck_command, name_of, path, value_of};
+ghost use Rattle.clap.specs.Words.{app_of, kind_of, rule_of, subcommand_rows_of, with_subcommand};
+ghost use Rattle.rmmcheck_arguments.specs.Words.{AreRefused, Asks, IsAsked, check_form, form_command, name_of, path, play_form};
+ghost use Rattle.rmmcheck_arguments.specs.Words.{rmmcheck_command, value_of};
 
 use clap::error::ErrorKind;
 use clap::{Arg, ArgMatches, Command, Error};
@@ -53,16 +54,32 @@ pub fn request_given<'a>(alloc: Global, words: &'a [String]) -> Result<Request<'
 fn program<'a>(alloc: Global) -> Result<Command<'a>, AllocError>
     ensures { IfOk result (λ command. app_of command ≡ rmmcheck_command) }
 {
+    let program = Command::new(alloc, "rmmcheck").subcommand_required(true);
+    let program = with_check(alloc, program)?;
+    let program = with_play(alloc, program, "run")?;
+    with_play(alloc, program, "threads")
+}
+
+// The command with `check`, which takes two paths.
+fn with_check<'a>(alloc: Global, program: Command<'a>) -> Result<Command<'a>, AllocError>
+    ensures { IfOk result (λ command. app_of command ≡ with_subcommand (app_of program.entry) (form_command check_form)) }
+{
     let check = Command::new(alloc, "check")
         .arg(path_named(alloc, "HISTORY"))?
         .arg(path_named(alloc, "CERT"))?;
-    let run = Command::new(alloc, "run").arg(path_named(alloc, "SCENARIO"))?;
-    let threads = Command::new(alloc, "threads").arg(path_named(alloc, "SCENARIO"))?;
-    Command::new(alloc, "rmmcheck")
-        .subcommand_required(true)
-        .subcommand(check)?
-        .subcommand(run)?
-        .subcommand(threads)
+    program.subcommand(check)
+}
+
+// The command with a subcommand that plays the scenario of a path.
+fn with_play<'a>(
+    alloc: Global,
+    program: Command<'a>,
+    name: &'a str,
+) -> Result<Command<'a>, AllocError>
+    ensures { IfOk result (λ command. app_of command ≡ with_subcommand (app_of program.entry) (form_command (play_form name.now))) }
+{
+    let play = Command::new(alloc, name).arg(path_named(alloc, "SCENARIO"))?;
+    program.subcommand(play)
 }
 
 // A path that has to be given.

@@ -66,17 +66,11 @@ pub(crate) fn plan_for(
         return Ok(None);
     };
     let mut keeping = Keeping::new(alloc, history, count, last, depth)?;
-    'rounds: for _round in 0..ROUNDS {
-        keeping.keep_pending()?;
-        if keeping.fails || keeping.kept.len() > MOST {
-            return Ok(None);
-        }
-        keeping.add_unknown()?;
-        if keeping.pending.is_empty() {
-            return numbered(keeping);
-        }
+    if keeping.keeps_all()? {
+        numbered(keeping)
+    } else {
+        Ok(None)
     }
-    Ok(None)
 }
 
 /// The place of the call that returns last of the first events, if the last is a return, and its reply is of use.
@@ -126,6 +120,21 @@ impl<'h> Keeping<'h> {
             granules: Vec::new(alloc),
             fails: false,
         })
+    }
+
+    // Keeps the calls that are to be kept, round by round, until there are no others. Whether all could be kept.
+    fn keeps_all(&mut self) -> Result<bool, AllocError> {
+        'rounds: for _round in 0..ROUNDS {
+            self.keep_pending()?;
+            if self.fails || self.kept.len() > MOST {
+                return Ok(false);
+            }
+            self.add_unknown()?;
+            if self.pending.is_empty() {
+                return Ok(true);
+            }
+        }
+        Ok(false)
     }
 
     // Keeps the calls that are to be kept, and those that must be then.

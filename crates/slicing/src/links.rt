@@ -32,9 +32,10 @@ impl Links {
             latest: None,
             earliest: None,
         };
+        let ends = vec![in alloc; none; granules as usize]?;
         Ok(Links {
             links: Vec::new(alloc),
-            ends: vec![in alloc; none; granules as usize]?,
+            ends,
         })
     }
 

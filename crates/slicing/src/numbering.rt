@@ -22,39 +22,46 @@ struct Count {
 
 /// The plan with the numbers of the calls that are kept, and with the granules that are lent.
 pub(crate) fn numbered(keeping: Keeping<'_>) -> Result<Option<Plan>, AllocError> {
-    let Keeping {
-        history,
-        count,
-        plan,
-        kept,
-        keeps,
-        granules,
-        ..
-    } = keeping;
-    let mut plan = plan;
-    plan.lend_all(&granules)?;
-    let first = plan.first;
-    plan.start(start_before(history, first), count)?;
-    let Ok(lent) = u32::try_from(plan.lent.len()) else {
-        return Ok(None);
-    };
-    let mut counts = [Count {
-        next: 0,
-        inside: false,
-    }; 8];
-    counts[0].next = lent;
-    let mut kept = kept;
-    kept.sort_unstable();
-    'kept: for place in &kept {
-        if count as usize > history.len() || *place >= count {
-            return Ok(None);
-        }
-        if let Some(call) = call_at(history, count, *place) {
-            plan.number(&mut counts, &call);
-            plan.enter(history, count, &keeps, &counts, &call);
-        }
+    let mut keeping = keeping;
+    if keeping.numbers_all()? {
+        Ok(Some(keeping.plan))
+    } else {
+        Ok(None)
     }
-    Ok(Some(plan))
+}
+
+impl Keeping<'_> {
+    // Lends granules, and gives the kept calls their numbers. Whether each of these calls lies in the history.
+    fn numbers_all(&mut self) -> Result<bool, AllocError> {
+        self.plan.lend_all(&self.granules)?;
+        let start = start_before(self.history, self.plan.first);
+        self.plan.start(start, self.count)?;
+        self.kept.sort_unstable();
+        Ok(self.number_kept())
+    }
+
+    // Gives the kept calls their numbers, one after another. Whether each of them lies in the history.
+    fn number_kept(&mut self) -> bool {
+        let Ok(lent) = u32::try_from(self.plan.lent.len()) else {
+            return false;
+        };
+        let mut counts = [Count {
+            next: 0,
+            inside: false,
+        }; 8];
+        counts[0].next = lent;
+        'kept: for place in &self.kept {
+            if self.count as usize > self.history.len() || *place >= self.count {
+                return false;
+            }
+            if let Some(call) = call_at(self.history, self.count, *place) {
+                self.plan.number(&mut counts, &call);
+                self.plan
+                    .enter(self.history, self.count, &self.keeps, &counts, &call);
+            }
+        }
+        true
+    }
 }
 
 /// A place from which on those calls were made that are open at a place, if not too far back.

@@ -82,11 +82,12 @@ impl Plan {
             known: None,
             lending: None,
         };
+        let marks = vec![in alloc; unmarked; granules as usize]?;
         Ok(Plan {
             from: 0,
             numbers: Vec::new(alloc),
             entered: Vec::new(alloc),
-            marks: vec![in alloc; unmarked; granules as usize]?,
+            marks,
             lent: Vec::new(alloc),
             sources: Vec::new(alloc),
             first: NEVER,

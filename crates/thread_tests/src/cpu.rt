@@ -37,13 +37,9 @@ impl<S: Site> Cpu<S> {
         ensures { IfSome result (λ cpu. ArePaired monitor.now cpu.token cpu.pass) }
     {
         for text in script.lines() {
-            let command = read_command(text).ok()?;
-            if self.pass.next_number() > 999_999 {
-                return None;
-            }
-            monitor
-                .execute(rt, alloc, &mut self.token, &mut self.pass, &Open, command)
-                .ok()?;
+            let (cpu, answer) = self.ask(rt, alloc, monitor, &Open, text)?;
+            answer.ok()?;
+            self = cpu;
         }
         Some(self)
     }
@@ -61,10 +57,10 @@ impl<S: Site> Cpu<S> {
         ensures pair { IfSome result (λ asked. ArePaired monitor.now asked.0.token asked.0.pass) }
         ensures cpu { IfSome result (λ asked. asked.0.token.cpu ≡ self.token.cpu) }
     {
-        let command = read_command(text).ok()?;
         if self.pass.next_number() > 999_999 {
             return None;
         }
+        let command = read_command(text).ok()?;
         let answer = monitor.execute(rt, alloc, &mut self.token, &mut self.pass, gate, command);
         Some((self, answer))
     }
@@ -79,9 +75,24 @@ fn last_cpu<S: Site>(
     requires { ArePairs monitor.now tokens.old.items passes.old.items }
     ensures { IfOk result (λ cpu. ArePaired monitor.now cpu.token cpu.pass × ArePairs monitor.now tokens.new.items passes.new.items) }
 {
-    let token = tokens.pop().ok_or("a token")?;
     let pass = passes.pop().ok_or("a pass")?;
+    let token = tokens.pop().ok_or("a token")?;
     Ok(Cpu { token, pass })
+}
+
+// The CPU of the last token but one and the last pass but one, and that of the last.
+fn last_two<S: Site>(
+    monitor: &Monitor<S>,
+    mut tokens: Vec<CpuToken<S>>,
+    mut passes: Vec<CpuPass>,
+) -> Result<(Cpu<S>, Cpu<S>), Fail>
+    requires { ArePairs monitor.now tokens.items passes.items }
+    ensures first { IfOk result (λ cpus. ArePaired monitor.now cpus.0.token cpus.0.pass) }
+    ensures second { IfOk result (λ cpus. ArePaired monitor.now cpus.1.token cpus.1.pass) }
+{
+    let second = last_cpu(monitor, &mut tokens, &mut passes)?;
+    let first = last_cpu(monitor, &mut tokens, &mut passes)?;
+    Ok((first, second))
 }
 
 /// A monitor, its last CPU but one and its last, and the pass of the scribe, which has drained nothing yet.
@@ -101,8 +112,7 @@ pub fn two_cpus<S: Site>(
     ensures second { IfOk result (λ made. ArePaired made.0 made.2.token made.2.pass) }
     ensures scribe { IfOk result (λ made. made.3 ≡ record { queue = made.0.queue; cpus = config.cpus; events = [] }) }
 {
-    let (monitor, mut tokens, mut passes, scribe) = Monitor::<S>::new(alloc, blank, config, queue)?;
-    let second = last_cpu(&monitor, &mut tokens, &mut passes)?;
-    let first = last_cpu(&monitor, &mut tokens, &mut passes)?;
+    let (monitor, tokens, passes, scribe) = Monitor::<S>::new(alloc, blank, config, queue)?;
+    let (first, second) = last_two(&monitor, tokens, passes)?;
     Ok((monitor, first, second, scribe))
 }

@@ -168,8 +168,36 @@ fn ask_both<S: Site + Send + Sync, R: Threads + Wait + Sync>(
     )
 }
 
-/// CPU 0 executes the script, then calls and is held up until CPU 1 has been answered, which calls meanwhile. Returns both
-/// answers, and whether CPU 0 gave up waiting.
+/// CPU 0 executes the script, then calls and is held up until CPU 1 has been answered, which calls meanwhile. Whether CPU 0 is
+/// answered `ok` and CPU 1 this, and CPU 0 didn't give up waiting.
+fn ask_on<S: Site + Send + Sync, R: Threads + Wait + Sync>(
+    rt: &R,
+    alloc: Global,
+    monitor: &Monitor<S>,
+    cpus: Cpus<S>,
+    pair: Pair,
+    reply: &Reply,
+) -> Result<bool, Fail>
+    requires { ArePaired monitor.now cpus.first.token cpus.first.pass × ArePaired monitor.now cpus.second.token cpus.second.pass }
+{
+    let Cpus { first, second } = cpus;
+    let first = first
+        .prepare(rt, alloc, monitor, pair.script())
+        .ok_or("a script")?;
+    let gate = Turnstile::new();
+    let (first, second) = ask_both(
+        rt,
+        alloc,
+        monitor,
+        &gate,
+        Cpus { first, second },
+        pair,
+        &gate.is_open,
+    );
+    Ok(are_answered(&first, &second, reply) && !gate.ran_out.load(Ordering::SeqCst))
+}
+
+/// Whether that is so on a new monitor.
 fn ask_apart<S: Site + Send + Sync, R: Threads + Wait + Sync>(
     rt: &R,
     alloc: Global,
@@ -177,28 +205,16 @@ fn ask_apart<S: Site + Send + Sync, R: Threads + Wait + Sync>(
     config: Config,
     queue: Queue,
     pair: Pair,
-) -> Result<(Option<Answer>, Option<Answer>, bool), Fail>
+    reply: &Reply,
+) -> Result<bool, Fail>
     requires name { blank.name ≡ S.name }
     requires parts { blank.parts ≡ S.parts }
     requires one_each { blank.parts ≡ config.cpus }
     requires granules { config ≡ S.config }
     requires queue { (queue.queue ≡ S.queue) × (queue.cpus ≡ config.cpus) }
 {
-    let (monitor, first, second, _scribe) = two_cpus::<S>(alloc, blank, config, queue)?;
-    let first = first
-        .prepare(rt, alloc, &monitor, pair.script())
-        .ok_or("a script")?;
-    let gate = Turnstile::new();
-    let (first, second) = ask_both(
-        rt,
-        alloc,
-        &monitor,
-        &gate,
-        Cpus { first, second },
-        pair,
-        &gate.is_open,
-    );
-    Ok((first, second, gate.ran_out.load(Ordering::SeqCst)))
+    let (monitor, first, second, _) = two_cpus::<S>(alloc, blank, config, queue)?;
+    ask_on(rt, alloc, &monitor, Cpus { first, second }, pair, reply)
 }
 
 fn ok() -> Reply {
@@ -213,6 +229,11 @@ fn is_answered(answer: &Option<Answer>, reply: &Reply) -> bool {
     }
 }
 
+/// Whether CPU 0 was answered `ok` and CPU 1 this.
+fn are_answered(first: &Option<Answer>, second: &Option<Answer>, reply: &Reply) -> bool {
+    is_answered(first, &ok()) && is_answered(second, reply)
+}
+
 /// Whether CPU 0 is answered `ok` and CPU 1 this, which is asked while CPU 0 is held up.
 fn passes_by<R: Threads + Wait + Sync>(
     rt: &R,
@@ -222,15 +243,7 @@ fn passes_by<R: Threads + Wait + Sync>(
 ) -> Result<bool, Fail> {
     let config = Config::new(pair.granules(), 2).ok_or("a machine of this size")?;
     let queue = Queue::new(alloc, &config, CAPACITY)?;
-    let (first, second, ran_out) = ask_apart::<Brand, R>(
-        rt,
-        alloc,
-        Blank::new(2),
-        config,
-        queue,
-        pair,
-    )?;
-    Ok(is_answered(&first, &ok()) && is_answered(&second, reply) && !ran_out)
+    ask_apart::<Brand, R>(rt, alloc, Blank::new(2), config, queue, pair, reply)
 }
 
 #[test]
@@ -297,15 +310,42 @@ fn open_late<S: Site, R: Wait>(
     Ok(has_called? && is_out)
 }
 
-/// CPU 0 delegates a granule and is held up with the granule locked, while CPU 1 calls to delegate the same one. Returns both
-/// answers, and whether CPU 1 stayed out until CPU 0 could go on.
+/// CPU 0 delegates a granule and is held up with the granule locked, while CPU 1 calls to delegate the same one. Whether CPU 0
+/// is answered `ok` and CPU 1 an error, and CPU 1 stayed out until CPU 0 could go on.
+fn delegate_on<S: Site + Send + Sync, R: Threads + Wait + Sync>(
+    rt: &R,
+    alloc: Global,
+    monitor: &Monitor<S>,
+    cpus: Cpus<S>,
+    scribe: ScribePass,
+    history: History,
+) -> Result<bool, AllocError>
+    requires cpus { ArePaired monitor.now cpus.first.token cpus.first.pass × ArePaired monitor.now cpus.second.token cpus.second.pass }
+    requires scribe { CanDrain monitor.now.queue scribe history.recorded }
+{
+    let (gate, answered) = (Turnstile::new(), AtomicBool::new(false));
+    let ((first, second), stayed_out) = thread::join(
+        rt,
+        || -> (Option<Answer>, Option<Answer>)
+            requires { ArePaired monitor.now cpus.first.token cpus.first.pass × ArePaired monitor.now cpus.second.token cpus.second.pass }
+        { ask_both(rt, alloc, monitor, &gate, cpus, Pair::OneGranule, &answered) },
+        || -> Result<bool, AllocError>
+            requires { CanDrain monitor.now.queue scribe history.recorded }
+        { open_late(rt, monitor, scribe, history, &gate, &answered) },
+    );
+    let ran_out = gate.ran_out.load(Ordering::SeqCst);
+    let are_right = are_answered(&first, &second, &Reply::Err(1, 0));
+    Ok(stayed_out? && are_right && !ran_out)
+}
+
+/// Whether that is so on a new monitor.
 fn delegate_same<S: Site + Send + Sync, R: Threads + Wait + Sync>(
     rt: &R,
     alloc: Global,
     blank: Blank,
     config: Config,
     queue: Queue,
-) -> Result<(Option<Answer>, Option<Answer>, bool), Fail>
+) -> Result<bool, Fail>
     requires name { blank.name ≡ S.name }
     requires parts { blank.parts ≡ S.parts }
     requires one_each { blank.parts ≡ config.cpus }
@@ -314,42 +354,13 @@ fn delegate_same<S: Site + Send + Sync, R: Threads + Wait + Sync>(
 {
     let (monitor, first, second, scribe) = two_cpus::<S>(alloc, blank, config, queue)?;
     let history = History::new(alloc, config);
-    let (gate, answered) = (Turnstile::new(), AtomicBool::new(false));
-    let ((first, second), stayed_out) = thread::join(
-        rt,
-        || -> (Option<Answer>, Option<Answer>)
-            requires { ArePaired monitor first.token first.pass × ArePaired monitor second.token second.pass }
-        {
-            ask_both(
-                rt,
-                alloc,
-                &monitor,
-                &gate,
-                Cpus { first, second },
-                Pair::OneGranule,
-                &answered,
-            )
-        },
-        || -> Result<bool, AllocError>
-            requires { CanDrain monitor.queue scribe history.recorded }
-        { open_late(rt, &monitor, scribe, history, &gate, &answered) },
-    );
-    let ran_out = gate.ran_out.load(Ordering::SeqCst);
-    Ok((first, second, stayed_out? && !ran_out))
+    Ok(delegate_on(rt, alloc, &monitor, Cpus { first, second }, scribe, history)?)
 }
 
 #[test]
 fn holder_keeps_others_out(rt: HostRuntime) -> Result<(), Fail> {
     let config = Config::new(4, 2).ok_or("a machine of this size")?;
     let queue = Queue::new(rt.alloc(), &config, CAPACITY)?;
-    let (first, second, stayed_out) = delegate_same::<Brand, _>(
-        &rt,
-        rt.alloc(),
-        Blank::new(2),
-        config,
-        queue,
-    )?;
-    assert!(rt; is_answered(&first, &ok()) && is_answered(&second, &Reply::Err(1, 0)));
-    assert!(rt; stayed_out);
+    assert!(rt; delegate_same::<Brand, _>(&rt, rt.alloc(), Blank::new(2), config, queue)?);
     Ok(())
 }

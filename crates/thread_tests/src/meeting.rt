@@ -1,13 +1,13 @@
 //! Two CPUs that meet between their commands, on one thread and on threads of their own.
 
-ghost use Rattle.std.specs.Prelude.{◌≡◌, [], ◌∷◌, IfOk, IfSome};
-ghost use Rattle.event_queue.specs.View.{CanDrain};
+ghost use Rattle.std.specs.Prelude.{◌≡◌, ◌<◌, [], ◌∷◌, IfOk, IfSome};
+ghost use Rattle.event_queue.specs.View.{count_recorded};
 ghost use Rattle.monitor.specs.Cpus.{AreCpus};
 ghost use Rattle.monitor.specs.Executed.{ArePaired};
 
 use crate::cpu::{Answer, CAPACITY, Cpu, two_cpus};
 use checker::{check, verdict_text};
-use history::History;
+use history::{History, MOST_LINES};
 use memory_map::Config;
 use monitor::{
     Certificate, CpuPass, CpuToken, Monitor, Open, Queue, ScribePass, Site, fit_a_history, meet,
@@ -142,36 +142,60 @@ fn both_tokens<S: Site>(
 ) -> Result<Vec<CpuToken<S>>, AllocError>
     ensures { IfOk result (λ list. list.items ≡ first ∷ second ∷ []) }
 {
-    let mut tokens = Vec::with_capacity(alloc, 2)?;
-    tokens.push(first)?;
-    tokens.push(second)?;
-    Ok(tokens)
+    Ok(vec![in alloc; first, second]?)
 }
 
-fn both_passes(alloc: Global, first: CpuPass, second: CpuPass) -> Result<Vec<CpuPass>, AllocError>
-    ensures { IfOk result (λ list. list.items ≡ first ∷ second ∷ []) }
+/// Both passes, where a history has room for what they have recorded.
+fn both_passes(alloc: Global, first: CpuPass, second: CpuPass) -> Result<Vec<CpuPass>, Fail>
+    ensures items { IfOk result (λ list. list.items ≡ first ∷ second ∷ []) }
+    ensures room { IfOk result (λ list. count_recorded list.items < MOST_LINES) }
 {
-    let mut passes = Vec::with_capacity(alloc, 2)?;
-    passes.push(first)?;
-    passes.push(second)?;
+    let passes = vec![in alloc; first, second]?;
+    if !fit_a_history(&passes) {
+        return Err("a history with room for the rest".into());
+    }
     Ok(passes)
 }
 
-/// The tokens and the passes of two CPUs.
+/// The tokens and the passes of two CPUs, where a history has room for what they have recorded.
 fn parted<S: Site>(
     alloc: Global,
     _monitor: &Monitor<S>,
     first: Cpu<S>,
     second: Cpu<S>,
-) -> Result<(Vec<CpuToken<S>>, Vec<CpuPass>), AllocError>
+) -> Result<(Vec<CpuToken<S>>, Vec<CpuPass>), Fail>
     requires two { _monitor.now.config.cpus ≡ 2 }
     requires first { ArePaired _monitor.now first.token first.pass × (first.token.cpu ≡ 0) }
     requires second { ArePaired _monitor.now second.token second.pass × (second.token.cpu ≡ 1) }
-    ensures { IfOk result (λ parts. AreCpus _monitor.now parts.0.items parts.1.items) }
+    ensures cpus { IfOk result (λ parts. AreCpus _monitor.now parts.0.items parts.1.items) }
+    ensures room { IfOk result (λ parts. count_recorded parts.1.items < MOST_LINES) }
 {
     let tokens = both_tokens(alloc, first.token, second.token)?;
     let passes = both_passes(alloc, first.pass, second.pass)?;
     Ok((tokens, passes))
+}
+
+/// CPU 0 and CPU 1 are told that. Returns their tokens and passes.
+fn tell_both<S: Site + Send + Sync, R: Threads + Wait + Sync>(
+    rt: &R,
+    alloc: Global,
+    monitor: &Monitor<S>,
+    first: Cpu<S>,
+    second: Cpu<S>,
+    is_apart: bool,
+    out: &mut Vec<u8>,
+) -> Result<(Vec<CpuToken<S>>, Vec<CpuPass>), Fail>
+    requires two { monitor.now.config.cpus ≡ 2 }
+    requires first { ArePaired monitor.now first.token first.pass }
+    requires second { ArePaired monitor.now second.token second.pass }
+    ensures cpus { IfOk result (λ parts. AreCpus monitor.now parts.0.items parts.1.items) }
+    ensures room { IfOk result (λ parts. count_recorded parts.1.items < MOST_LINES) }
+{
+    if first.token.cpu() != 0 || second.token.cpu() != 1 {
+        return Err("CPU 0 and CPU 1".into());
+    }
+    let (first, second) = tell_in_turn(rt, alloc, monitor, first, second, is_apart, out)?;
+    parted(alloc, monitor, first, second)
 }
 
 /// Appends the certificate and the verdict's line.
@@ -181,33 +205,32 @@ fn push_judged(
     order: &Certificate,
     out: &mut Vec<u8>,
 ) -> Result<(), AllocError> {
-    let mut text = Vec::new(alloc);
-    write_history(recorded, &mut text)?;
     let mut lines = Vec::new(alloc);
     write_certificate(order, &mut lines)?;
     out.extend_from_slice(lines.as_slice())?;
+    let mut text = Vec::new(alloc);
+    write_history(recorded, &mut text)?;
     let verdict = check(alloc, text.as_slice(), lines.as_slice())?;
     verdict_text(&verdict, out)
 }
 
-/// Closes the run, and returns what it recorded and committed.
-fn closed<S: Site, R: Wait>(
+/// Closes the run, of which nothing has been drained, and appends the certificate and the verdict's line.
+fn push_closed<S: Site, R: Wait>(
     rt: &R,
     alloc: Global,
     monitor: Monitor<S>,
     tokens: Vec<CpuToken<S>>,
     passes: Vec<CpuPass>,
     scribe: ScribePass,
-    history: History,
-) -> Result<(History, Certificate), Fail>
+    out: &mut Vec<u8>,
+) -> Result<(), Fail>
     requires cpus { AreCpus monitor tokens.items passes.items }
-    requires drain { CanDrain monitor.queue scribe history.recorded }
-    requires config { history.recorded.config ≡ monitor.config }
+    requires scribe { scribe ≡ record { queue = monitor.queue; cpus = monitor.config.cpus; events = [] } }
+    requires room { count_recorded passes.items < MOST_LINES }
 {
-    if !fit_a_history(&passes) {
-        return Err("a history with room for the rest".into());
-    }
-    Ok(monitor.close(rt, alloc, tokens, passes, scribe, history)?)
+    let history = History::new(alloc, monitor.config());
+    let (recorded, order) = monitor.close(rt, alloc, tokens, passes, scribe, history)?;
+    Ok(push_judged(alloc, &recorded, &order, out)?)
 }
 
 /// Appends what two CPUs are told and have seen, and then the certificate and the verdict's line.
@@ -228,14 +251,8 @@ fn run_two<S: Site + Send + Sync, R: Threads + Wait + Sync>(
     requires two { config.cpus ≡ 2 }
 {
     let (monitor, first, second, scribe) = two_cpus::<S>(alloc, blank, config, queue)?;
-    if first.token.cpu() != 0 || second.token.cpu() != 1 {
-        return Err("CPU 0 and CPU 1".into());
-    }
-    let (first, second) = tell_in_turn(rt, alloc, &monitor, first, second, is_apart, out)?;
-    let (tokens, passes) = parted(alloc, &monitor, first, second)?;
-    let history = History::new(alloc, config);
-    let (recorded, order) = closed(rt, alloc, monitor, tokens, passes, scribe, history)?;
-    Ok(push_judged(alloc, &recorded, &order, out)?)
+    let (tokens, passes) = tell_both(rt, alloc, &monitor, first, second, is_apart, out)?;
+    push_closed(rt, alloc, monitor, tokens, passes, scribe, out)
 }
 
 /// What the run of two CPUs appends.

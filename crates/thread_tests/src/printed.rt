@@ -38,7 +38,7 @@ fn scenario_in(alloc: Global, text: &str, queue: usize) -> Result<Scenario, Fail
     Ok(Scenario::new(config, programs, queue, turns, 1))
 }
 
-/// What a run prints, behind a byte that stands already.
+/// What a run prints, after a byte that stands already.
 fn printed<R: Threads + Wait + Sync>(
     rt: &R,
     alloc: Global,
@@ -61,7 +61,7 @@ fn two_cpus_delegate_two_granules(rt: HostRuntime) -> Result<(), Fail> {
     Ok(())
 }
 
-// Each is told so, and goes on.
+// Each is answered so, and goes on.
 #[test]
 fn refused_commands_end_no_program(rt: HostRuntime) -> Result<(), Fail> {
     let program = "c4000152 1000,00000001,c4000151 1000";

@@ -2,6 +2,7 @@
 
 ghost use Rattle.std.specs.Prelude.{◌≡◌, ◌≤◌, All, IfOk};
 ghost use Rattle.event_queue.specs.View.{CanDrain};
+ghost use Rattle.monitor.specs.Cpus.{AreCpus};
 ghost use Rattle.monitor.specs.Executed.{ArePaired};
 
 use crate::monitors::cpu::Cpu;
@@ -10,7 +11,9 @@ use crate::monitors::job::Job;
 use crate::monitors::started::started;
 use anyhow::{Result, bail};
 use memory_map::Config;
-use monitor::{Certificate, History, Monitor, Queue, ScribePass, Site, fit_a_history};
+use monitor::{
+    Certificate, CpuPass, CpuToken, History, Monitor, Queue, ScribePass, Site, fit_a_history,
+};
 use std::alloc::{AllocError, Global};
 use std::sync::Wait;
 use std::sync::atomic::{AtomicBool, Ordering};
@@ -37,6 +40,23 @@ pub(crate) fn recorded<S: Site + Send + Sync, R: Threads + Wait + Sync>(
     let history = History::new(alloc, config);
     let (cpus, scribe, history) = worked(rt, alloc, &monitor, jobs, cpus, scribe, history)?;
     let (tokens, passes) = parted(alloc, &monitor, cpus)?;
+    closed(rt, alloc, monitor, tokens, passes, scribe, history)
+}
+
+// Closes the monitor, where its history has room for all events.
+fn closed<S: Site, R: Wait>(
+    rt: &R,
+    alloc: Global,
+    monitor: Monitor<S>,
+    tokens: Vec<CpuToken<S>>,
+    passes: Vec<CpuPass>,
+    scribe: ScribePass,
+    history: History,
+) -> Result<(History, Certificate)>
+    requires cpus { AreCpus monitor tokens.items passes.items }
+    requires drain { CanDrain monitor.queue scribe history.recorded }
+    requires config { history.recorded.config ≡ monitor.config }
+{
     if !fit_a_history(passes.as_slice()) {
         bail!("more events than a history has");
     }

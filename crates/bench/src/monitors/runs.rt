@@ -36,8 +36,7 @@ pub(crate) fn judge_runs<R: Print + Threads + Wait + Sync>(
     } = batch;
     let mut yes: u64 = 0;
     for seed in first..first.saturating_add(count) {
-        let (history, certificate) = run_of(rt, alloc, seed, commands, with_stop)?;
-        let is_yes = are_yes(rt, alloc, seed, &history, &certificate)?;
+        let is_yes = judge_run(rt, alloc, seed, commands, with_stop)?;
         yes = yes.wrapping_add(u64::from(is_yes));
     }
     let kind = if with_stop {
@@ -50,6 +49,18 @@ pub(crate) fn judge_runs<R: Print + Threads + Wait + Sync>(
         bail!("not every judgement is yes");
     }
     Ok(())
+}
+
+// Whether the verdict on the run of a seed is `yes`.
+fn judge_run<R: Print + Threads + Wait + Sync>(
+    rt: &R,
+    alloc: Global,
+    seed: u64,
+    commands: u64,
+    with_stop: bool,
+) -> Result<bool> {
+    let (history, certificate) = run_of(rt, alloc, seed, commands, with_stop)?;
+    Ok(are_yes(rt, alloc, seed, &history, &certificate)?)
 }
 
 /// Prints how many replies the runs have, and how many of those are `ok`. Both depend on the schedule.
@@ -65,13 +76,23 @@ pub(crate) fn count_replies<R: Print + Threads + Wait + Sync>(
     } = batch;
     let (mut all, mut ok): (u64, u64) = (0, 0);
     for seed in first..first.saturating_add(count) {
-        let (history, _certificate) = run_of(rt, alloc, seed, commands, false)?;
-        let (replies, accepted) = replies_of(&history);
+        let (replies, accepted) = run_replies(rt, alloc, seed, commands)?;
         all = all.wrapping_add(replies);
         ok = ok.wrapping_add(accepted);
     }
     println!(rt; "{ok} of {all} replies are ok")?;
     Ok(())
+}
+
+// How many replies the run of a seed has, and how many of them are `ok`.
+fn run_replies<R: Threads + Wait + Sync>(
+    rt: &R,
+    alloc: Global,
+    seed: u64,
+    commands: u64,
+) -> Result<(u64, u64)> {
+    let (history, _certificate) = run_of(rt, alloc, seed, commands, false)?;
+    Ok(replies_of(&history))
 }
 
 // A run of eight CPUs whose queue has room, or mostly doesn't.

@@ -26,14 +26,23 @@ pub(crate) fn judge_scenarios<R: Print + Threads + Wait + Sync>(
 ) -> Result<()> {
     let mut yes: u64 = 0;
     for seed in first..first.saturating_add(count) {
-        let scenario = DRAFT.drawn(alloc, seed)?;
-        let mut text = Vec::new(alloc);
-        let verdict = threads_text(rt, alloc, &scenario, &mut text)?;
-        yes = yes.wrapping_add(u64::from(is_yes(rt, alloc, seed, &verdict)?));
+        yes = yes.wrapping_add(u64::from(judge_scenario(rt, alloc, seed)?));
     }
     println!(rt; "scenarios: {yes} of {count}")?;
     if yes != count {
         bail!("not every verdict is yes");
     }
     Ok(())
+}
+
+// Plays the scenario of a seed, and returns whether its verdict is `yes`.
+fn judge_scenario<R: Print + Threads + Wait + Sync>(
+    rt: &R,
+    alloc: Global,
+    seed: u64,
+) -> Result<bool> {
+    let scenario = DRAFT.drawn(alloc, seed)?;
+    let mut text = Vec::new(alloc);
+    let verdict = threads_text(rt, alloc, &scenario, &mut text)?;
+    Ok(is_yes(rt, alloc, seed, &verdict)?)
 }

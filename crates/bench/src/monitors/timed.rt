@@ -1,6 +1,7 @@
 //! Rounds of fixed programs, so that a script can time them.
 
-ghost use Rattle.std.specs.Prelude.{◌≡◌};
+ghost use Rattle.std.specs.Prelude.{◌≡◌, All, IfOk};
+ghost use Rattle.monitor.specs.Executed.{ArePaired};
 
 use crate::monitors::cpu::Cpu;
 use crate::monitors::cpus::work_all;
@@ -10,7 +11,7 @@ use crate::timing::Timing;
 use anyhow::{Context, Result, bail};
 use drawn_scenarios::{Life, Pages};
 use memory_map::Config;
-use monitor::{Queue, Site};
+use monitor::{Monitor, Queue, Site};
 use std::alloc::{AllocError, Global};
 use std::marker::Brand;
 use std::sync::ledger::Blank;
@@ -87,15 +88,43 @@ fn round<S: Site + Send + Sync, R: Threads + Wait + Clock + Sync>(
     requires granules { config ≡ S.config }
     requires queue { (queue.queue ≡ S.queue) × (queue.cpus ≡ config.cpus) }
 {
-    let (monitor, cpus, _scribe) = started::<S>(alloc, blank, config, queue)?;
-    let before = first_jobs(alloc, kind)?;
-    let cpus = work_all(rt, alloc, &monitor, None, before.as_slice(), cpus);
+    let (monitor, cpus, scribe) = started::<S>(alloc, blank, config, queue)?;
+    drop(scribe);
+    let cpus = work_before(rt, alloc, &monitor, kind, cpus)?;
+    timed(rt, alloc, &monitor, kind, cpus)
+}
+
+// The CPUs do what isn't timed.
+fn work_before<S: Site + Send + Sync, R: Threads + Wait + Sync>(
+    rt: &R,
+    alloc: Global,
+    monitor: &Monitor<S>,
+    kind: Kind,
+    cpus: Vec<Cpu<S>>,
+) -> Result<Vec<Cpu<S>>, AllocError>
+    requires { All (λ cpu. ArePaired monitor.now cpu.token cpu.pass) cpus.items }
+    ensures { IfOk result (λ left. All (λ cpu. ArePaired monitor.now cpu.token cpu.pass) left.items) }
+{
+    let jobs = first_jobs(alloc, kind)?;
+    Ok(work_all(rt, alloc, monitor, None, jobs.as_slice(), cpus))
+}
+
+// How many calls the CPUs made, and in what time.
+fn timed<S: Site + Send + Sync, R: Threads + Wait + Clock + Sync>(
+    rt: &R,
+    alloc: Global,
+    monitor: &Monitor<S>,
+    kind: Kind,
+    cpus: Vec<Cpu<S>>,
+) -> Result<Timing>
+    requires { All (λ cpu. ArePaired monitor.now cpu.token cpu.pass) cpus.items }
+{
     let made = calls_of(&cpus);
     let jobs = fixed_jobs(alloc, kind)?;
     let one = Mutex::new(());
     let lock = if kind.is_locked { Some(&one) } else { None };
     let start = Instant::now(rt)?;
-    let cpus = work_all(rt, alloc, &monitor, lock, jobs.as_slice(), cpus);
+    let cpus = work_all(rt, alloc, monitor, lock, jobs.as_slice(), cpus);
     let time = start.elapsed(rt)?;
     let count = calls_of(&cpus).wrapping_sub(made);
     Ok(Timing { count, time })

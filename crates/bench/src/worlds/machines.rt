@@ -6,7 +6,7 @@ use anyhow::{Context, Result, bail};
 use drawn_scenarios::{DeepLife, Dice, Granules, Sharing, drafted_command, edged_command};
 use flat_machine::{Stepped, TwoMachines};
 use memory_map::Config;
-use reasons::owner_report;
+use reasons::{OwnerRow, owner_report};
 use std::alloc::Global;
 
 /// How many steps a run has.
@@ -65,21 +65,11 @@ fn compare_run(alloc: Global, seed: u64) -> Result<Counts> {
     let mut rows = Vec::new(alloc);
     let mut counts = Counts::default();
     for step in 0..STEPS {
-        rows.clear();
-        owner_report(machines.machine(), &mut rows)?;
-        let granules = Granules {
-            rows: rows.as_slice(),
-            cpu: drawn_cpu(&mut dice, cpus, step < begun),
-            sharing,
-        };
-        let command = if step < begun {
-            life.next()
-        } else if dice.one_in(EDGED) {
-            edged_command(granules, &mut dice)
+        let stepped = if step < begun {
+            machines.execute(0, &life.next())?
         } else {
-            drafted_command(machines.machine(), granules, &mut dice)
+            drawn_step(&mut machines, &mut rows, &mut dice, sharing, cpus)?
         };
-        let stepped = machines.execute(granules.cpu, &command)?;
         counts.count(stepped);
         if counts.same != counts.steps {
             break;
@@ -88,11 +78,29 @@ fn compare_run(alloc: Global, seed: u64) -> Result<Counts> {
     Ok(counts)
 }
 
-// The life is the first CPU's.
-fn drawn_cpu(dice: &mut Dice, cpus: u64, lives: bool) -> u8
+// One of the CPUs calls what is drawn for it.
+fn drawn_step(
+    machines: &mut TwoMachines,
+    rows: &mut Vec<OwnerRow>,
+    dice: &mut Dice,
+    sharing: Sharing,
+    cpus: u64,
+) -> Result<Stepped>
     requires { (0 < cpus) × (cpus < 9) }
 {
-    if lives { 0 } else { dice.below(cpus) as u8 }
+    rows.clear();
+    owner_report(machines.machine(), rows)?;
+    let granules = Granules {
+        rows: rows.as_slice(),
+        cpu: dice.below(cpus) as u8,
+        sharing,
+    };
+    let command = if dice.one_in(EDGED) {
+        edged_command(granules, dice)
+    } else {
+        drafted_command(machines.machine(), granules, dice)
+    };
+    Ok(machines.execute(granules.cpu, &command)?)
 }
 
 impl Counts {

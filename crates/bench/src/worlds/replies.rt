@@ -6,6 +6,7 @@ use drawn_scenarios::{Draft, carry_out};
 use history::{Call, History};
 use spec_machine::Machine;
 use std::alloc::Global;
+use world::World;
 
 /// Programs of 60 commands.
 pub(crate) const DRAFTED: Draft = Draft {
@@ -35,9 +36,7 @@ pub(crate) fn compare_replies(
     let mut all: u64 = 0;
     let mut equal: u64 = 0;
     for seed in first..first.saturating_add(count) {
-        let history = history_of(alloc, draft, seed)?;
-        let machine = Machine::new(alloc, history.config())?;
-        let same = equal_replies(machine, &history, commands)?;
+        let same = equal_of(alloc, draft, seed, commands)?;
         equal = equal.wrapping_add(u64::from(same));
         all = all.wrapping_add(u64::from(commands));
         if same != commands {
@@ -53,19 +52,30 @@ pub(crate) fn compare_replies(
 
 // The run of a program on one CPU.
 fn history_of(alloc: Global, draft: Draft, seed: u64) -> Result<History> {
-    let mut world = opened_for(alloc, &draft.drawn(alloc, seed)?)?;
+    let mut world = drawn_world(alloc, draft, seed)?;
     finish(&mut world, alloc)?;
     Ok(world.history(alloc)?)
 }
 
+fn drawn_world(alloc: Global, draft: Draft, seed: u64) -> Result<World> {
+    opened_for(alloc, &draft.drawn(alloc, seed)?)
+}
+
+// How many replies of the world of a seed are equal, before the first that isn't.
+fn equal_of(alloc: Global, draft: Draft, seed: u64, commands: u32) -> Result<u32> {
+    let history = history_of(alloc, draft, seed)?;
+    let mut machine = Machine::new(alloc, history.config())?;
+    equal_replies(&mut machine, &history, commands)
+}
+
 // How many calls the machine answers as they were answered, before the first that it doesn't.
-fn equal_replies(mut machine: Machine, history: &History, commands: u32) -> Result<u32> {
+fn equal_replies(machine: &mut Machine, history: &History, commands: u32) -> Result<u32> {
     let mut equal: u32 = 0;
     for number in 0..commands {
         let Some(call) = history.call_of(0, number) else {
             break;
         };
-        if !is_equal(&mut machine, &call)? {
+        if !is_equal(machine, &call)? {
             break;
         }
         equal = number + 1;

@@ -1,7 +1,7 @@
 //! Random runs, of which each text is judged on the way and at the end.
 
-use crate::judged::{are_yes, replies_of};
-use crate::worlds::turning::{finish, opened_for, turned};
+use crate::judged::replies_of;
+use crate::worlds::turning::{finish, is_yes, opened_for, turned};
 use anyhow::{Result, bail};
 use drawn_scenarios::Draft;
 use scenario::Due;
@@ -54,17 +54,28 @@ pub(crate) fn judge_runs(rt: &impl Print, alloc: Global, first: u64, count: u64)
 fn judge_run(rt: &impl Print, alloc: Global, seed: u64, counts: &mut Counts) -> Result<()> {
     let scenario = DRAFT.drawn(alloc, seed)?;
     let mut world = opened_for(alloc, &scenario)?;
-    let turns = scenario.turns();
-    for part in turns.chunks((turns.len() / PLACES).max(1)) {
-        go_on(&mut world, alloc, part)?;
-        judge(rt, alloc, seed, &world, counts)?;
-    }
-    finish(&mut world, alloc)?;
-    judge(rt, alloc, seed, &world, counts)?;
+    judge_parts(rt, alloc, seed, &mut world, scenario.turns(), counts)?;
     let (replies, ok) = replies_of(&world.history(alloc)?);
     counts.replies = counts.replies.wrapping_add(replies);
     counts.ok = counts.ok.wrapping_add(ok);
     Ok(())
+}
+
+// Takes the turns, after each part of which the run is judged, and lets the world come to rest.
+fn judge_parts(
+    rt: &impl Print,
+    alloc: Global,
+    seed: u64,
+    world: &mut World,
+    turns: &[Due],
+    counts: &mut Counts,
+) -> Result<()> {
+    for part in turns.chunks((turns.len() / PLACES).max(1)) {
+        go_on(world, alloc, part)?;
+        judge(rt, alloc, seed, world, counts)?;
+    }
+    finish(world, alloc)?;
+    judge(rt, alloc, seed, world, counts)
 }
 
 fn go_on(world: &mut World, alloc: Global, turns: &[Due]) -> Result<()> {
@@ -81,8 +92,7 @@ fn judge(
     world: &World,
     counts: &mut Counts,
 ) -> Result<()> {
-    let (history, certificate) = (world.history(alloc)?, world.certificate(alloc)?);
-    let is_yes = are_yes(rt, alloc, seed, &history, &certificate)?;
+    let is_yes = is_yes(rt, alloc, seed, world)?;
     counts.judgements = counts.judgements.wrapping_add(1);
     counts.yes = counts.yes.wrapping_add(u64::from(is_yes));
     Ok(())

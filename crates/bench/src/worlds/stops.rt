@@ -1,14 +1,14 @@
 //! Runs in which each CPU is ended at each turn, stopped in one sweep and told to give up in another, of which each is judged.
 
-use crate::judged::are_yes;
-use crate::worlds::turning::{finish, opened_for, turned};
+use crate::worlds::turning::{finish, is_yes, opened_for, turned};
 use anyhow::{Context, Result, bail};
 use drawn_scenarios::{Draft, scenario_of};
 use memory_map::Config;
 use rmi_codec::read_command;
+use rmm_spec::Command;
 use scenario::{Due, Scenario};
-use std::alloc::Global;
-use world::Will;
+use std::alloc::{AllocError, Global};
+use world::{Will, World};
 
 /// Two CPUs delegate one granule.
 const ONE_GRANULE: [&str; 2] = ["c4000151 1000", "c4000151 1000"];
@@ -61,14 +61,28 @@ pub(crate) fn judge_stops(rt: &impl Print, alloc: Global, first: u64, count: u64
 
 // Two programs that stand as texts. CPU 0 has so many turns before both go on in turn, which is listed for 24 turns.
 fn written(alloc: Global, granules: u64, texts: [&str; 2], alone: u64) -> Result<Scenario> {
+    let config = Config::new(granules, 2).context("no such machine")?;
+    let programs = programs_of(alloc, texts)?;
+    scenario_of(config, programs, 1, turns_of(alloc, alone)?)
+}
+
+fn programs_of(alloc: Global, texts: [&str; 2]) -> Result<Vec<Vec<Command>>> {
     let mut programs = Vec::new(alloc);
     for text in texts {
-        let mut program = Vec::new(alloc);
-        for line in text.lines() {
-            program.push(read_command(line)?)?;
-        }
-        programs.push(program)?;
+        programs.push(program_of(alloc, text)?)?;
     }
+    Ok(programs)
+}
+
+fn program_of(alloc: Global, text: &str) -> Result<Vec<Command>> {
+    let mut program = Vec::new(alloc);
+    for line in text.lines() {
+        program.push(read_command(line)?)?;
+    }
+    Ok(program)
+}
+
+fn turns_of(alloc: Global, alone: u64) -> Result<Vec<Due>, AllocError> {
     let first = Due {
         cpu: 0,
         will: Will::Go,
@@ -80,8 +94,7 @@ fn written(alloc: Global, granules: u64, texts: [&str; 2], alone: u64) -> Result
             ..first
         })?;
     }
-    let config = Config::new(granules, 2).context("no such machine")?;
-    scenario_of(config, programs, 1, turns)
+    Ok(turns)
 }
 
 // Judges a run for each turn, and one behind the last, for each CPU and each way to end it there.
@@ -126,16 +139,26 @@ fn ended(
     end: Due,
 ) -> Result<bool> {
     let mut world = opened_for(alloc, scenario)?;
-    for (number, turn) in scenario.turns().iter().enumerate() {
+    turn_to_end(&mut world, alloc, scenario.turns(), place, end)?;
+    is_yes(rt, alloc, seed, &world)
+}
+
+// Lets each CPU go on in its turns, ends one before the turn at this place, and lets the world come to rest.
+fn turn_to_end(
+    world: &mut World,
+    alloc: Global,
+    turns: &[Due],
+    place: usize,
+    end: Due,
+) -> Result<()> {
+    for (number, turn) in turns.iter().enumerate() {
         if number == place {
-            turned(&mut world, alloc, end.cpu, end.will)?;
+            turned(world, alloc, end.cpu, end.will)?;
         }
-        turned(&mut world, alloc, turn.cpu, Will::Go)?;
+        turned(world, alloc, turn.cpu, Will::Go)?;
     }
-    if place == scenario.turns().len() {
-        turned(&mut world, alloc, end.cpu, end.will)?;
+    if place == turns.len() {
+        turned(world, alloc, end.cpu, end.will)?;
     }
-    finish(&mut world, alloc)?;
-    let (history, certificate) = (world.history(alloc)?, world.certificate(alloc)?);
-    Ok(are_yes(rt, alloc, seed, &history, &certificate)?)
+    finish(world, alloc)
 }

@@ -1,5 +1,6 @@
 //! Worlds, opened and turned.
 
+use crate::judged::are_yes;
 use anyhow::{Result, bail};
 use fixtures::can_open;
 use memory_map::Config;
@@ -49,4 +50,11 @@ fn moves(world: &mut World, alloc: Global) -> Result<bool> {
         }
     }
     Ok(has_moved)
+}
+
+/// Whether the verdict on a world's run so far is `yes`. Another is printed, with the seed of the run.
+pub(crate) fn is_yes(rt: &impl Print, alloc: Global, seed: u64, world: &World) -> Result<bool> {
+    let history = world.history(alloc)?;
+    let certificate = world.certificate(alloc)?;
+    Ok(are_yes(rt, alloc, seed, &history, &certificate)?)
 }

@@ -41,19 +41,29 @@ pub(crate) fn take_turns(
     count: u64,
 ) -> Result<()> {
     let config = Config::new(GRANULES, cpus).context("1 to 8 CPUs")?;
+    let mut world = opened(alloc, &config, programs(alloc, work, &config)?)?;
+    if let Work::Realm = work {
+        make_tables(&mut world, alloc)?;
+    }
+    let steps = steps_of(&mut world, alloc, count)?;
+    println!(rt; "turns: {steps} steps in {count}")?;
+    Ok(())
+}
+
+fn programs(alloc: Global, work: Work, config: &Config) -> Result<Vec<Vec<Command>>, AllocError> {
     let cpus = u64::from(config.cpus());
     let mut programs = Vec::new(alloc);
     for cpu in 0..cpus {
         programs.push(program(alloc, work, cpu, cpus)?)?;
     }
-    let mut world = opened(alloc, &config, programs)?;
-    if let Work::Realm = work {
-        for _turn in 0..FIRST_TURNS {
-            turned(&mut world, alloc, 0, Will::Go)?;
-        }
+    Ok(programs)
+}
+
+// CPU 0 makes the tables of all.
+fn make_tables(world: &mut World, alloc: Global) -> Result<()> {
+    for _turn in 0..FIRST_TURNS {
+        turned(world, alloc, 0, Will::Go)?;
     }
-    let steps = steps_of(&mut world, alloc, count)?;
-    println!(rt; "turns: {steps} steps in {count}")?;
     Ok(())
 }
 

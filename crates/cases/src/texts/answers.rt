@@ -2,7 +2,7 @@
 
 use anyhow::Result;
 use checker::{check, verdict_text};
-use explain::{explain, explain_run, report};
+use explain::{ExplainedRun, Explanation, explain, explain_run, report};
 use explain_page::{Extent, append_page};
 use std::alloc::Global;
 
@@ -69,16 +69,25 @@ pub(crate) fn read_certificate(alloc: Global, certificate: &str) -> Result<Strin
 }
 
 pub(crate) fn reported(alloc: Global, history: &str, certificate: &str) -> Result<String> {
-    let explanation = explain(alloc, history.as_bytes(), certificate.as_bytes())?;
+    report_of(
+        alloc,
+        &explain(alloc, history.as_bytes(), certificate.as_bytes())?,
+    )
+}
+
+fn report_of(alloc: Global, explanation: &Explanation<'_>) -> Result<String> {
     let mut text = Vec::new(alloc);
-    report(alloc, &explanation, &mut text)?;
+    report(alloc, explanation, &mut text)?;
     Ok(String::from_utf8(text)?)
 }
 
 /// The reason that the report gives.
 pub(crate) fn why(alloc: Global, history: &str, certificate: &str) -> Result<String> {
-    let text = reported(alloc, history, certificate)?;
-    for line in text.as_str().lines() {
+    reason_in(alloc, reported(alloc, history, certificate)?.as_str())
+}
+
+fn reason_in(alloc: Global, report: &str) -> Result<String> {
+    for line in report.lines() {
         if let Some(reason) = line.strip_prefix("why: ") {
             return Ok(format!(in alloc; "{reason}\n")?);
         }
@@ -93,18 +102,28 @@ pub(crate) fn page_has(
     certificate: &str,
     piece: &str,
 ) -> Result<String> {
-    let told = explain_run(alloc, history.as_bytes(), certificate.as_bytes())?;
-    let mut page = Vec::new(alloc);
-    let extent = Extent {
-        around: 100,
-        folds: &[],
-    };
-    append_page(alloc, &told, extent, b"", &mut page)?;
-    let page = String::from_utf8(page)?;
+    let page = page_of(alloc, history, certificate)?;
     let answer = if page.as_str().contains(piece) {
         "shown\n"
     } else {
         "not shown\n"
     };
     Ok(String::from_str(alloc, answer)?)
+}
+
+fn page_of(alloc: Global, history: &str, certificate: &str) -> Result<String> {
+    page_on(
+        alloc,
+        &explain_run(alloc, history.as_bytes(), certificate.as_bytes())?,
+    )
+}
+
+fn page_on(alloc: Global, told: &ExplainedRun<'_>) -> Result<String> {
+    let mut page = Vec::new(alloc);
+    let extent = Extent {
+        around: 100,
+        folds: &[],
+    };
+    append_page(alloc, told, extent, b"", &mut page)?;
+    Ok(String::from_utf8(page)?)
 }

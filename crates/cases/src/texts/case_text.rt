@@ -16,15 +16,25 @@ pub(crate) struct CaseText<'a> {
 pub(crate) fn cases_of<'a>(alloc: Global, text: &'a str) -> Result<Vec<CaseText<'a>>> {
     let mut cases: Vec<CaseText<'a>> = Vec::new(alloc);
     for line in text.lines() {
-        if let Some(name) = line.strip_prefix("case ") {
-            let statements = Vec::new(alloc);
-            cases.push(CaseText { name, statements })?;
-        } else if !line.is_empty() && !line.starts_with('#') {
-            let case = cases.last_mut().context("a line before the first case")?;
-            case.add(alloc, line)?;
+        if !line.is_empty() && !line.starts_with('#') {
+            take_line(alloc, &mut cases, line)?;
         }
     }
     Ok(cases)
+}
+
+fn take_line<'a>(alloc: Global, cases: &mut Vec<CaseText<'a>>, line: &'a str) -> Result<()> {
+    match line.strip_prefix("case ") {
+        Some(name) => {
+            let statements = Vec::new(alloc);
+            cases.push(CaseText { name, statements })?;
+            Ok(())
+        }
+        None => {
+            let case = cases.last_mut().context("a line before the first case")?;
+            case.add(alloc, line)
+        }
+    }
 }
 
 impl<'a> CaseText<'a> {

@@ -7,12 +7,18 @@ use std::fmt::Write;
 
 /// Since which step the last line is refused, on one line.
 pub(crate) fn since(alloc: Global, history: &str, certificate: &str) -> Result<String> {
-    let explanation = explain(alloc, history.as_bytes(), certificate.as_bytes())?;
+    line_of(
+        alloc,
+        &explain(alloc, history.as_bytes(), certificate.as_bytes())?,
+    )
+}
+
+fn line_of(alloc: Global, explanation: &Explanation<'_>) -> Result<String> {
     let mut line = String::new(alloc);
     if let Explanation::No {
         cause: Cause::Reply(refused),
         ..
-    } = &explanation
+    } = explanation
     {
         write_refused(&mut line, refused)?;
     }

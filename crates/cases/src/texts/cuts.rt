@@ -141,7 +141,12 @@ fn has_line(
 
 /// How many offers a session of the certificate makes.
 pub(crate) fn offers(alloc: Global, history: &str, certificate: &str) -> Result<String> {
+    let count = offers_made(alloc, history, certificate)?;
+    Ok(format!(in alloc; "{count}\n")?)
+}
+
+fn offers_made(alloc: Global, history: &str, certificate: &str) -> Result<u64> {
     let mut session = Session::new(alloc, history::read(alloc, history.as_bytes())?)?;
     session.feed(certificate.as_bytes())?;
-    Ok(format!(in alloc; "{}\n", session.offers())?)
+    Ok(session.offers())
 }

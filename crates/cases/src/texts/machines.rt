@@ -4,6 +4,7 @@ use crate::texts::case::Case;
 use crate::texts::case_text::{CaseText, cases_of};
 use anyhow::{Context, Result};
 use flat_machine::{Stepped, TwoMachines};
+use history::History;
 use rmm_spec::{Command, Event, Reply};
 use std::alloc::Global;
 use std::fs;
@@ -53,12 +54,16 @@ fn add_case(alloc: Global, text: &CaseText<'_>, counts: &mut Counts) -> Result<(
 fn add_script(alloc: Global, history: &str, counts: &mut Counts) -> Result<()> {
     let recorded = history::read(alloc, history.as_bytes())?;
     let mut machines = TwoMachines::new(alloc, recorded.config())?;
+    add_steps(&recorded, &mut machines, counts)
+}
+
+fn add_steps(recorded: &History, machines: &mut TwoMachines, counts: &mut Counts) -> Result<()> {
     let mut called = None;
     for place in 0..recorded.len() {
         match recorded.event(place) {
             Event::Called { command, .. } => called = Some(command),
             Event::Returned { cpu, reply, .. } => {
-                let stepped = offer(&mut machines, cpu, &called, &reply)?;
+                let stepped = offer(machines, cpu, &called, &reply)?;
                 counts.add(stepped);
             }
         }

@@ -4,7 +4,7 @@ use anyhow::{Result, bail};
 use explain::{ExplainedRun, Run, explain_run};
 use program_reports::{Paths, append_json, append_lines};
 use rmi_codec::{Parts, next_word};
-use run_steps::{append_counts, count_conditions, granule_steps};
+use run_steps::{ConditionCounts, append_counts, count_conditions, granule_steps};
 use std::alloc::Global;
 
 const PATHS: Paths<'static> = Paths {
@@ -34,11 +34,22 @@ pub(crate) fn object_has(
     certificate: &str,
     piece: &str,
 ) -> Result<String> {
-    let told = explained(alloc, history, certificate)?;
+    let object = object_of(alloc, history, certificate)?;
+    has_piece(alloc, object.as_str(), piece)
+}
+
+fn object_of(alloc: Global, history: &str, certificate: &str) -> Result<String> {
+    object_on(alloc, &explained(alloc, history, certificate)?)
+}
+
+fn object_on(alloc: Global, told: &ExplainedRun<'_>) -> Result<String> {
     let mut object = Vec::new(alloc);
     append_json(alloc, &told.explanation, PATHS, &mut object)?;
-    let object = String::from_utf8(object)?;
-    let answer = if object.as_str().contains(piece) {
+    Ok(String::from_utf8(object)?)
+}
+
+fn has_piece(alloc: Global, object: &str, piece: &str) -> Result<String> {
+    let answer = if object.contains(piece) {
         "there\n"
     } else {
         "not there\n"
@@ -47,7 +58,10 @@ pub(crate) fn object_has(
 }
 
 pub(crate) fn lines_of(alloc: Global, history: &str, certificate: &str) -> Result<String> {
-    let told = explained(alloc, history, certificate)?;
+    lines_on(alloc, &explained(alloc, history, certificate)?)
+}
+
+fn lines_on(alloc: Global, told: &ExplainedRun<'_>) -> Result<String> {
     let mut lines = Vec::new(alloc);
     append_lines(alloc, &told.explanation, PATHS, &mut lines)?;
     Ok(String::from_utf8(lines)?)
@@ -62,17 +76,27 @@ pub(crate) fn granule_steps_of(
     let Some(granule) = next_word(&mut Parts::of(granule.as_bytes())) else {
         bail!("no address: {granule}");
     };
-    let told = explained(alloc, history, certificate)?;
-    let run = run_of(&told)?;
+    steps_on(alloc, &explained(alloc, history, certificate)?, granule)
+}
+
+fn steps_on(alloc: Global, told: &ExplainedRun<'_>, granule: u64) -> Result<String> {
+    let run = run_of(told)?;
     let steps = granule_steps(alloc, &run.history, &run.certificate, granule)?;
     Ok(format!(in alloc; "{steps}")?)
 }
 
 pub(crate) fn rows_of(alloc: Global, history: &str, certificate: &str) -> Result<String> {
-    let told = explained(alloc, history, certificate)?;
-    let run = run_of(&told)?;
+    rows_on(alloc, &explained(alloc, history, certificate)?)
+}
+
+fn rows_on(alloc: Global, told: &ExplainedRun<'_>) -> Result<String> {
+    let run = run_of(told)?;
     let counts = count_conditions(alloc, &run.history, &run.certificate)?;
+    text_of(alloc, &counts)
+}
+
+fn text_of(alloc: Global, counts: &ConditionCounts) -> Result<String> {
     let mut lines = Vec::new(alloc);
-    append_counts(&counts, &mut lines)?;
+    append_counts(counts, &mut lines)?;
     Ok(String::from_utf8(lines)?)
 }

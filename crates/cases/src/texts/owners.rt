@@ -11,12 +11,19 @@ use std::fmt::Write;
 
 /// A line for each granule of the machine on which the history's calls were made, each answered before the next.
 pub(crate) fn owners(alloc: Global, history: &str) -> Result<String> {
-    let recorded = history::read(alloc, history.as_bytes())?;
-    let machine = machine_after(alloc, &recorded)?;
+    let machine = machine_after(alloc, &history::read(alloc, history.as_bytes())?)?;
+    rows_of(alloc, &machine)
+}
+
+fn rows_of(alloc: Global, machine: &Machine) -> Result<String> {
     let mut rows = Vec::new(alloc);
-    owner_report(&machine, &mut rows)?;
+    owner_report(machine, &mut rows)?;
+    text_of(alloc, rows.as_slice())
+}
+
+fn text_of(alloc: Global, rows: &[OwnerRow]) -> Result<String> {
     let mut text = String::new(alloc);
-    for row in &rows {
+    for row in rows {
         write!(text, "{}\n", RowText(*row))?;
     }
     Ok(text)

@@ -39,12 +39,29 @@ impl Script {
             .parse::<u8>()
             .context("no count of delegated granules")?;
         let mut script = Script::none(alloc);
-        write!(script.history, "{mark} {granules} {cpus}\n")?;
-        for number in 0..delegated {
-            let command = format!(in alloc; "c4000151 {:x}", (u64::from(number) + 1) * 0x1000)?;
-            script.push(0, command.as_str(), "ok")?;
-        }
+        script.begin(alloc, mark, granules, cpus, delegated)?;
         Ok(script)
+    }
+
+    // The first line, and the calls that delegate so many granules.
+    fn begin(
+        &mut self,
+        alloc: Global,
+        mark: &str,
+        granules: u64,
+        cpus: &str,
+        delegated: u8,
+    ) -> Result<()> {
+        write!(self.history, "{mark} {granules} {cpus}\n")?;
+        for number in 0..delegated {
+            self.delegate(alloc, (u64::from(number) + 1) * 0x1000)?;
+        }
+        Ok(())
+    }
+
+    fn delegate(&mut self, alloc: Global, granule: u64) -> Result<()> {
+        let command = format!(in alloc; "c4000151 {granule:x}")?;
+        self.push(0, command.as_str(), "ok")
     }
 
     pub(crate) fn copy(&self, alloc: Global) -> Result<Script, AllocError> {

@@ -21,14 +21,22 @@ pub(crate) fn round<R: Threads + Wait + Clock + Sync>(
     alloc: Global,
     config: Config,
 ) -> io::Result<Timing> {
-    let history = History::new(alloc, config);
     let mut cpus = Vec::new(alloc);
     for cpu in 0..config.cpus() {
         cpus.push(cpu)?;
     }
     let queue = Mutex::new(VecDeque::with_capacity(alloc, CAPACITY)?);
+    timed(rt, &queue, cpus.as_mut_slice(), History::new(alloc, config))
+}
+
+fn timed<R: Threads + Wait + Clock + Sync>(
+    rt: &R,
+    queue: &Mutex<VecDeque<Event>>,
+    cpus: &mut [u8],
+    history: History,
+) -> io::Result<Timing> {
     let start = Instant::now(rt)?;
-    let count = record_beside(rt, &queue, cpus.as_mut_slice(), history)?;
+    let count = record_beside(rt, queue, cpus, history)?;
     let time = start.elapsed(rt)?;
     Ok(Timing { count, time })
 }

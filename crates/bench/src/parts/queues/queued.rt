@@ -18,13 +18,13 @@ pub(crate) fn round<R: Threads + Wait + Clock + Sync>(
     alloc: Global,
     config: Config,
 ) -> io::Result<Timing> {
-    let history = History::new(alloc, config);
-    let (recorder, mut passes, scribe, order) = Recorder::new(alloc, CAPACITY, config.cpus())?;
     let calls = Calls {
         count: CALLS,
         command: CALL,
         reply: REPLY,
     };
+    let (recorder, mut passes, scribe, order) = Recorder::new(alloc, CAPACITY, config.cpus())?;
+    let history = History::new(alloc, config);
     let start = Instant::now(rt)?;
     let passes = passes.as_mut_slice();
     let (_scribe, history) = record_beside(rt, &recorder, order, passes, scribe, history, calls)?;
