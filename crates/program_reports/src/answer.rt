@@ -36,25 +36,33 @@ fn object_of(alloc: Global, answer: Answer<'_>) -> Result<Object, AllocError>
     ensures { IfOk result (λ object. object.bound ≡ 4) }
 {
     let mut object = begun(alloc, "rmmfind")?;
+    put_answer(alloc, &mut object, answer)?;
+    Ok(object)
+}
+
+fn put_answer(alloc: Global, object: &mut Object, answer: Answer<'_>) -> Result<(), AllocError>
+    requires { object.old.bound ≡ 4 }
+    ensures { object.new.bound ≡ object.old.bound }
+{
     match answer {
         Answer::Order(order) => {
             object.text("verdict", "order")?;
-            object.list("order", order_of(alloc, order)?)?;
+            object.list("order", order_of(alloc, order)?)
         }
         Answer::None(line) => {
             object.text("verdict", "none")?;
-            if let Some(line) = line {
-                object.number("line", line)?;
+            match line {
+                Some(line) => object.number("line", line),
+                None => Ok(()),
             }
         }
-        Answer::GaveUp => object.text("verdict", "gave up")?,
+        Answer::GaveUp => object.text("verdict", "gave up"),
         Answer::Fault(line) => {
             object.text("verdict", "fault")?;
             object.text("text", "history")?;
-            object.number("line", line)?;
+            object.number("line", line)
         }
     }
-    Ok(object)
 }
 
 fn order_of(alloc: Global, order: &Certificate) -> Result<List, AllocError>

@@ -51,15 +51,35 @@ fn put_refused(alloc: Global, object: &mut Object, line: &RefusedLine) -> Result
     ensures { object.new.bound ≡ object.old.bound }
 {
     object.object("call", call_of(alloc, &line.call)?)?;
-    object.text("claimed", reply_text(alloc, &line.claimed)?.as_str())?;
-    object.text(
-        "specified",
-        specified_text(alloc, &line.specified)?.as_str(),
-    )?;
-    if let Some(farthest) = line.farthest {
-        put_hex(alloc, object, "farthest", farthest)?;
-    }
+    put_claimed(alloc, object, line)?;
+    put_specified(alloc, object, line)?;
     put_deciding(alloc, object, line)?;
+    put_steps(alloc, object, line)
+}
+
+fn put_claimed(alloc: Global, object: &mut Object, line: &RefusedLine) -> Result<(), AllocError>
+    ensures { object.new.bound ≡ object.old.bound }
+{
+    let claimed = reply_text(alloc, &line.claimed)?;
+    object.text("claimed", claimed.as_str())
+}
+
+fn put_specified(alloc: Global, object: &mut Object, line: &RefusedLine) -> Result<(), AllocError>
+    ensures { object.new.bound ≡ object.old.bound }
+{
+    let specified = specified_text(alloc, &line.specified)?;
+    object.text("specified", specified.as_str())?;
+    match line.farthest {
+        Some(farthest) => put_hex(alloc, object, "farthest", farthest),
+        None => Ok(()),
+    }
+}
+
+// Since which step that is so, and the steps that are named beside it.
+fn put_steps(alloc: Global, object: &mut Object, line: &RefusedLine) -> Result<(), AllocError>
+    requires { object.old.bound ≡ 4 }
+    ensures { object.new.bound ≡ object.old.bound }
+{
     object.object("since", since_of(alloc, &line.since)?)?;
     if let Some(put) = &line.put {
         object.object("put", step_of(alloc, put)?)?;

@@ -8,7 +8,7 @@ use crate::cause::put_cause;
 use crate::lines::Paths;
 use crate::{List, Object};
 use file_programs::VERSION;
-use reasons::{BadLine, Explanation, UnfinishedCall};
+use reasons::{BadLine, Explanation, Summary, UnfinishedCall};
 use std::alloc::{AllocError, Global};
 
 /// The number of the schema of both programs' objects.
@@ -54,20 +54,30 @@ fn object_of(alloc: Global, told: &Explanation<'_>, paths: Paths<'_>) -> Result<
     ensures { IfOk result (λ object. object.bound ≡ 4) }
 {
     let mut object = begun(alloc, "rmmexplain")?;
+    put_explanation(alloc, &mut object, told, paths)?;
+    Ok(object)
+}
+
+fn put_explanation(
+    alloc: Global,
+    object: &mut Object,
+    told: &Explanation<'_>,
+    paths: Paths<'_>,
+) -> Result<(), AllocError>
+    requires { object.old.bound ≡ 4 }
+    ensures { object.new.bound ≡ object.old.bound }
+{
     object.text("history", paths.history)?;
     object.text("certificate", paths.certificate)?;
     match told {
-        Explanation::HistoryFault(bad) => put_bad(&mut object, "history", bad)?,
-        Explanation::CertificateFault(bad) => put_bad(&mut object, "certificate", bad)?,
+        Explanation::HistoryFault(bad) => put_bad(object, "history", bad)?,
+        Explanation::CertificateFault(bad) => put_bad(object, "certificate", bad)?,
         Explanation::Yes {
             summary,
             unfinished,
         } => {
-            object.text("verdict", "yes")?;
-            object.number("steps", summary.count)?;
-            object.number("calls", summary.calls)?;
-            object.number("cpus", u64::from(summary.cpus))?;
-            put_unfinished(alloc, &mut object, unfinished.as_slice())?;
+            put_summary(object, summary)?;
+            put_unfinished(alloc, object, unfinished.as_slice())?;
         }
         Explanation::No {
             step,
@@ -76,13 +86,27 @@ fn object_of(alloc: Global, told: &Explanation<'_>, paths: Paths<'_>) -> Result<
         } => {
             object.text("verdict", "no")?;
             object.number("step", *step)?;
-            put_cause(alloc, &mut object, cause)?;
-            put_unfinished(alloc, &mut object, unfinished.as_slice())?;
+            put_cause(alloc, object, cause)?;
+            put_unfinished(alloc, object, unfinished.as_slice())?;
         }
     }
+    put_report(alloc, object, told)
+}
+
+fn put_summary(object: &mut Object, summary: &Summary) -> Result<(), AllocError>
+    ensures { object.new.bound ≡ object.old.bound }
+{
+    object.text("verdict", "yes")?;
+    object.number("steps", summary.count)?;
+    object.number("calls", summary.calls)?;
+    object.number("cpus", u64::from(summary.cpus))
+}
+
+fn put_report(alloc: Global, object: &mut Object, told: &Explanation<'_>) -> Result<(), AllocError>
+    ensures { object.new.bound ≡ object.old.bound }
+{
     let report = format!(in alloc; "{told}")?;
-    object.text("report", report.as_str())?;
-    Ok(object)
+    object.text("report", report.as_str())
 }
 
 fn put_bad(object: &mut Object, text: &str, bad: &BadLine<'_>) -> Result<(), AllocError>

@@ -21,41 +21,53 @@ pub(crate) fn fact_of(
     ensures { IfOk result (λ object. object.bound ≡ 0) }
 {
     let mut object = Object::new(alloc, 0);
+    put_fact(alloc, &mut object, function, fact)?;
+    Ok(object)
+}
+
+fn put_fact(
+    alloc: Global,
+    object: &mut Object,
+    function: FunctionId,
+    fact: &Fact,
+) -> Result<(), AllocError>
+    ensures { object.new.bound ≡ object.old.bound }
+{
     object.text("kind", kind_of(fact))?;
     match *fact {
         Fact::Nothing => {}
         Fact::Word { index, word, asked } => {
             object.number("index", u64::from(index))?;
             object.text("name", command_word(function, index))?;
-            put_hex(alloc, &mut object, "word", word)?;
-            put_shown(alloc, &mut object, "wanted", AskedText { function, asked })?;
+            put_hex(alloc, object, "word", word)?;
+            put_shown(alloc, object, "wanted", AskedText { function, asked })?;
         }
         Fact::Place { cpu, rec } => {
             object.number("cpu", u64::from(cpu))?;
-            put_some(alloc, &mut object, "rec", rec)?;
+            put_some(alloc, object, "rec", rec)?;
         }
         Fact::Tag {
             granule,
             needed,
             found,
         } => {
-            put_hex(alloc, &mut object, "granule", granule)?;
-            put_shown(alloc, &mut object, "needed", TagText(needed))?;
+            put_hex(alloc, object, "granule", granule)?;
+            put_shown(alloc, object, "needed", TagText(needed))?;
             if let Some(found) = found {
-                put_shown(alloc, &mut object, "found", TagText(found))?;
+                put_shown(alloc, object, "found", TagText(found))?;
             }
         }
         Fact::Entry { rd, ipa, read } | Fact::InUse { rd, ipa, read } => {
-            put_hex(alloc, &mut object, "rd", rd)?;
-            put_hex(alloc, &mut object, "ipa", ipa)?;
-            put_entry(alloc, &mut object, read)?;
+            put_hex(alloc, object, "rd", rd)?;
+            put_hex(alloc, object, "ipa", ipa)?;
+            put_entry(alloc, object, read)?;
         }
         _ => {
-            put_realm_fact(alloc, &mut object, fact)?;
-            put_rec_fact(alloc, &mut object, fact)?;
+            put_realm_fact(alloc, object, fact)?;
+            put_rec_fact(alloc, object, fact)?;
         }
     }
-    Ok(object)
+    Ok(())
 }
 
 fn kind_of(fact: &Fact) -> &'static str {

@@ -10,16 +10,20 @@ impl fmt::Display for StateBefore {
         for granule in &self.granules {
             write!(f, "{granule}")?;
         }
-        if let Some(realm) = &self.realm {
-            write!(f, "{realm}")?;
-        }
-        if let Some(rec) = &self.rec {
-            write!(f, "{rec}")?;
-        }
-        match &self.walk {
-            Some(walk) => write!(f, "{walk}"),
-            None => Ok(()),
-        }
+        write_if(f, self.realm.as_ref())?;
+        write_if(f, self.rec.as_ref())?;
+        write_if(f, self.walk.as_ref())
+    }
+}
+
+// What is there, if anything is.
+fn write_if<W: fmt::Write, T: fmt::Display>(
+    f: &mut fmt::Formatter<W>,
+    there: Option<&T>,
+) -> fmt::Result {
+    match there {
+        Some(there) => write!(f, "{there}"),
+        None => Ok(()),
     }
 }
 

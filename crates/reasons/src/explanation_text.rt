@@ -66,37 +66,67 @@ impl fmt::Display for UnfinishedCall {
 
 fn write_cause<W: fmt::Write>(f: &mut fmt::Formatter<W>, step: u64, cause: &Cause) -> fmt::Result {
     match cause {
-        Cause::Unknown { cpu, number } => {
-            write!(f, "step {step} names call {number} of CPU {cpu}\n")?;
-            f.write_str("why: the history has no such call\n")
-        }
-        Cause::Repeated { call, earlier } => {
-            write!(f, "step {step} names {call}")?;
-            write!(f, "why: step {earlier} names the same call\n")
-        }
-        Cause::Kind { call } => {
-            write!(f, "step {step} names {call}")?;
-            f.write_str(if call.call.answer.is_some() {
-                "why: the call returned, so its line has to begin with k\n"
-            } else {
-                "why: the call hasn't returned, so its line has to begin with u\n"
-            })
-        }
+        Cause::Unknown { cpu, number } => write_unknown(f, step, *cpu, *number),
+        Cause::Repeated { call, earlier } => write_repeated(f, step, call, *earlier),
+        Cause::Kind { call } => write_kind(f, step, call),
         Cause::Order {
             call,
             earlier,
             other,
         } => {
-            write!(f, "step {step} names {call}")?;
-            write!(f, "step {earlier} names {other}")?;
+            write_named(f, step, call)?;
+            write_named(f, *earlier, other)?;
             write_order(f, call, other)
         }
-        Cause::Reply(line) => { write!(f, "step {step} names {line}") }
-        Cause::Missing(call) => {
-            write!(f, "no step names {call}")?;
-            f.write_str("why: the call returned, so it has to have a line\n")
-        }
+        Cause::Reply(line) => write!(f, "step {step} names {line}"),
+        Cause::Missing(call) => write_missing(f, call),
     }
+}
+
+fn write_named<W: fmt::Write>(
+    f: &mut fmt::Formatter<W>,
+    step: u64,
+    call: &NamedCall,
+) -> fmt::Result {
+    write!(f, "step {step} names {call}")
+}
+
+fn write_unknown<W: fmt::Write>(
+    f: &mut fmt::Formatter<W>,
+    step: u64,
+    cpu: u8,
+    number: u32,
+) -> fmt::Result {
+    write!(f, "step {step} names call {number} of CPU {cpu}\n")?;
+    f.write_str("why: the history has no such call\n")
+}
+
+fn write_repeated<W: fmt::Write>(
+    f: &mut fmt::Formatter<W>,
+    step: u64,
+    call: &NamedCall,
+    earlier: u64,
+) -> fmt::Result {
+    write_named(f, step, call)?;
+    write!(f, "why: step {earlier} names the same call\n")
+}
+
+fn write_kind<W: fmt::Write>(
+    f: &mut fmt::Formatter<W>,
+    step: u64,
+    call: &NamedCall,
+) -> fmt::Result {
+    write_named(f, step, call)?;
+    f.write_str(if call.call.answer.is_some() {
+        "why: the call returned, so its line has to begin with k\n"
+    } else {
+        "why: the call hasn't returned, so its line has to begin with u\n"
+    })
+}
+
+fn write_missing<W: fmt::Write>(f: &mut fmt::Formatter<W>, call: &NamedCall) -> fmt::Result {
+    write!(f, "no step names {call}")?;
+    f.write_str("why: the call returned, so it has to have a line\n")
 }
 
 // Which return came before which call.
@@ -143,31 +173,41 @@ impl fmt::Display for NamedCall {
 
 impl fmt::Display for RefusedLine {
     fn fmt<W: fmt::Write>(&self, f: &mut fmt::Formatter<W>) -> fmt::Result {
-        let call = &self.call;
-        let is_by_realm = is_by_realm(call.call.command.function);
-        let claimed = ReplyText {
-            reply: &self.claimed,
-            is_by_realm,
-        };
-        write!(f, "{call}claimed: {claimed}\nspecified: ")?;
-        match &self.specified {
-            Ok(accepted) => {
-                let accepted = AcceptedText {
-                    accepted,
-                    farthest: self.farthest,
-                };
-                write!(f, "{accepted}\n")?;
-            }
-            Err(refusal) => {
-                let reply = &refusal.reply();
-                let reply = ReplyText { reply, is_by_realm };
-                write!(f, "{reply}\n")?;
-            }
-        }
+        write_replies(f, self)?;
         write_deciding(f, self)?;
         write_steps(f, self)?;
         let before = &self.before;
         write!(f, "{before}")
+    }
+}
+
+// The call, the reply that is claimed for it, and that of the specification.
+fn write_replies<W: fmt::Write>(f: &mut fmt::Formatter<W>, line: &RefusedLine) -> fmt::Result {
+    let call = &line.call;
+    let claimed = ReplyText {
+        reply: &line.claimed,
+        is_by_realm: is_by_realm(call.call.command.function),
+    };
+    write!(f, "{call}claimed: {claimed}\nspecified: ")?;
+    write_specified(f, line)
+}
+
+fn write_specified<W: fmt::Write>(f: &mut fmt::Formatter<W>, line: &RefusedLine) -> fmt::Result {
+    match &line.specified {
+        Ok(accepted) => {
+            let accepted = AcceptedText {
+                accepted,
+                farthest: line.farthest,
+            };
+            write!(f, "{accepted}\n")
+        }
+        Err(refusal) => {
+            let reply = ReplyText {
+                reply: &refusal.reply(),
+                is_by_realm: is_by_realm(line.call.call.command.function),
+            };
+            write!(f, "{reply}\n")
+        }
     }
 }
 

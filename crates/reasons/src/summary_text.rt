@@ -11,17 +11,8 @@ const ROLES: [Tag; 5] = [Tag::Rd, Tag::Rtt, Tag::Rec, Tag::RecAux, Tag::Data];
 
 impl fmt::Display for Summary {
     fn fmt<W: fmt::Write>(&self, f: &mut fmt::Formatter<W>) -> fmt::Result {
-        let (count, calls, cpus) = (self.count, self.calls, self.cpus);
-        let granules = self.owners.len();
+        write_counts(f, self)?;
         let rows = self.owners.as_slice();
-        let host = count_of(rows, Tag::Undelegated);
-        let delegated = count_of(rows, Tag::Delegated);
-        write!(f, "calls: {calls}, of them {count} in the order\n")?;
-        write!(f, "CPUs: {cpus}\n")?;
-        write!(
-            f,
-            "granules at the end: {granules}, of them {host} UNDELEGATED and {delegated} DELEGATED\n"
-        )?;
         for row in rows {
             if row.tag == Tag::Rd {
                 write_realm(f, rows, row)?;
@@ -29,6 +20,23 @@ impl fmt::Display for Summary {
         }
         Ok(())
     }
+}
+
+// How many calls, CPUs and granules there are.
+fn write_counts<W: fmt::Write>(f: &mut fmt::Formatter<W>, summary: &Summary) -> fmt::Result {
+    let (count, calls, cpus) = (summary.count, summary.calls, summary.cpus);
+    let rows = summary.owners.as_slice();
+    let granules = rows.len();
+    let host = count_of(rows, Tag::Undelegated);
+    let delegated = count_of(rows, Tag::Delegated);
+    write!(
+        f,
+        "calls: {calls}, of them {count} in the order\nCPUs: {cpus}\n"
+    )?;
+    write!(
+        f,
+        "granules at the end: {granules}, of them {host} UNDELEGATED and {delegated} DELEGATED\n"
+    )
 }
 
 // The realm whose descriptor a row has, with its granules by role.

@@ -16,22 +16,30 @@ pub(crate) struct WrongWordText {
 impl fmt::Display for WrongWordText {
     fn fmt<W: fmt::Write>(&self, f: &mut fmt::Formatter<W>) -> fmt::Result {
         let number = self.word.index;
-        let name = reply_word(self.function, number);
         write!(f, "word {number} of the reply")?;
-        if let Some(name) = name {
+        if let Some(name) = reply_word(self.function, number) {
             write!(f, " ({name})")?;
         }
         match (self.word.claimed, self.word.specified) {
-            (Some(claimed), Some(_)) if self.is_choice => {
-                write!(f, " is {claimed:x}, which is none of those")
-            }
-            (Some(claimed), Some(specified)) => {
-                write!(f, " is {claimed:x}, and has to be {specified:x}")
-            }
+            (Some(claimed), specified) => write_claimed(f, claimed, specified, self.is_choice),
             (None, Some(specified)) => write!(f, " is missing, and has to be {specified:x}"),
-            (Some(claimed), None) => write!(f, " is {claimed:x}, and has to be missing"),
             (None, None) => Ok(()),
         }
+    }
+}
+
+// The word that is claimed, beside that of the specification.
+fn write_claimed<W: fmt::Write>(
+    f: &mut fmt::Formatter<W>,
+    claimed: u64,
+    specified: Option<u64>,
+    is_choice: bool,
+) -> fmt::Result {
+    write!(f, " is {claimed:x}")?;
+    match specified {
+        Some(_) if is_choice => f.write_str(", which is none of those"),
+        Some(specified) => write!(f, ", and has to be {specified:x}"),
+        None => f.write_str(", and has to be missing"),
     }
 }
 

@@ -66,12 +66,15 @@ fn push_granules(
 ) -> Result<(), AllocError> {
     let names = named(&line.call.call.command.call());
     for name in names.as_slice() {
-        let granule = name.granule;
-        let steps = granule_steps(alloc, &run.history, &run.certificate, granule)?;
-        sections.push(Section {
-            title: format!(in alloc; "The steps of granule {granule:x}")?,
-            text: format!(in alloc; "{steps}")?,
-        })?;
+        sections.push(granule_section(alloc, run, name.granule)?)?;
     }
     Ok(())
+}
+
+fn granule_section(alloc: Global, run: &Run, granule: u64) -> Result<Section, AllocError> {
+    let steps = granule_steps(alloc, &run.history, &run.certificate, granule)?;
+    Ok(Section {
+        title: format!(in alloc; "The steps of granule {granule:x}")?,
+        text: format!(in alloc; "{steps}")?,
+    })
 }

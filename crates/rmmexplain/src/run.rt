@@ -1,6 +1,6 @@
 //! What is made of a run.
 
-use crate::folds::{folds_of, sections_of};
+use crate::folds::{Section, folds_of, sections_of};
 use crate::page_file::check_page_file;
 use crate::texts::{Paths, Texts, append_end, texts_at};
 use check_command::ends_with;
@@ -65,29 +65,71 @@ fn explained<'a>(alloc: Global, texts: &'a Texts) -> Result<ExplainedRun<'a>, Al
     )
 }
 
-// The page is whole before its file is opened.
 fn write_page<R: Files + Print + AllocGlobal>(
     rt: &R,
     file: &str,
     around: u64,
     paths: Paths<'_>,
 ) -> Result<u8, Fault> {
-    let alloc = rt.alloc();
     check_page_file(rt, file, paths)?;
     let texts = texts_at(rt, paths)?;
-    let told = explained(alloc, &texts)?;
+    write_page_of(rt, file, around, &texts)
+}
+
+fn write_page_of<R: Files + Print + AllocGlobal>(
+    rt: &R,
+    file: &str,
+    around: u64,
+    texts: &Texts,
+) -> Result<u8, Fault> {
+    let told = explained(rt.alloc(), texts)?;
+    write_page_on(rt, file, around, texts, &told)
+}
+
+// The page is whole before its file is opened.
+fn write_page_on<R: Files + Print + AllocGlobal>(
+    rt: &R,
+    file: &str,
+    around: u64,
+    texts: &Texts,
+    told: &ExplainedRun<'_>,
+) -> Result<u8, Fault> {
+    let page = page_on(rt.alloc(), around, texts, told)?;
+    write_file(rt, String::from_str(rt.alloc(), file)?, page.as_slice())?;
+    Ok(status_of(told))
+}
+
+fn page_on(
+    alloc: Global,
+    around: u64,
+    texts: &Texts,
+    told: &ExplainedRun<'_>,
+) -> Result<Vec<u8>, AllocError> {
     let mut end = Vec::new(alloc);
-    append_end(alloc, &texts, &mut end)?;
-    let sections = sections_of(alloc, &told)?;
-    let folds = folds_of(alloc, sections.as_slice())?;
+    append_end(alloc, texts, &mut end)?;
+    let sections = sections_of(alloc, told)?;
+    page_with(alloc, around, told, sections.as_slice(), end.as_slice())
+}
+
+fn page_with(
+    alloc: Global,
+    around: u64,
+    told: &ExplainedRun<'_>,
+    sections: &[Section],
+    end: &[u8],
+) -> Result<Vec<u8>, AllocError> {
+    let folds = folds_of(alloc, sections)?;
     let extent = Extent {
         around: around as usize,
         folds: folds.as_slice(),
     };
     let mut page = Vec::new(alloc);
-    append_page(alloc, &told, extent, end.as_slice(), &mut page)?;
-    write_file(rt, String::from_str(alloc, file)?, page.as_slice())?;
-    Ok(ends_with(Ok(told.explanation.verdict())).status)
+    append_page(alloc, told, extent, end, &mut page)?;
+    Ok(page)
+}
+
+fn status_of(told: &ExplainedRun<'_>) -> u8 {
+    ends_with(Ok(told.explanation.verdict())).status
 }
 
 fn print_run<R: Files + Print + AllocGlobal>(
@@ -95,13 +137,31 @@ fn print_run<R: Files + Print + AllocGlobal>(
     paths: Paths<'_>,
     what: What,
 ) -> Result<u8, Fault> {
-    let alloc = rt.alloc();
     let texts = texts_at(rt, paths)?;
-    let told = explained(alloc, &texts)?;
-    let mut text = Vec::new(alloc);
-    append_run(alloc, &texts, &told, paths, what, &mut text)?;
+    print_run_of(rt, paths, what, &texts)
+}
+
+fn print_run_of<R: Files + Print + AllocGlobal>(
+    rt: &R,
+    paths: Paths<'_>,
+    what: What,
+    texts: &Texts,
+) -> Result<u8, Fault> {
+    let told = explained(rt.alloc(), texts)?;
+    print_told(rt, paths, what, texts, &told)
+}
+
+fn print_told<R: Print + AllocGlobal>(
+    rt: &R,
+    paths: Paths<'_>,
+    what: What,
+    texts: &Texts,
+    told: &ExplainedRun<'_>,
+) -> Result<u8, Fault> {
+    let mut text = Vec::new(rt.alloc());
+    append_run(rt.alloc(), texts, told, paths, what, &mut text)?;
     print(&mut io::writer(rt), text.as_slice())?;
-    Ok(ends_with(Ok(told.explanation.verdict())).status)
+    Ok(status_of(told))
 }
 
 fn append_run(
