@@ -1,5 +1,5 @@
 -- What is looked at of calls for facts, in the words of the law.
-use Rattle.std.proofs.Common.{◌≡◌, ◌∙◌, ℕ, ◌<◌, false, List, None, Option, Some, ap, inl, inr, subst, sym}
+use Rattle.std.proofs.Common.{◌≡◌, ◌∙◌, ℕ, ◌<◌, List, None, Option, Some, ap, inl, inr, subst, sym}
 use Rattle.std.specs.Option.{IfSome}
 use Rattle.rmi_view.specs.Seen.{reply_seen}
 use Rattle.rmm_spec.specs.declared.command.Command.{Command}
@@ -10,7 +10,7 @@ use Rattle.rmm_spec.specs.Call.{call_of}
 use Rattle.rmm_spec.specs.Linearization.{IsCalled, IsReturned}
 use Rattle.verdict_laws.specs.declared.facts.Fact.{Fact}
 use Rattle.verdict_laws.specs.HeldFacts as laws
-use Rattle.verdict_laws.specs.Facts.{leaves_with, makes, may_end}
+use Rattle.verdict_laws.specs.Facts.{leaves_with, makes, may_end, stays_with}
 use Rattle.verdict_laws.specs.HeldFacts.{IsLeftAt, IsLeftSince, IsOver}
 use Rattle.verdict_laws.specs.Placing.{StandsBefore}
 use Rattle.verdict_laws.specs.Looking.{is_looking_function}
@@ -19,7 +19,7 @@ use Rattle.slicing.specs.declared.call_at.Answer.{Answer}
 use Rattle.slicing.specs.declared.call_at.CallAt.{CallAt}
 use Rattle.slicing.specs.Calls.{ChangesNothing, HasAnswer, IsCallAt}
 use Rattle.slicing.specs.declared.done.Done.{Done}
-use Rattle.slicing.specs.Facts.{IsLeftOrEarly, IsMadeBy, LeavesAt}
+use Rattle.slicing.specs.Facts.{IsLeftOrEarly, IsMadeBy, IsPassedBy, LeavesAt, LeavesElsewhere}
 use Rattle.slicing.specs.Unused.{IsDone}
 use Rattle.slicing.proofs.CallLaws.{made_at}
 
@@ -44,6 +44,9 @@ module _ (events : List Event) (at cpu number : ℕ) (command : Command) (c : Ca
   same_command : is_at.1.0 ≡ command
   same_command = cc
 
+  same_call : c.call ≡ call_of command
+  same_call = is_at.1.1.call ∙ ap call_of same_command
+
   -- with its answer
   answered : HasAnswer events cpu number c.answer
   answered = subst (λ k. HasAnswer events k number c.answer) same_cpu
@@ -58,18 +61,34 @@ module _ (events : List Event) (at cpu number : ℕ) (command : Command) (c : Ca
             let a = refused.0 in inr (a.place, reply_seen a.reply, subst (HasAnswer events cpu number) refused.1 answered, refused.2)
       ]
 
-  -- a call that leaves a fact does so by the law
-  pub IsLeftAt-call : (fact : Fact) (place : ℕ) → LeavesAt fact place c → IsLeftAt fact events place at cpu number command
+  -- a call that leaves a fact by itself does so by the law
+  IsLeftAt-call : (fact : Fact) (place : ℕ) → LeavesAt fact place c → IsLeftAt fact events place at cpu number command
   IsLeftAt-call fact place leaves =
       elim leaves [
         | inl nothing ↦ inl (nothing_changed nothing)
         | inr rest ↦ elim rest [
           | inl there ↦ inr (inl (sym is_at.0 ∙ there))
           | inr keeps ↦
-              inr (inr (inr (λ given only. subst (λ called. may_end fact called given ≡ false) (is_at.1.1.call ∙ ap call_of same_command)
-              (keeps given (answer_is events cpu number c.answer given answered only)))))
+              inr (inr (inr (inl (λ given only.
+              (λ i. may_end fact (sym same_cpu i) (sym same_call i) given)
+              ∙ keeps given (answer_is events cpu number c.answer given answered only)))))
         ]
       ]
+
+  -- so does one that leaves it where its CPU stands
+  IsLeftAt-elsewhere : (fact : Fact) (place : ℕ) → LeavesElsewhere fact events c → IsLeftAt fact events place at cpu number command
+  IsLeftAt-elsewhere fact place (standing, stands, stays) =
+      inr (inr (inr (inr (
+        standing,
+        subst (λ k. StandsBefore events k number standing) same_cpu
+            (subst (λ n. StandsBefore events c.cpu n standing) same_number stands),
+        ap (λ called. stays_with fact called standing) (sym same_call) ∙ stays,
+      ))))
+
+  -- so does one that is passed by
+  pub IsLeftAt-passed : (fact : Fact) (place : ℕ) → IsPassedBy fact events place c → IsLeftAt fact events place at cpu number command
+  IsLeftAt-passed fact place passed =
+      elim passed [ inl leaves ↦ IsLeftAt-call fact place leaves | inr elsewhere ↦ IsLeftAt-elsewhere fact place elsewhere ]
 
 -- what makes a fact does so by the law
 pub IsMadeBy-done : (events : List Event) (place called : ℕ) (done : Done) (fact : Fact) (is_done : IsDone events called place done)
@@ -77,7 +96,7 @@ pub IsMadeBy-done : (events : List Event) (place called : ℕ) (done : Done) (fa
 IsMadeBy-done events place called done fact is_done made =
     let d = is_done.0 in
     elim made [
-      | inl makes_it ↦ inl ((λ i. makes fact (is_done.3 i) (is_done.4 i)) ∙ makes_it)
+      | inl makes_it ↦ inl ((λ i. makes fact (is_done.5 i) (is_done.3 i) (is_done.4 i)) ∙ makes_it)
       | inr (standing, stands, leaves) ↦
           inr (
             standing,

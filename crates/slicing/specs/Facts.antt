@@ -9,7 +9,7 @@ use Rattle.rmm_spec.specs.Linearization.{IsCalled}
 use Rattle.verdict_laws.specs.declared.facts.Fact.{Fact}
 use Rattle.verdict_laws.specs.declared.placing.Standing.{Standing}
 use Rattle.verdict_laws.specs.Denying.{deny_inside}
-use Rattle.verdict_laws.specs.Facts.{leaves_with, makes, makes_with, may_end}
+use Rattle.verdict_laws.specs.Facts.{leaves_with, makes, makes_with, may_end, stays_with}
 use Rattle.verdict_laws.specs.HeldFacts.{IsHeldAlone, IsLeftAt, IsLeftSince}
 use Rattle.verdict_laws.specs.Placing.{StandsBefore}
 use Rattle.verdict_laws.specs.Slices.{IsDoneBefore}
@@ -21,11 +21,20 @@ use Rattle.slicing.specs.Unused.{IsNoLater}
 
 -- the call doesn't end the fact, with its reply if it returned, or any
 abbrev pub DoesNotEnd : Fact → CallAt → Type 0
-DoesNotEnd fact c = (given : Reply) → IfSome c.answer (λ a. reply_seen a.reply ≡ given) → may_end fact c.call given ≡ false
+DoesNotEnd fact c = (given : Reply) → IfSome c.answer (λ a. reply_seen a.reply ≡ given) → may_end fact c.cpu c.call given ≡ false
 
 -- the call is made at the place, changes nothing, or doesn't end the fact
 abbrev pub LeavesAt : Fact → ℕ → CallAt → Type 0
 LeavesAt fact place c = ChangesNothing c ⊎ ((c.place ≡ place) ⊎ DoesNotEnd fact c)
+
+-- the call leaves the fact where its CPU stands
+abbrev pub LeavesElsewhere : Fact → List Event → CallAt → Type 0
+LeavesElsewhere fact events c =
+    (standing : Standing) × StandsBefore events c.cpu c.number standing × (stays_with fact c.call standing ≡ true)
+
+-- it leaves it either way, or is made at the place
+abbrev pub IsPassedBy : Fact → List Event → ℕ → CallAt → Type 0
+IsPassedBy fact events place c = LeavesAt fact place c ⊎ LeavesElsewhere fact events c
 
 -- the call made at one place, if one is, is no later than the one that makes the fact, or leaves it, as the call made at another place may not
 abbrev pub IsLeftOrEarly : Fact → List Event → ℕ → Option ℕ → ℕ → Type 0
@@ -35,7 +44,7 @@ IsLeftOrEarly fact events place maker at = (cpu number : ℕ) (command : Command
 -- the call makes the fact, by what it says and is replied, or as a REC leaves there that its CPU stands in
 abbrev pub IsMadeBy : Fact → List Event → Done → Type 0
 IsMadeBy fact events done =
-    (makes fact done.call (reply_seen done.reply) ≡ true)
+    (makes fact done.cpu done.call (reply_seen done.reply) ≡ true)
     ⊎ ((standing : Standing) × StandsBefore events done.cpu done.number standing × (leaves_with fact done.call standing ≡ true))
 
 -- another fact holds by itself where a call makes this one with it, and none since may have ended it

@@ -3,7 +3,7 @@
 ghost use Rattle.std.specs.Prelude.{◌<◌, ◌≡◌, ◌≤◌, ◌⊎◌, ℕ, [], length, IfNone, IfSome, IsTrue};
 ghost use Rattle.slicing.specs.Calls.{AreBack, IsLastReturn, events_to};
 ghost use Rattle.rmi_view.specs.Seen.{reply_seen};
-ghost use Rattle.slicing.specs.Facts.{IsDeniedInside, IsHeldWith, IsLeftOrEarly, IsMadeBy, LeavesAt};
+ghost use Rattle.slicing.specs.Facts.{IsDeniedInside, IsHeldWith, IsLeftOrEarly, IsMadeBy, IsPassedBy, LeavesAt, LeavesElsewhere};
 ghost use Rattle.verdict_laws.specs.HeldFacts as laws;
 ghost use Rattle.verdict_laws.specs.Order.{LeadsNowhere};
 ghost use Rattle.verdict_laws.specs.Parts.{first_part};
@@ -12,7 +12,7 @@ use crate::call_at::{CallAt, call_at};
 use crate::denying::{deny, deny_inside};
 use crate::done::{Done, done_before, is_no_later};
 use crate::early::{are_back, open_from};
-use crate::ending::is_left;
+use crate::ending::{is_left, stays_with};
 use crate::last_return::{LastReturn, last_return};
 use crate::making::{begins, makes};
 use crate::making_recs::{leaves_with, makes_with};
@@ -20,7 +20,8 @@ use crate::standing::standing_before;
 use crate::supposing::{
     maker_before, supposed, supposed_entry, supposed_page, supposed_tag, supposed_together,
 };
-use crate::supposing_recs::{maker_with, supposed_idle, supposed_inside, supposed_of_rec};
+use crate::supposing_recs::{supposed_asking, supposed_idle, supposed_of_rec, supposed_running};
+use crate::supposing_ripas::{maker_with, supposed_inside};
 use history::History;
 use rmm_spec::Call;
 use verdict_laws::{Fact, nowhere_denied};
@@ -44,6 +45,8 @@ fn is_denied_by_one(history: &History, count: u32, last: &LastReturn<'_>) -> boo
         || is_denied_by(history, count, last, supposed_entry(last))
         || is_denied_by(history, count, last, supposed_tag(history, count, last))
         || is_denied_by(history, count, last, supposed_page(history, count, last))
+        || is_denied_by(history, count, last, supposed_running(history, count, last))
+        || is_denied_by(history, count, last, supposed_asking(history, count, last))
 }
 
 /// Whether several deny it together, and hold.
@@ -177,7 +180,7 @@ fn is_made(history: &History, count: u32, place: u32, fact: Fact, maker: u32) ->
 pub(crate) fn is_made_by(history: &History, count: u32, fact: Fact, done: &Done<'_>) -> bool
     ensures { IsTrue result → IsMadeBy fact (events_to count history.now.recorded.events) done.now }
 {
-    if makes(fact, &done.call, done.reply) {
+    if makes(fact, done.cpu, &done.call, done.reply) {
         return true;
     }
     if !matches!(done.call, Call::Exit) || count as usize > history.len() {
@@ -254,12 +257,34 @@ fn is_left_or_early(
     let Some(call) = call_at(history, count, at) else {
         return true;
     };
-    is_passed_by(place, fact, &call) || is_no_later(&call, maker)
+    is_passed_by(history, count, place, fact, &call) || is_no_later(&call, maker)
 }
 
-/// Whether the call is the one that is made at the place, or leaves the fact.
-fn is_passed_by(place: u32, fact: Fact, call: &CallAt<'_>) -> bool
+/// Whether the call is the one that is made at the place, or leaves the fact, by itself or where its CPU stands.
+fn is_passed_by(history: &History, count: u32, place: u32, fact: Fact, call: &CallAt<'_>) -> bool
+    requires { count ≤ length history.now.recorded.events }
+    ensures { IsTrue result → IsPassedBy fact (events_to count history.now.recorded.events) place call.now }
+{
+    leaves_at(place, fact, call) || is_left_elsewhere(history, count, fact, call)
+}
+
+/// Whether it is the one that is made at the place, or leaves the fact by itself.
+fn leaves_at(place: u32, fact: Fact, call: &CallAt<'_>) -> bool
     ensures { IsTrue result → LeavesAt fact place call.now }
 {
     call.place == place || call.changes_nothing() || is_left(fact, call)
+}
+
+/// Whether the call leaves the fact since its CPU stands in another REC.
+fn is_left_elsewhere(history: &History, count: u32, fact: Fact, call: &CallAt<'_>) -> bool
+    requires { count ≤ length history.now.recorded.events }
+    ensures { IsTrue result → LeavesElsewhere fact (events_to count history.now.recorded.events) call.now }
+{
+    if !matches!(call.call, Call::CpuOff | Call::Exit) {
+        return false;
+    }
+    match standing_before(history, count, call.cpu, call.number) {
+        Some(standing) => stays_with(fact, &call.call, standing),
+        None => false,
+    }
 }

@@ -71,9 +71,10 @@ pub(crate) fn denies(fact: Fact, call: &Call, reply: ReplyRef<'_>) -> bool
                 && !is_reported(3, ripas, reply)
         }
         Fact::Activated { rd } => matches!(reply, ReplyRef::Ok(_)) && needs_new(call, rd),
-        Fact::AsksFrom { rec, base } => {
+        Fact::AsksFrom { rec, base } | Fact::RunsOrAsksFrom { rec, base } => {
             matches!(reply, ReplyRef::Ok(_)) && asks_else(call, reply, rec, base)
         }
+        Fact::RunsOn { rec, .. } => matches!(reply, ReplyRef::Ok(_)) && needs_idle(call, rec),
         Fact::OwnedBy { .. } | Fact::Runnable { .. } | Fact::AsksTo { .. } => false,
     }
 }
@@ -90,6 +91,19 @@ fn asks_else(call: &Call, reply: ReplyRef<'_>, rec: u64, base: u64) -> bool
             base: from,
             ..
         } => rec == *other && base != *from,
+        _ => false,
+    }
+}
+
+/// Whether the call is refused where the REC runs.
+#[tactic(auto, unfolding(verdict_laws::specs::Denying::needs_idle))]
+fn needs_idle(call: &Call, rec: u64) -> bool
+    ensures { result ≡ laws.needs_idle call.now rec }
+{
+    match call {
+        Call::RecEnter { rec: other }
+        | Call::RecDestroy { rec: other }
+        | Call::RttSetRipas { rec: other, .. } => rec == *other,
         _ => false,
     }
 }

@@ -11,10 +11,11 @@ use crate::call_at::CallAt;
 use crate::given_back::freed;
 use crate::kinds::changeable;
 use crate::making::{creates_page, creates_unknown, frees_entry, is_one_entry, is_one_table};
+use crate::making_recs::enters;
 use command_words::{Name, is_tag};
 use memory_map::entry_number;
 use rmm_spec::{Call, Tag};
-use verdict_laws::Fact;
+use verdict_laws::{Fact, Standing};
 
 /// Whether the call doesn't end the fact, by its reply if it returned.
 pub(crate) fn is_left(fact: Fact, call: &CallAt<'_>) -> bool
@@ -45,23 +46,39 @@ pub(crate) fn is_left(fact: Fact, call: &CallAt<'_>) -> bool
         Fact::Activated { rd } => !may_narrow(&call.call, rd),
         Fact::OwnedBy { rec, .. } => !destroys(&call.call, rec),
         Fact::Runnable { rec } => !destroys(&call.call, rec) && !turns_off(&call.call),
+        Fact::RunsOn { cpu, .. } => !exits(&call.call) || cpu != call.cpu,
         Fact::AsksFrom { rec, base } => {
             !destroys(&call.call, rec)
                 && !enters(&call.call, rec)
                 && !sets_from(&call.call, rec, base)
         }
+        Fact::RunsOrAsksFrom { rec, base } => {
+            !destroys(&call.call, rec) && !exits(&call.call) && !sets_from(&call.call, rec, base)
+        }
         Fact::AsksTo { rec, .. } => !destroys(&call.call, rec) && !enters(&call.call, rec),
     }
 }
 
-#[tactic(auto, unfolding(verdict_laws::specs::Facts::enters))]
-fn enters(call: &Call, rec: u64) -> bool
-    ensures { result ≡ laws.enters call.now rec }
+/// Whether the call of a CPU that stands there leaves the fact, though it may end it from elsewhere: its CPU is in another REC.
+#[tactic(auto, unfolding(verdict_laws::specs::Facts::stays_with))]
+pub(crate) fn stays_with(fact: Fact, call: &Call, standing: Standing) -> bool
+    ensures { result ≡ laws.stays_with fact call.now standing }
 {
-    match call {
-        Call::RecEnter { rec: other } => rec == *other,
+    let Standing::Inside { rec: at, .. } = standing else {
+        return false;
+    };
+    match fact {
+        Fact::Runnable { rec } => matches!(call, Call::CpuOff) && rec != at,
+        Fact::RunsOrAsksFrom { rec, .. } => matches!(call, Call::Exit) && rec != at,
         _ => false,
     }
+}
+
+#[tactic(auto, unfolding(verdict_laws::specs::Facts::exits))]
+fn exits(call: &Call) -> bool
+    ensures { result ≡ laws.exits call.now }
+{
+    matches!(call, Call::Exit)
 }
 
 #[tactic(auto, unfolding(verdict_laws::specs::Facts::sets_from))]

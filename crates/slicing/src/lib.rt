@@ -33,6 +33,7 @@ mod sources;
 mod standing;
 mod supposing;
 mod supposing_recs;
+mod supposing_ripas;
 mod unused;
 mod window;
 

@@ -5,7 +5,7 @@ ghost use Rattle.rmi_view.specs.Seen.{reply_seen};
 ghost use Rattle.verdict_laws.specs.Facts as laws;
 
 use crate::given_back::leaves_unused;
-use crate::making_recs::{makes_owned, makes_runnable, moves_request};
+use crate::making_recs::{enters, makes_owned, makes_runnable, moves_request};
 use crate::replying::SMALLEST_HALF;
 use command_words::is_tag;
 use memory_map::{entry_number, table_number};
@@ -33,14 +33,16 @@ pub(crate) fn begins(fact: Fact) -> bool
         | Fact::Activated { .. }
         | Fact::OwnedBy { .. }
         | Fact::Runnable { .. }
+        | Fact::RunsOn { .. }
         | Fact::AsksFrom { .. }
+        | Fact::RunsOrAsksFrom { .. }
         | Fact::AsksTo { .. } => false,
     }
 }
 
-/// Whether the call makes the fact, where it is carried out with that reply.
-pub(crate) fn makes(fact: Fact, call: &Call, reply: ReplyRef<'_>) -> bool
-    ensures { result ≡ laws.makes fact call.now (reply_seen reply.entry) }
+/// Whether the CPU's call makes the fact, where it is carried out with that reply.
+pub(crate) fn makes(fact: Fact, cpu: u8, call: &Call, reply: ReplyRef<'_>) -> bool
+    ensures { result ≡ laws.makes fact cpu call.now (reply_seen reply.entry) }
 {
     match fact {
         Fact::NewRealm { rd } => makes_realm(call, rd),
@@ -58,7 +60,10 @@ pub(crate) fn makes(fact: Fact, call: &Call, reply: ReplyRef<'_>) -> bool
         Fact::Activated { rd } => activates(call, rd),
         Fact::OwnedBy { rec, rd } => makes_owned(call, rec, rd),
         Fact::Runnable { rec } => makes_runnable(call, rec),
-        Fact::AsksFrom { rec, base } => moves_request(call, reply, rec, base),
+        Fact::RunsOn { rec, cpu: at } => at == cpu && enters(call, rec),
+        Fact::AsksFrom { rec, base } | Fact::RunsOrAsksFrom { rec, base } => {
+            moves_request(call, reply, rec, base)
+        }
         Fact::AsksTo { .. } => false,
     }
 }

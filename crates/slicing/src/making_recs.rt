@@ -71,7 +71,9 @@ fn is_left_with(fact: Fact, at: u64, reason: ExitReason) -> bool
         return false;
     };
     match fact {
-        Fact::AsksFrom { rec, base } => rec == at && base == from,
+        Fact::AsksFrom { rec, base } | Fact::RunsOrAsksFrom { rec, base } => {
+            rec == at && base == from
+        }
         Fact::AsksTo { rec, top, ripas } => {
             rec == at && top == its_top && ripas == its_ripas && from < its_top
         }
@@ -103,6 +105,16 @@ pub(crate) fn makes_runnable(call: &Call, rec: u64) -> bool
             flags,
             ..
         } => rec == *other && *flags == 1,
+        _ => false,
+    }
+}
+
+#[tactic(auto, unfolding(verdict_laws::specs::Facts::enters))]
+pub(crate) fn enters(call: &Call, rec: u64) -> bool
+    ensures { result ≡ laws.enters call.now rec }
+{
+    match call {
+        Call::RecEnter { rec: other } => rec == *other,
         _ => false,
     }
 }

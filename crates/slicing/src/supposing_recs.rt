@@ -1,9 +1,8 @@
-//! Which facts of a REC may deny a reply, and what it asks for. What is found isn't promised: it is checked.
+//! Which facts of a REC may deny a reply. What is found isn't promised: it is checked.
 
 use crate::done::Done;
 use crate::last_return::LastReturn;
-use crate::making::makes;
-use crate::making_recs::sets_ripas;
+use crate::making_recs::enters;
 use crate::standing::standing_before;
 use crate::supposing::{Together, done_at, wide_before};
 use history::History;
@@ -82,6 +81,43 @@ pub(crate) fn supposed_idle(history: &History, count: u32, last: &LastReturn<'_>
     facts
 }
 
+/// That the REC runs which the call needs idle, as the latest call says that entered it.
+pub(crate) fn supposed_running(
+    history: &History,
+    count: u32,
+    last: &LastReturn<'_>,
+) -> Option<Fact> {
+    let (Call::RecEnter { rec } | Call::RecDestroy { rec } | Call::RttSetRipas { rec, .. }) =
+        last.call
+    else {
+        return None;
+    };
+    for back in 1..last.called.saturating_add(1) {
+        let at = last.called.saturating_sub(back);
+        if let Some(done) = done_at(history, count, last.called, at) {
+            if enters(&done.call, rec) {
+                return Some(Fact::RunsOn { rec, cpu: done.cpu });
+            }
+        }
+    }
+    None
+}
+
+/// That it runs or asks for something from where a call says, where it is entered or set as if it asked from elsewhere on.
+pub(crate) fn supposed_asking(
+    history: &History,
+    count: u32,
+    last: &LastReturn<'_>,
+) -> Option<Fact> {
+    let (Call::RecEnter { rec } | Call::RttSetRipas { rec, .. }) = last.call else {
+        return None;
+    };
+    match asked_from(history, count, last.called, rec)? {
+        Fact::AsksFrom { rec, base } => Some(Fact::RunsOrAsksFrom { rec, base }),
+        _ => None,
+    }
+}
+
 /// From where on it asks for something, if a call says it.
 fn asked(history: &History, count: u32, last: &LastReturn<'_>, rec: u64) -> Together {
     let mut facts = Together::new();
@@ -92,7 +128,7 @@ fn asked(history: &History, count: u32, last: &LastReturn<'_>, rec: u64) -> Toge
 }
 
 /// The realm of the REC, as the latest call says that made it and returned before a place.
-fn owner_before(history: &History, count: u32, place: u32, rec: u64) -> Option<u64> {
+pub(crate) fn owner_before(history: &History, count: u32, place: u32, rec: u64) -> Option<u64> {
     for back in 1..place.saturating_add(1) {
         if let Some(done) = done_at(history, count, place, place.saturating_sub(back)) {
             match done.call {
@@ -120,7 +156,7 @@ fn asked_from(history: &History, count: u32, place: u32, rec: u64) -> Option<Fac
 }
 
 /// Up to where, and for which RIPAS, as the latest exit says.
-fn asked_to(history: &History, count: u32, place: u32, rec: u64) -> Option<Fact> {
+pub(crate) fn asked_to(history: &History, count: u32, place: u32, rec: u64) -> Option<Fact> {
     for back in 1..place.saturating_add(1) {
         if let Some(done) = done_at(history, count, place, place.saturating_sub(back)) {
             if enters(&done.call, rec) {
@@ -134,14 +170,6 @@ fn asked_to(history: &History, count: u32, place: u32, rec: u64) -> Option<Fact>
         }
     }
     None
-}
-
-/// Whether the call enters the REC.
-fn enters(call: &Call, rec: u64) -> bool {
-    match call {
-        Call::RecEnter { rec: other } => rec == *other,
-        _ => false,
-    }
 }
 
 /// Where what the REC asks for begins after a call that was carried out, if that changes it.
@@ -168,110 +196,4 @@ fn reason_of(history: &History, count: u32, done: &Done<'_>, rec: u64) -> Option
         Standing::Inside { rec: at, reason } if at == rec => Some(reason),
         _ => None,
     }
-}
-
-/// What may deny together which RIPAS a REC is told, or the host.
-pub(crate) fn supposed_inside(history: &History, count: u32, last: &LastReturn<'_>) -> Together {
-    match last.call {
-        Call::IpaStateGet { ipa } => supposed_told(history, count, last, ipa),
-        Call::RttReadEntry { rd, ipa, .. } => {
-            let mut facts = Together::new();
-            if let Some(fact) = ripas_before(history, count, last.called, rd, ipa) {
-                facts.push(fact);
-            }
-            facts
-        }
-        _ => Together::new(),
-    }
-}
-
-/// What may deny which RIPAS the REC is told that the CPU stands in: whose that is, and of which RIPAS the address is.
-fn supposed_told(history: &History, count: u32, last: &LastReturn<'_>, ipa: u64) -> Together {
-    let mut facts = Together::new();
-    if count as usize > history.len() {
-        return facts;
-    }
-    let Some(Standing::Inside { rec, .. }) = standing_before(history, count, last.cpu, last.number)
-    else {
-        return facts;
-    };
-    let Some(rd) = owner_before(history, count, last.called, rec) else {
-        return facts;
-    };
-    if let Some(fact) = ripas_before(history, count, last.called, rd, ipa) {
-        facts.push(Fact::OwnedBy { rec, rd });
-        facts.push(fact);
-    }
-    facts
-}
-
-/// Of which RIPAS the address is, as the latest call says that set it and returned before a place.
-fn ripas_before(history: &History, count: u32, place: u32, rd: u64, ipa: u64) -> Option<Fact> {
-    let ram = Fact::HasRipas { rd, ipa, ripas: 1 };
-    for back in 1..place.saturating_add(1) {
-        let at = place.saturating_sub(back);
-        if let Some(done) = done_at(history, count, place, at) {
-            if makes(ram, &done.call, done.reply) {
-                return Some(ram);
-            }
-            if let Some(ripas) = ripas_set(history, count, at, &done, rd, ipa) {
-                return Some(Fact::HasRipas { rd, ipa, ripas });
-            }
-        }
-    }
-    None
-}
-
-/// Which RIPAS a call that is made at the place sets at the address, as its REC asked.
-fn ripas_set(
-    history: &History,
-    count: u32,
-    place: u32,
-    done: &Done<'_>,
-    rd: u64,
-    ipa: u64,
-) -> Option<u64> {
-    match asked_by(history, count, place, done, rd, ipa)? {
-        Fact::AsksTo { ripas, .. } => Some(ripas),
-        _ => None,
-    }
-}
-
-/// What its REC asks for before a call that is made at the place, where that sets it at the address.
-fn asked_by(
-    history: &History,
-    count: u32,
-    place: u32,
-    done: &Done<'_>,
-    rd: u64,
-    ipa: u64,
-) -> Option<Fact> {
-    let Call::RttSetRipas { rec, .. } = done.call else {
-        return None;
-    };
-    if !sets_ripas(&done.call, done.reply, rec, rd, ipa) {
-        return None;
-    }
-    asked_to(history, count, place, rec)
-}
-
-/// The place of the latest call that makes the fact with another, and returned before a place, and the other.
-pub(crate) fn maker_with(
-    history: &History,
-    count: u32,
-    place: u32,
-    fact: Fact,
-) -> Option<(u32, Fact)> {
-    let Fact::HasRipas { rd, ipa, .. } = fact else {
-        return None;
-    };
-    for back in 1..place.saturating_add(1) {
-        let at = place.saturating_sub(back);
-        if let Some(done) = done_at(history, count, place, at) {
-            if let Some(other) = asked_by(history, count, at, &done, rd, ipa) {
-                return Some((at, other));
-            }
-        }
-    }
-    None
 }

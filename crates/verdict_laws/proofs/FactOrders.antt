@@ -20,12 +20,13 @@ use Rattle.rmm_laws.proofs.StepLaws.{step-keeps, step-refuses}
 use Rattle.verdict_laws.specs.declared.facts.Fact.{Fact}
 use Rattle.verdict_laws.specs.declared.placing.Standing.{Standing}
 use Rattle.verdict_laws.specs.Denying.{deny, deny_inside}
-use Rattle.verdict_laws.specs.Facts.{holds, leaves_with, makes, makes_with}
+use Rattle.verdict_laws.specs.Facts.{holds, leaves_with, makes, makes_with, may_end}
 use Rattle.verdict_laws.specs.HeldFacts.{AreHeldAt, IsDenied, IsHeldAlone, IsHeldAt, IsLeftAt, IsLeftSince, IsMadeBy}
 use Rattle.verdict_laws.specs.Order.{LeadsNowhere, count_of}
 use Rattle.verdict_laws.specs.Parts.{first_part}
 use Rattle.verdict_laws.specs.Placing.{StandsBefore}
 use Rattle.verdict_laws.specs.Slices.{IsDoneBefore}
+use Rattle.verdict_laws.proofs.AskingFacts.{holds-elsewhere}
 use Rattle.verdict_laws.proofs.AlongOrders.{LeadsOn, called_first, nowhere-along}
 use Rattle.verdict_laws.proofs.Counts.{IsNamed-last, IsNamed-push, IsNamed-push_cases}
 use Rattle.verdict_laws.proofs.FactKinds.{holds-left, holds-made, holds-opening}
@@ -154,9 +155,13 @@ module _ (history : History) (is_history : IsHistory history) (called cpu number
       holds-behind other ahead (inr (inr (inl over))) is =
           absurd (ahead over.cpu over.number over.command over.is_called (leads.earlier over.cpu over.number
           (returns_before history is_history over.cpu over.number c (over.returned, over.given, over.is_returned, over.before))))
-      holds-behind other ahead (inr (inr (inr left))) is =
+      holds-behind other ahead (inr (inr (inr (inl left)))) is =
           holds-left fact s new e.cpu e.command e.given leads.sound leads.step
-          (left e.given (λ back told is_back. sym (claims_reply back told is_back))) is
+          (ap (λ (k : ℕ). may_end fact k (call_of e.command) e.given) c.is_entry.cpu
+          ∙ left e.given (λ back told is_back. sym (claims_reply back told is_back))) is
+      holds-behind other ahead (inr (inr (inr (inr (standing, stands, stays))))) is =
+          holds-elsewhere fact s new e.cpu e.command e.given standing leads.sound leads.step
+          (stands_there (cpu_named c.line) (number_named c.line) standing (refl, refl) stands) stays is
 
       -- the line of a call that makes it leaves it so
       holds-maker : (maker : IsDoneBefore events place) → IsMadeBy fact events maker → c.is_entry.called ≡ maker.called → holds fact new ≡ true
@@ -166,7 +171,7 @@ module _ (history : History) (is_history : IsHistory history) (called cpu number
           elim made [
             | inl makes_it ↦
                 holds-made fact s new e.cpu e.command e.given leads.sound leads.step accepted
-                ((λ i. makes fact (call_of (told.0 i)) (told.1 i)) ∙ makes_it)
+                ((λ i. makes fact ((c.is_entry.cpu ∙ told.2.0) i) (call_of (told.0 i)) (told.1 i)) ∙ makes_it)
             | inr (standing, stands, leaves) ↦
                 leaves-made fact s new e.cpu e.command e.given standing leads.sound leads.step accepted
                 (stands_there maker.cpu maker.number standing told.2 stands)

@@ -84,6 +84,8 @@ pub mod TableFacts
 pub mod TagFacts
 pub mod RealmChanges
 pub mod RunFacts
+pub mod RunningFacts
+pub mod AskingFacts
 pub mod RecChanges
 pub mod RecFacts
 pub mod WideFacts

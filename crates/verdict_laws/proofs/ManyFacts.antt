@@ -28,7 +28,7 @@ use Rattle.spec_lemmas.proofs.Members.{Contains-from_slice_get, passing_member}
 use Rattle.rmm_laws.proofs.Searches.{realm_there}
 use Rattle.rmm_laws.proofs.Spaces.{space_cases}
 use Rattle.verdict_laws.specs.declared.facts.Fact.{Fact}
-use Rattle.verdict_laws.specs.declared.facts.Fact.TheVariants.{Activated, AsksFrom, AsksTo, HasRipas, OwnedBy, PartOf, Runnable, SoleVmid, Tagged, Wide}
+use Rattle.verdict_laws.specs.declared.facts.Fact.TheVariants.{Activated, AsksFrom, AsksTo, HasRipas, OwnedBy, PartOf, Runnable, RunsOn, SoleVmid, Tagged, Wide}
 use Rattle.verdict_laws.specs.declared.placing.ExitReason.{ExitReason}
 use Rattle.verdict_laws.specs.declared.placing.Standing.{Standing}
 use Rattle.verdict_laws.specs.declared.placing.Standing.TheVariants.{Inside, Outside}
@@ -39,6 +39,7 @@ use Rattle.verdict_laws.proofs.FactSteps.{are_tagged, are_told, step-untold, ste
 use Rattle.verdict_laws.proofs.PartFacts.{no_owner-given, no_part}
 use Rattle.verdict_laws.proofs.RecFacts.{from_read, owner_read, run_read, to_read}
 use Rattle.verdict_laws.proofs.RunFacts.{read_run}
+use Rattle.verdict_laws.proofs.RunningFacts.{running_there}
 use Rattle.verdict_laws.proofs.RipasFacts.{inside_told}
 use Rattle.verdict_laws.proofs.Standings.{reason_at, standing-inside, standing_of}
 use Rattle.verdict_laws.proofs.TagFacts.{IsCarried, carried_by, tag-from_is_tag}
@@ -95,6 +96,14 @@ module _ (s : State) (sound : IsSound s) where
         says found.1 (All-contains (λ (fact : Fact). holds fact s ≡ true) facts found.1 hold (Contains-from_slice_get facts found.0 found.1 found.2))
         found.3
 
+    -- so is the granule of a REC that is there tagged as one
+    rec_tagged : (n : Needed) (rec : ℕ) → is_some (s.rec rec) ≡ true → (n.granule == rec && is_tag n.tag Rec) ≡ true
+        → has_tag s n.granule n.tag ≡ true
+    rec_tagged n rec there gives =
+        let parts = and_parts (n.granule == rec) (is_tag n.tag Rec) gives in
+        rw (tag-from_is_tag n.tag Rec parts.1)
+        (ap (λ g. has_tag s g Rec) (eqb-true n.granule rec parts.0) ∙ sym (sound.recs.tagged rec) ∙ there)
+
     -- so a granule has the tag that a fact gives it
     has_tag-given : (n : Needed) → is_granule s.config.granules n.granule ≡ true → (fact : Fact) → holds fact s ≡ true
         → gives_tag facts n fact ≡ true → has_tag s n.granule n.tag ≡ true
@@ -111,10 +120,8 @@ module _ (s : State) (sound : IsSound s) where
         let none = no_part s owner (from_one (gives_no_owner owner) (no_owner-given s owner sound) parts.1) granule in
         and_from _ _ inside (rw (eqb-true n.granule granule names.0, tag-from_is_tag n.tag Delegated names.1)
         (ap (λ b. b || is_tag (s.tag granule) Delegated) (sym none) ∙ is))
-    has_tag-given n inside (AsksFrom rec base) is gives =
-        let parts = and_parts (n.granule == rec) (is_tag n.tag Rec) gives in
-        let there = sym (sound.recs.tagged rec) ∙ (from_read base (s.rec rec) is).2 in
-        rw (tag-from_is_tag n.tag Rec parts.1) (ap (λ g. has_tag s g Rec) (eqb-true n.granule rec parts.0) ∙ there)
+    has_tag-given n inside (AsksFrom rec base) is gives = rec_tagged n rec (from_read base (s.rec rec) is).2 gives
+    has_tag-given n inside (RunsOn rec at) is gives = rec_tagged n rec (running_there at (s.rec rec) is) gives
     has_tag-given n inside _ is gives = both_ways gives refl
 
     -- so each granule that is named has its tag

@@ -1,8 +1,8 @@
 -- RECs: whose one is, whether it can run, and what it asks for while it runs on no CPU. What a call makes so stays so until another may end it, and
 -- isn't denied.
-use Rattle.std.proofs.Common.{◌≡◌, ℕ, ◌==◌, ◌&&◌, ◌||◌, true, false, Bool, Option, Some, None, IsTrue, is_some, refl, sym, ◌∙◌, ap, eqb-true, eq-eqb, arith, inl, inr}
+use Rattle.std.proofs.Common.{◌≡◌, ℕ, ◌==◌, ◌&&◌, ◌||◌, true, false, Bool, Option, Some, None, IsTrue, is_some, refl, sym, ◌∙◌, ap, eqb-true, eq-eqb, arith, inl, inr, subst}
 use Rattle.std.specs.Prelude.{is_none, nat_lt, not, unwrap_or}
-use Rattle.std.proofs.lemmas.Bool.{and_from, and_parts, cases_Bool, false_from_ne_true, ltb-true, not-true, or_parts}
+use Rattle.std.proofs.lemmas.Bool.{and_from, and_parts, cases_Bool, false_from_ne_true, ltb-true, not-true, or_parts, or_right}
 use Rattle.rmm_spec.specs.declared.call.Call.{Call}
 use Rattle.rmm_spec.specs.declared.call.Call.TheVariants as call
 use Rattle.rmm_spec.specs.declared.change.RecUpdate.{RecUpdate}
@@ -23,13 +23,13 @@ use Rattle.spec_lemmas.proofs.Behind.{behind}
 use Rattle.rmm_laws.proofs.Searches.{inside_runs}
 use Rattle.rmm_laws.proofs.StepLaws.{step-refuses}
 use Rattle.verdict_laws.specs.declared.facts.Fact.{Fact}
-use Rattle.verdict_laws.specs.declared.facts.Fact.TheVariants.{AsksFrom, AsksTo}
+use Rattle.verdict_laws.specs.declared.facts.Fact.TheVariants.{AsksFrom, AsksTo, RunsOrAsksFrom}
 use Rattle.verdict_laws.specs.declared.placing.ExitReason.{ExitReason}
 use Rattle.verdict_laws.specs.declared.placing.ExitReason.TheVariants as exit_reason
 use Rattle.verdict_laws.specs.declared.placing.Standing.{Standing}
 use Rattle.verdict_laws.specs.declared.placing.Standing.TheVariants.{Inside}
 use Rattle.verdict_laws.specs.Denying.{asks_else}
-use Rattle.verdict_laws.specs.Facts.{asks_from, asks_to, can_run, destroys, enters, has_owner, holds, is_left_with, is_told, is_up_to, leaves_with, makes_owned, makes_runnable, moves_request, sets_from, turns_off}
+use Rattle.verdict_laws.specs.Facts.{asks_from, asks_to, can_run, destroys, enters, has_owner, holds, is_left_with, is_told, is_up_to, leaves_with, makes_owned, makes_runnable, moves_request, runs_or_asks, sets_from, turns_off}
 use Rattle.verdict_laws.proofs.RecChanges.{StaysDone, met_record, rec-kept}
 use Rattle.verdict_laws.proofs.Spared.{runs_on-read}
 use Rattle.verdict_laws.proofs.SparedCalls.{idle_elsewhere}
@@ -37,7 +37,7 @@ use Rattle.verdict_laws.proofs.Standings.{by_pending, reason_at, standing-inside
 use Rattle.verdict_laws.proofs.TagFacts.{IsCarried, carried_by}
 
 -- addresses that differ do so either way
-apart : (one other : ℕ) → (one == other) ≡ false → (other == one) ≡ false
+pub apart : (one other : ℕ) → (one == other) ≡ false → (other == one) ≡ false
 apart one other differ = false_from_ne_true (other == one) (λ same. both_ways (eq-eqb one other (sym (eqb-true other one same))) differ)
 
 -- ---- what a call makes
@@ -59,7 +59,7 @@ module _ (s : State) (cpu : ℕ) (given : Reply) (new : State) where
   made_runnable rec _ carried makes = both_ways makes refl
 
   -- one asks for nothing once it is made, and for the rest of a stretch once a part is set
-  made_request : (rec base : ℕ) (c : Call) → IsCarried s cpu c given new → moves_request c given rec base ≡ true
+  pub made_request : (rec base : ℕ) (c : Call) → IsCarried s cpu c given new → moves_request c given rec base ≡ true
       → asks_from (new.rec rec) base ≡ true
   unfolding behind changed reached_change rec_updated moves_request
   made_request rec base (call.RecCreate rd other mpidr flags aux0 aux1) carried makes =
@@ -75,12 +75,12 @@ module _ (s : State) (cpu : ℕ) (given : Reply) (new : State) where
 -- ---- what calls leave
 
 -- a call that sets a part of what the REC asks for
-unfoldable sets_request : Call → ℕ → Bool
+unfoldable pub sets_request : Call → ℕ → Bool
 sets_request (call.RttSetRipas rd other base top) rec = rec == other
 sets_request _ rec = false
 
 -- from elsewhere on, if not from there
-asks_elsewhere : (c : Call) (given : Reply) (rec base : ℕ) → sets_request c rec ≡ true → sets_from c rec base ≡ false
+pub asks_elsewhere : (c : Call) (given : Reply) (rec base : ℕ) → sets_request c rec ≡ true → sets_from c rec base ≡ false
     → asks_else c given rec base ≡ true
 unfolding asks_else sets_from sets_request
 asks_elsewhere (call.RttSetRipas rd other from top) given rec base sets apart =
@@ -201,6 +201,12 @@ pub run_read : (found : Option RecRecord) → can_run found ≡ true → (unwrap
 run_read None is = both_ways is refl
 run_read (Some rec) is = is
 
+-- what asks so on no CPU runs or asks so
+pub runs_or_asks-asking : (base : ℕ) (found : Option RecRecord) → asks_from found base ≡ true → runs_or_asks found base ≡ true
+runs_or_asks-asking base None asks = both_ways asks refl
+runs_or_asks-asking base (Some rec) asks =
+    let parts = and_parts (is_none rec.cpu) ((request_of rec).base == base) asks in or_right (is_some rec.cpu) _ parts.1
+
 -- ---- a REC that leaves
 
 -- why it does, if it asks for a RIPAS, says what it asks for
@@ -236,6 +242,27 @@ module _ (s : State) (cpu : ℕ) (given : Reply) (new : State) (rec base top rip
         rw (carried.done.1, own) (eq-eqb _ base asked.0),
         λ some. rw (carried.done.1, own) (up_to_asked r.request base top ripas asked.1 asked.2 some),
       )
+
+module _ (s : State) (cpu : ℕ) (given : Reply) (new : State) (rec base : ℕ) where
+  -- a call isn't carried out as if a REC that runs on no CPU asked for something from elsewhere on
+  pub rows_asked : (asked : Call) → IsCarried s cpu asked given new
+      → (IsTrue (is_none (rec_at s rec).cpu) → (request_of (rec_at s rec)).base ≡ base) → asks_else asked given rec base ≡ true → ⊥
+  unfolding behind asks_else
+  rows_asked (call.RecEnter other) carried read other_words =
+      let parts = and_parts (rec == other) (not (is_told base given)) other_words in
+      let here = sym (eqb-true rec other parts.0) in
+      let begins = read (subst (λ g. IsTrue (is_none (rec_at s g).cpu)) here carried.rows.1.1.0) in
+      let told : is_told base given ≡ true =
+      ap (is_told base) carried.done.0 ∙ eq-eqb base _ (sym (ap (λ g. (request_of (rec_at s g)).base) here ∙ begins)) in
+      both_ways told (not-true (is_told base given) parts.1)
+  rows_asked (call.RttSetRipas rd other from top) carried read other_words =
+      let parts = and_parts (rec == other) (not (base == from)) other_words in
+      let here = sym (eqb-true rec other parts.0) in
+      let begins = read (subst (λ g. IsTrue (is_none (rec_at s g).cpu)) here carried.rows.1.0) in
+      let same : base ≡ from =
+      sym (eqb-true from _ carried.rows.1.1.1.0 ∙ ap (λ g. (request_of (rec_at s g)).base) here ∙ begins) in
+      both_ways (eq-eqb base from same) (not-true (base == from) parts.1)
+  rows_asked _ carried read other_words = both_ways other_words refl
 
 -- ---- steps
 
@@ -278,24 +305,10 @@ module _ (rec : ℕ) (s new : State) (cpu : ℕ) (command : Command) (given : Re
     pub from-made : is_accepted given ≡ true → moves_request c given rec base ≡ true → asks_from (new.rec rec) base ≡ true
     from-made accepted = made_request s cpu given new rec base c (carried accepted)
 
-    -- a call isn't carried out as if it asked for something from elsewhere on
-    rows_asked : (asked : Call) → IsCarried s cpu asked given new → asks_from (s.rec rec) base ≡ true → asks_else asked given rec base ≡ true → ⊥
-    unfolding behind asks_else rec_at
-    rows_asked (call.RecEnter other) carried is other_words =
-        let parts = and_parts (rec == other) (not (is_told base given)) other_words in
-        let read = from_read base (s.rec rec) is in
-        let told : is_told base given ≡ true =
-        ap (is_told base) carried.done.0
-        ∙ eq-eqb base _ (sym (ap (λ g. (request_of (unwrap_or (s.rec g) no_rec)).base) (sym (eqb-true rec other parts.0)) ∙ read.1)) in
-        both_ways told (not-true (is_told base given) parts.1)
-    rows_asked (call.RttSetRipas rd other from top) carried is other_words =
-        let parts = and_parts (rec == other) (not (base == from)) other_words in
-        let read = from_read base (s.rec rec) is in
-        let begins = eqb-true from _ carried.rows.1.1.1.0 in
-        let same : base ≡ from = sym (begins
-        ∙ ap (λ g. (request_of (unwrap_or (s.rec g) no_rec)).base) (sym (eqb-true rec other parts.0)) ∙ read.1) in
-        both_ways (eq-eqb base from same) (not-true (base == from) parts.1)
-    rows_asked _ carried is other_words = both_ways other_words refl
+    -- so it is read of one that asks for it
+    read_from : asks_from (s.rec rec) base ≡ true → IsTrue (is_none (rec_at s rec).cpu) → (request_of (rec_at s rec)).base ≡ base
+    unfolding rec_at
+    read_from is idle = (from_read base (s.rec rec) is).1
 
     -- until it is destroyed, is entered, or a part is set from there on
     pub from-left : (destroys c rec || enters c rec || sets_from c rec base) ≡ false → asks_from (s.rec rec) base ≡ true
@@ -306,7 +319,7 @@ module _ (rec : ℕ) (s new : State) (cpu : ℕ) (command : Command) (given : Re
         elim (cases_Bool (is_accepted given)) [
           | inl accepted ↦ rec-kept test refl rec s is new cpu command given sound step (λ placed.
               keeps_idle test refl rec s is cpu (from_idle base) c placed parts.0 (λ end sets.
-              absurd (rows_asked c (carried accepted) is (asks_elsewhere c given rec base sets parts.1))))
+              absurd (rows_asked s cpu given new rec base c (carried accepted) (read_from is) (asks_elsewhere c given rec base sets parts.1))))
           | inr refused ↦ ap (λ (t : State). test (t.rec rec)) (step-refuses s new cpu command given step refused) ∙ is
         ]
 
@@ -324,7 +337,8 @@ module _ (rec : ℕ) (s new : State) (cpu : ℕ) (command : Command) (given : Re
   module _ (base : ℕ) where
     pub from-denied : asks_from (s.rec rec) base ≡ true → (is_accepted given && asks_else c given rec base) ≡ true → ⊥
     from-denied is denied =
-        let parts = and_parts (is_accepted given) (asks_else c given rec base) denied in rows_asked base c (carried parts.0) is parts.1
+        let parts = and_parts (is_accepted given) (asks_else c given rec base) denied in
+        rows_asked s cpu given new rec base c (carried parts.0) (read_from base is) parts.1
 
 -- ---- RECs that leave
 
@@ -336,12 +350,20 @@ unfolding leaves_with
 leaves-made fact s new cpu command given standing sound step accepted =
     let c = call_of command in by c standing (carried_by s cpu command given new (outcome s cpu c) sound accepted refl step)
   where
-    of_reason : (fact : Fact) (rec : ℕ) (reason : ExitReason) → IsCarried s cpu call.Exit given new → standing_of s cpu ≡ Inside rec reason
-        → is_left_with fact rec reason ≡ true → holds fact new ≡ true
-    of_reason (AsksFrom rec base) at (exit_reason.RipasChange from top ripas) carried stands leaves =
+    from_reason : (rec base at from top ripas : ℕ) → IsCarried s cpu call.Exit given new
+        → standing_of s cpu ≡ Inside at (exit_reason.RipasChange from top ripas) → (rec == at && base == from) ≡ true
+        → asks_from (new.rec rec) base ≡ true
+    from_reason rec base at from top ripas carried stands leaves =
         let parts = and_parts (rec == at) (base == from) leaves in
         (λ i. asks_from (new.rec (eqb-true rec at parts.0 i)) (eqb-true base from parts.1 i))
         ∙ (left_asking s cpu given new at from top ripas stands carried).0
+
+    of_reason : (fact : Fact) (rec : ℕ) (reason : ExitReason) → IsCarried s cpu call.Exit given new → standing_of s cpu ≡ Inside rec reason
+        → is_left_with fact rec reason ≡ true → holds fact new ≡ true
+    of_reason (AsksFrom rec base) at (exit_reason.RipasChange from top ripas) carried stands leaves =
+        from_reason rec base at from top ripas carried stands leaves
+    of_reason (RunsOrAsksFrom rec base) at (exit_reason.RipasChange from top ripas) carried stands leaves =
+        runs_or_asks-asking base (new.rec rec) (from_reason rec base at from top ripas carried stands leaves)
     of_reason (AsksTo rec top ripas) at (exit_reason.RipasChange from its_top its_ripas) carried stands leaves =
         let parts = and_parts (rec == at && top == its_top && ripas == its_ripas) (nat_lt from its_top) leaves in
         let outer = and_parts (rec == at && top == its_top) (ripas == its_ripas) parts.0 in

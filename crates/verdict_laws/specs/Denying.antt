@@ -12,7 +12,7 @@ use Rattle.rmm_spec.specs.Ownership.{is_accepted}
 use Rattle.rmm_spec.specs.Rows.{Needed, all_allowed}
 use Rattle.rmm_spec.specs.Step.Terms.{Way, is_page, named, way_of, words_of}
 use Rattle.verdict_laws.specs.declared.facts.Fact.{Fact}
-use Rattle.verdict_laws.specs.declared.facts.Fact.TheVariants.{NewRealm, Tagged, Covered, Wide, SoleVmid, PartOf, Unassigned, UnassignedRam, Assigned, HasRipas, Activated, OwnedBy, Runnable, AsksFrom, AsksTo}
+use Rattle.verdict_laws.specs.declared.facts.Fact.TheVariants.{NewRealm, Tagged, Covered, Wide, SoleVmid, PartOf, Unassigned, UnassignedRam, Assigned, HasRipas, Activated, OwnedBy, Runnable, RunsOn, AsksFrom, RunsOrAsksFrom, AsksTo}
 use Rattle.verdict_laws.specs.declared.placing.Standing.{Standing}
 use Rattle.verdict_laws.specs.declared.placing.Standing.TheVariants.{Inside}
 use Rattle.verdict_laws.specs.Separate.{is_freed}
@@ -71,6 +71,13 @@ asks_else (call.RecEnter other) given rec base = rec == other && not (is_told ba
 asks_else (call.RttSetRipas rd other from top) given rec base = rec == other && not (base == from)
 asks_else _ given rec base = false
 
+-- whether the call is refused where the REC runs
+unfoldable pub needs_idle : Call → ℕ → Bool
+needs_idle (call.RecEnter other) rec = rec == other
+needs_idle (call.RecDestroy other) rec = rec == other
+needs_idle (call.RttSetRipas rd other base top) rec = rec == other
+needs_idle _ rec = false
+
 -- whether the call reports the address's entry of the last level, if that is there
 unfoldable pub reads_entry : Call → ℕ → ℕ → Bool
 reads_entry (call.RttReadEntry other at level) rd ipa = rd == other && level == 3 && is_one_entry ipa at
@@ -107,7 +114,9 @@ denies (HasRipas rd ipa ripas) c given = is_accepted given && reads_entry c rd i
 denies (Activated rd) c given = is_accepted given && needs_new c rd
 denies (OwnedBy rec rd) c given = false
 denies (Runnable rec) c given = false
+denies (RunsOn rec at) c given = is_accepted given && needs_idle c rec
 denies (AsksFrom rec base) c given = is_accepted given && asks_else c given rec base
+denies (RunsOrAsksFrom rec base) c given = is_accepted given && asks_else c given rec base
 denies (AsksTo rec top ripas) c given = false
 
 -- ---- replies that several deny
@@ -123,6 +132,7 @@ abbrev pub gives_tag : List Fact → Needed → Fact → Bool
 gives_tag facts n (Tagged granule tag) = n.granule == granule && is_tag n.tag tag
 gives_tag facts n (Wide rd width) = n.granule == rd && is_tag n.tag Rd
 gives_tag facts n (PartOf granule owner) = n.granule == granule && is_tag n.tag Delegated && list_any (gives_no_owner owner) facts
+gives_tag facts n (RunsOn rec at) = n.granule == rec && is_tag n.tag Rec
 gives_tag facts n (AsksFrom rec base) = n.granule == rec && is_tag n.tag Rec
 gives_tag facts n _ = false
 

@@ -10,12 +10,12 @@ use Rattle.rmm_spec.specs.declared.reply.Reply.{Reply}
 use Rattle.rmm_spec.specs.declared.reply.Reply.TheVariants as reply
 use Rattle.rmm_spec.specs.declared.tag.Tag.{Tag}
 use Rattle.rmm_spec.specs.declared.tag.Tag.TheVariants.{Undelegated, Delegated, Rd, Rec, RecAux, Data, Rtt}
-use Rattle.rmm_spec.specs.Lookup.{any_below, has_vmid, is_new, request_of, ripas_number, tag_number}
+use Rattle.rmm_spec.specs.Lookup.{any_below, has_vmid, is_new, request_of, ripas_number, runs_on, tag_number}
 use Rattle.rmm_spec.specs.Rows.{Needed}
 use Rattle.rmm_spec.specs.State.{RealmRecord, RecRecord, Request, State}
 use Rattle.rmm_spec.specs.Walk.{entry_number, entry_ripas, is_multiple, is_ram, is_unassigned, table_number, table_size}
 use Rattle.verdict_laws.specs.declared.facts.Fact.{Fact}
-use Rattle.verdict_laws.specs.declared.facts.Fact.TheVariants.{NewRealm, Tagged, Covered, Wide, SoleVmid, PartOf, Unassigned, UnassignedRam, Assigned, HasRipas, Activated, OwnedBy, Runnable, AsksFrom, AsksTo}
+use Rattle.verdict_laws.specs.declared.facts.Fact.TheVariants.{NewRealm, Tagged, Covered, Wide, SoleVmid, PartOf, Unassigned, UnassignedRam, Assigned, HasRipas, Activated, OwnedBy, Runnable, RunsOn, AsksFrom, RunsOrAsksFrom, AsksTo}
 use Rattle.verdict_laws.specs.declared.placing.ExitReason.{ExitReason}
 use Rattle.verdict_laws.specs.declared.placing.ExitReason.TheVariants.{RipasChange}
 use Rattle.verdict_laws.specs.declared.placing.Standing.{Standing}
@@ -109,6 +109,11 @@ abbrev pub asks_from : Option RecRecord → ℕ → Bool
 asks_from None base = false
 asks_from (Some rec) base = is_none rec.cpu && (request_of rec).base == base
 
+-- whether a REC is there, and runs, or what it asks for begins at the address, or is nothing and the address is 0
+abbrev pub runs_or_asks : Option RecRecord → ℕ → Bool
+runs_or_asks None base = false
+runs_or_asks (Some rec) base = is_some rec.cpu || (request_of rec).base == base
+
 -- whether something is asked for that ends at the address, and is the RIPAS of that number
 abbrev pub is_up_to : Option Request → ℕ → ℕ → Bool
 is_up_to None top ripas = false
@@ -134,7 +139,9 @@ holds (HasRipas rd ipa ripas) s = has_ripas (s.leaf rd 3 (entry_number 3 ipa)) r
 holds (Activated rd) s = has_run (s.realm rd)
 holds (OwnedBy rec rd) s = has_owner (s.rec rec) rd
 holds (Runnable rec) s = can_run (s.rec rec)
+holds (RunsOn rec at) s = runs_on at (s.rec rec)
 holds (AsksFrom rec base) s = asks_from (s.rec rec) base
+holds (RunsOrAsksFrom rec base) s = runs_or_asks (s.rec rec) base
 holds (AsksTo rec top ripas) s = asks_to (s.rec rec) top ripas
 
 -- whether it does before the first call
@@ -152,7 +159,9 @@ begins (HasRipas rd ipa ripas) = false
 begins (Activated rd) = false
 begins (OwnedBy rec rd) = false
 begins (Runnable rec) = false
+begins (RunsOn rec at) = false
 begins (AsksFrom rec base) = false
+begins (RunsOrAsksFrom rec base) = false
 begins (AsksTo rec top ripas) = false
 
 -- ---- calls that make it
@@ -236,6 +245,10 @@ unfoldable pub makes_runnable : Call → ℕ → Bool
 makes_runnable (call.RecCreate rd other mpidr flags aux0 aux1) rec = rec == other && flags == 1
 makes_runnable _ rec = false
 
+unfoldable pub enters : Call → ℕ → Bool
+enters (call.RecEnter other) rec = rec == other
+enters _ rec = false
+
 -- whether the only word is the address
 abbrev pub is_word : ℕ → List ℕ → Bool
 is_word address (word ∷ []) = address == word
@@ -261,24 +274,26 @@ tags c given granule RecAux = false
 tags c given granule Data = gives_page c granule
 tags c given granule Rtt = false
 
--- Whether the call makes the fact, where it is carried out with that reply. Each realm has addresses of 39 bits at least, and the lower half of
+-- Whether the CPU's call makes the fact, where it is carried out with that reply. Each realm has addresses of 39 bits at least, and the lower half of
 -- them is protected, so below 2 ^ 38 a new table of the last level has unassigned entries alone.
-abbrev pub makes : Fact → Call → Reply → Bool
-makes (NewRealm rd) c given = makes_realm c rd
-makes (Tagged granule tag) c given = tags c given granule tag
-makes (Covered rd level ipa) c given = makes_table c rd level ipa
-makes (Wide rd width) c given = makes_wide c rd width
-makes (SoleVmid rd vmid) c given = makes_vmid c rd vmid
-makes (PartOf granule owner) c given = takes_part c granule owner
-makes (Unassigned rd ipa) c given = frees_entry c rd ipa || (makes_table c rd 3 ipa && nat_lt ipa (2 ^ 38))
-makes (UnassignedRam rd ipa) c given = sets_ram c given rd ipa
-makes (Assigned rd ipa page) c given = gives_entry c rd ipa page
-makes (HasRipas rd ipa ripas) c given = ripas == 1 && (sets_ram c given rd ipa || creates_page c rd ipa)
-makes (Activated rd) c given = activates c rd
-makes (OwnedBy rec rd) c given = makes_owned c rec rd
-makes (Runnable rec) c given = makes_runnable c rec
-makes (AsksFrom rec base) c given = moves_request c given rec base
-makes (AsksTo rec top ripas) c given = false
+abbrev pub makes : Fact → ℕ → Call → Reply → Bool
+makes (NewRealm rd) cpu c given = makes_realm c rd
+makes (Tagged granule tag) cpu c given = tags c given granule tag
+makes (Covered rd level ipa) cpu c given = makes_table c rd level ipa
+makes (Wide rd width) cpu c given = makes_wide c rd width
+makes (SoleVmid rd vmid) cpu c given = makes_vmid c rd vmid
+makes (PartOf granule owner) cpu c given = takes_part c granule owner
+makes (Unassigned rd ipa) cpu c given = frees_entry c rd ipa || (makes_table c rd 3 ipa && nat_lt ipa (2 ^ 38))
+makes (UnassignedRam rd ipa) cpu c given = sets_ram c given rd ipa
+makes (Assigned rd ipa page) cpu c given = gives_entry c rd ipa page
+makes (HasRipas rd ipa ripas) cpu c given = ripas == 1 && (sets_ram c given rd ipa || creates_page c rd ipa)
+makes (Activated rd) cpu c given = activates c rd
+makes (OwnedBy rec rd) cpu c given = makes_owned c rec rd
+makes (Runnable rec) cpu c given = makes_runnable c rec
+makes (RunsOn rec at) cpu c given = at == cpu && enters c rec
+makes (AsksFrom rec base) cpu c given = moves_request c given rec base
+makes (RunsOrAsksFrom rec base) cpu c given = moves_request c given rec base
+makes (AsksTo rec top ripas) cpu c given = false
 
 -- whether the call, carried out with that reply, sets the RIPAS that the REC asks for, and the address has an entry there of the last level
 unfoldable pub sets_ripas : Call → Reply → ℕ → ℕ → ℕ → Bool
@@ -294,6 +309,7 @@ makes_with other fact c given = false
 -- whether the fact is so of a REC that leaves for the reason; what is asked for has pages
 abbrev pub is_left_with : Fact → ℕ → ExitReason → Bool
 is_left_with (AsksFrom rec base) at (RipasChange from top ripas) = rec == at && base == from
+is_left_with (RunsOrAsksFrom rec base) at (RipasChange from top ripas) = rec == at && base == from
 is_left_with (AsksTo rec top ripas) at (RipasChange from its_top its_ripas) = rec == at && top == its_top && ripas == its_ripas && nat_lt from its_top
 is_left_with _ at reason = false
 
@@ -367,35 +383,44 @@ may_retag c given granule RecAux = true
 may_retag c given granule Data = is_freed c given granule
 may_retag c given granule Rtt = true
 
--- whether the call may turn the REC off: that of its CPU isn't looked at
+-- whether the call may turn the REC off, where its CPU is in that
 unfoldable pub turns_off : Call → Bool
 turns_off call.CpuOff = true
 turns_off _ = false
 
-unfoldable pub enters : Call → ℕ → Bool
-enters (call.RecEnter other) rec = rec == other
-enters _ rec = false
+-- whether a REC leaves by the call
+unfoldable pub exits : Call → Bool
+exits call.Exit = true
+exits _ = false
 
 -- whether the call sets a part of what the REC asks for, from there on
 unfoldable pub sets_from : Call → ℕ → ℕ → Bool
 sets_from (call.RttSetRipas rd other from top) rec base = rec == other && base == from
 sets_from _ rec base = false
 
--- whether the call may end the fact, where it is carried out with that reply
-abbrev pub may_end : Fact → Call → Reply → Bool
-may_end (NewRealm rd) c given = may_activate c rd
-may_end (Tagged granule tag) c given = may_retag c given granule tag
-may_end (Covered rd level ipa) c given = may_uncover c rd level ipa
-may_end (Wide rd width) c given = may_narrow c rd
-may_end (SoleVmid rd vmid) c given = may_share c rd vmid
-may_end (PartOf granule owner) c given = needs (changeable c) granule Delegated
-may_end (Unassigned rd ipa) c given = may_assign c rd ipa
-may_end (UnassignedRam rd ipa) c given = may_assign c rd ipa || frees_entry c rd ipa || may_set_ripas c rd ipa
-may_end (Assigned rd ipa page) c given = may_assign c rd ipa || frees_entry c rd ipa
-may_end (HasRipas rd ipa ripas) c given =
+-- whether the CPU's call may end the fact, where it is carried out with that reply
+abbrev pub may_end : Fact → ℕ → Call → Reply → Bool
+may_end (NewRealm rd) cpu c given = may_activate c rd
+may_end (Tagged granule tag) cpu c given = may_retag c given granule tag
+may_end (Covered rd level ipa) cpu c given = may_uncover c rd level ipa
+may_end (Wide rd width) cpu c given = may_narrow c rd
+may_end (SoleVmid rd vmid) cpu c given = may_share c rd vmid
+may_end (PartOf granule owner) cpu c given = needs (changeable c) granule Delegated
+may_end (Unassigned rd ipa) cpu c given = may_assign c rd ipa
+may_end (UnassignedRam rd ipa) cpu c given = may_assign c rd ipa || frees_entry c rd ipa || may_set_ripas c rd ipa
+may_end (Assigned rd ipa page) cpu c given = may_assign c rd ipa || frees_entry c rd ipa
+may_end (HasRipas rd ipa ripas) cpu c given =
     may_reshape c rd ipa || (if ripas == 1 then frees_entry c rd ipa else creates_page c rd ipa) || may_set_ripas c rd ipa || may_init c rd
-may_end (Activated rd) c given = may_narrow c rd
-may_end (OwnedBy rec rd) c given = destroys c rec
-may_end (Runnable rec) c given = destroys c rec || turns_off c
-may_end (AsksFrom rec base) c given = destroys c rec || enters c rec || sets_from c rec base
-may_end (AsksTo rec top ripas) c given = destroys c rec || enters c rec
+may_end (Activated rd) cpu c given = may_narrow c rd
+may_end (OwnedBy rec rd) cpu c given = destroys c rec
+may_end (Runnable rec) cpu c given = destroys c rec || turns_off c
+may_end (RunsOn rec at) cpu c given = exits c && at == cpu
+may_end (AsksFrom rec base) cpu c given = destroys c rec || enters c rec || sets_from c rec base
+may_end (RunsOrAsksFrom rec base) cpu c given = destroys c rec || exits c || sets_from c rec base
+may_end (AsksTo rec top ripas) cpu c given = destroys c rec || enters c rec
+
+-- whether the call of a CPU that stands there leaves the fact, though it may end it from elsewhere: its CPU is in another REC
+unfoldable pub stays_with : Fact → Call → Standing → Bool
+stays_with (Runnable rec) call.CpuOff (Inside at reason) = not (rec == at)
+stays_with (RunsOrAsksFrom rec base) call.Exit (Inside at reason) = not (rec == at)
+stays_with fact _ standing = false

@@ -12,12 +12,17 @@ use Rattle.verdict_laws.specs.declared.placing.Standing.{Standing}
 use Rattle.verdict_laws.specs.Placing.{StandsBefore}
 use Rattle.verdict_laws.specs.Slices.{ChangesNothing, IsBack, IsDoneBefore}
 use Rattle.verdict_laws.specs.Denying.{deny, deny_inside}
-use Rattle.verdict_laws.specs.Facts.{begins, leaves_with, makes, makes_with, may_end}
+use Rattle.verdict_laws.specs.Facts.{begins, leaves_with, makes, makes_with, may_end, stays_with}
 
 -- the call doesn't end the fact, whatever it is replied, if it returned without that
 abbrev pub IsLeftBy : Fact → List Event → ℕ → ℕ → Command → Type 0
 IsLeftBy fact events cpu number command = (given : Reply)
-    → ((returned : ℕ) (told : Reply) → IsReturned events returned cpu number told → told ≡ given) → may_end fact (call_of command) given ≡ false
+    → ((returned : ℕ) (told : Reply) → IsReturned events returned cpu number told → told ≡ given) → may_end fact cpu (call_of command) given ≡ false
+
+-- nor does it where its CPU stands
+abbrev pub IsLeftElsewhere : Fact → List Event → ℕ → ℕ → Command → Type 0
+IsLeftElsewhere fact events cpu number command =
+    (standing : Standing) × StandsBefore events cpu number standing × (stays_with fact (call_of command) standing ≡ true)
 
 -- The call that is made at the one place returned before the other.
 pub record IsOver (events : List Event) (place at : ℕ) : Type 0 where
@@ -34,12 +39,13 @@ pub record IsOver (events : List Event) (place at : ℕ) : Type 0 where
 abbrev pub IsLeftAt : Fact → List Event → (place at cpu number : ℕ) → Command → Type 0
 IsLeftAt fact events place at cpu number command =
     ChangesNothing events cpu number command
-    ⊎ ((at ≡ place) ⊎ (IsOver events place at ⊎ IsLeftBy fact events cpu number command))
+    ⊎ ((at ≡ place) ⊎ (IsOver events place at
+    ⊎ (IsLeftBy fact events cpu number command ⊎ IsLeftElsewhere fact events cpu number command)))
 
 -- The call makes the fact, by what it says and is replied, or as a REC leaves there that its CPU stands in.
 abbrev pub IsMadeBy : Fact → (events : List Event) → {place : ℕ} → IsDoneBefore events place → Type 0
 IsMadeBy fact events maker =
-    (makes fact (call_of maker.command) maker.given ≡ true)
+    (makes fact maker.cpu (call_of maker.command) maker.given ≡ true)
     ⊎ ((standing : Standing) × StandsBefore events maker.cpu maker.number standing × (leaves_with fact (call_of maker.command) standing ≡ true))
 
 -- each call leaves the fact, but for the one that is made at the one place and those that returned before that

@@ -41,8 +41,12 @@ pub enum Fact {
     OwnedBy { rec: u64, rd: u64 },
     /// The REC is there, was made runnable, and didn't turn itself off.
     Runnable { rec: u64 },
+    /// The REC is there, and runs on the CPU.
+    RunsOn { rec: u64, cpu: u8 },
     /// The REC is there, runs on no CPU, and asks for a RIPAS from the address on, or for none where that is 0.
     AsksFrom { rec: u64, base: u64 },
+    /// The REC is there, and runs on a CPU or asks for a RIPAS from the address on, or for none where that is 0.
+    RunsOrAsksFrom { rec: u64, base: u64 },
     /// The REC is there, runs on no CPU, and asks for the RIPAS, by its number, up to the address.
     AsksTo { rec: u64, top: u64, ripas: u64 },
 }
