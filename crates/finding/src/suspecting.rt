@@ -43,24 +43,36 @@ pub(crate) fn first_unguessed(
         return Ok(Some(first));
     }
     let parts = parts_from(alloc, offers, history, first_of(&open.called, place))?;
-    if !is_guessed_up_to(alloc, offers, &parts, place)? {
+    let last = last_return(history, place);
+    first_among(alloc, offers, &parts, &open.related, first, last)
+}
+
+/// The same, by first parts of the history: up to the places of related returns, and then up to the last place.
+fn first_among(
+    alloc: Global,
+    offers: &mut Offers,
+    parts: &FirstParts<'_>,
+    related: &[Option<u32>; 8],
+    first: Suspect,
+    last: u32,
+) -> Result<Option<Suspect>, AllocError> {
+    if !is_guessed_up_to(alloc, offers, parts, first.place)? {
         return Ok(Some(first));
     }
-    let mut guessed = place;
+    let mut guessed = first.place;
     for _cpu in 0..8 {
-        let Some(next) = next_after(&open.related, guessed) else {
+        let Some(next) = next_after(related, guessed) else {
             break;
         };
-        if !is_guessed_up_to(alloc, offers, &parts, next)? {
-            return first_up_to(alloc, offers, &parts, guessed, next);
+        if !is_guessed_up_to(alloc, offers, parts, next)? {
+            return first_up_to(alloc, offers, parts, guessed, next);
         }
         guessed = next;
     }
-    let last = last_return(history, place);
-    if last <= guessed || is_guessed_up_to(alloc, offers, &parts, last)? {
+    if last <= guessed || is_guessed_up_to(alloc, offers, parts, last)? {
         return Ok(None);
     }
-    let first = first_between(alloc, offers, &parts, guessed, last)?;
+    let first = first_between(alloc, offers, parts, guessed, last)?;
     Ok(Some(first))
 }
 

@@ -1,5 +1,5 @@
 -- What is looked at of calls for the facts of a history.
-use Rattle.std.specs.Prelude.{◌≡◌, ℕ, ◌⊎◌, true, false, List, Option, IfSome}
+use Rattle.std.specs.Prelude.{◌≡◌, ℕ, ◌⊎◌, ◌&&◌, true, false, List, Option, IfSome}
 use Rattle.rmi_view.specs.Seen.{reply_seen}
 use Rattle.rmm_spec.specs.declared.command.Command.{Command}
 use Rattle.rmm_spec.specs.declared.event.Event.{Event}
@@ -9,8 +9,9 @@ use Rattle.rmm_spec.specs.Linearization.{IsCalled}
 use Rattle.verdict_laws.specs.declared.facts.Fact.{Fact}
 use Rattle.verdict_laws.specs.declared.placing.Standing.{Standing}
 use Rattle.verdict_laws.specs.Denying.{deny_inside}
-use Rattle.verdict_laws.specs.Facts.{leaves_with, makes, makes_with, may_end, stays_with}
+use Rattle.verdict_laws.specs.Facts.{frees_entry, leaves_with, makes, makes_with, may_end, stays_with}
 use Rattle.verdict_laws.specs.HeldFacts.{IsHeldAlone, IsLeftAt, IsLeftSince}
+use Rattle.verdict_laws.specs.Separate.{is_freed}
 use Rattle.verdict_laws.specs.Placing.{StandsBefore}
 use Rattle.verdict_laws.specs.Slices.{IsDoneBefore}
 use Rattle.slicing.specs.declared.call_at.CallAt.{CallAt}
@@ -22,6 +23,11 @@ use Rattle.slicing.specs.Unused.{IsNoLater}
 -- the call doesn't end the fact, with its reply if it returned, or any
 abbrev pub DoesNotEnd : Fact → CallAt → Type 0
 DoesNotEnd fact c = (given : Reply) → IfSome c.answer (λ a. reply_seen a.reply ≡ given) → may_end fact c.cpu c.call given ≡ false
+
+-- it doesn't give back the page at the address, with its reply if it returned, or any
+abbrev pub DoesNotFree : ℕ → ℕ → ℕ → CallAt → Type 0
+DoesNotFree rd ipa page c =
+    (given : Reply) → IfSome c.answer (λ a. reply_seen a.reply ≡ given) → (frees_entry c.call rd ipa && is_freed c.call given page) ≡ false
 
 -- the call is made at the place, changes nothing, or doesn't end the fact
 abbrev pub LeavesAt : Fact → ℕ → CallAt → Type 0

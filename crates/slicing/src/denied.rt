@@ -12,7 +12,8 @@ use crate::call_at::{CallAt, call_at};
 use crate::denying::{deny, deny_inside};
 use crate::done::{Done, done_before, is_no_later};
 use crate::early::{are_back, open_from};
-use crate::ending::{is_left, stays_with};
+use crate::elsewhere::stays_with;
+use crate::ending::is_left;
 use crate::last_return::{LastReturn, last_return};
 use crate::making::{begins, makes};
 use crate::making_recs::{leaves_with, makes_with};
@@ -20,7 +21,9 @@ use crate::standing::standing_before;
 use crate::supposing::{
     maker_before, supposed, supposed_entry, supposed_page, supposed_tag, supposed_together,
 };
-use crate::supposing_recs::{supposed_asking, supposed_idle, supposed_of_rec, supposed_running};
+use crate::supposing_recs::{
+    supposed_asking, supposed_idle, supposed_of_rec, supposed_running, supposed_stopped,
+};
 use crate::supposing_ripas::{maker_with, supposed_inside};
 use history::History;
 use rmm_spec::Call;
@@ -56,11 +59,13 @@ fn is_denied_together(history: &History, count: u32, last: &LastReturn<'_>) -> b
 {
     let named = supposed_together(history, count, last);
     let of_rec = supposed_of_rec(history, count, last);
-    let idle = supposed_idle(history, count, last);
+    let idle = supposed_idle(last);
+    let stopped = supposed_stopped(history, count, last);
     let inside = supposed_inside(history, count, last);
     are_denying(history, count, last, named.as_slice())
         || are_denying(history, count, last, of_rec.as_slice())
         || are_denying(history, count, last, idle.as_slice())
+        || are_denying(history, count, last, stopped.as_slice())
         || are_denying(history, count, last, inside.as_slice())
 }
 

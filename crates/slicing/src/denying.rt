@@ -7,11 +7,11 @@ ghost use Rattle.verdict_laws.specs.Denying as laws;
 ghost use Rattle.verdict_laws.specs.declared.facts.Fact.TheVariants.{Assigned, Tagged};
 
 use crate::call_at::shows_names;
+use crate::denying_recs::{asks_else, asks_outside, needs_idle};
 use crate::given_back::freed;
 use crate::giving::{are_within, give_tags};
-use crate::giving_recs::{are_ready, enters_run, give_other_ripas};
+use crate::giving_recs::{are_ready, enters_run, give_other_ripas, is_stopped};
 use crate::making::{creates_page, frees_entry, is_one_entry, is_one_table};
-use crate::making_recs::is_told;
 use command_words::{Name, is_tag, named, way_of, words_allow};
 use memory_map::Config;
 use rmi_view::ReplyRef;
@@ -31,7 +31,7 @@ pub(crate) fn deny(config: &Config, facts: &[Fact], call: &Call, reply: ReplyRef
         ReplyRef::Err(1, _) => {
             words_allow(call)
                 && give_tags(config, facts, named(call).as_slice())
-                && are_within(facts, call)
+                && (are_within(facts, call) || is_stopped(facts, call))
         }
         ReplyRef::Err(2, 0) => enters_run(facts, call),
         ReplyRef::Err(3, _) => are_ready(facts, call),
@@ -71,40 +71,17 @@ pub(crate) fn denies(fact: Fact, call: &Call, reply: ReplyRef<'_>) -> bool
                 && !is_reported(3, ripas, reply)
         }
         Fact::Activated { rd } => matches!(reply, ReplyRef::Ok(_)) && needs_new(call, rd),
-        Fact::AsksFrom { rec, base } | Fact::RunsOrAsksFrom { rec, base } => {
+        Fact::AsksFrom { rec, base } => {
             matches!(reply, ReplyRef::Ok(_)) && asks_else(call, reply, rec, base)
         }
+        Fact::RunsOrAsksWithin { rec, least, most } => {
+            matches!(reply, ReplyRef::Ok(_)) && asks_outside(call, reply, rec, least, most)
+        }
         Fact::RunsOn { rec, .. } => matches!(reply, ReplyRef::Ok(_)) && needs_idle(call, rec),
-        Fact::OwnedBy { .. } | Fact::Runnable { .. } | Fact::AsksTo { .. } => false,
-    }
-}
-
-/// Whether the call is carried out as if the REC asked for something from another address on.
-#[tactic(auto, unfolding(verdict_laws::specs::Denying::asks_else))]
-fn asks_else(call: &Call, reply: ReplyRef<'_>, rec: u64, base: u64) -> bool
-    ensures { result ≡ laws.asks_else call.now (reply_seen reply.entry) rec base }
-{
-    match call {
-        Call::RecEnter { rec: other } => rec == *other && !is_told(base, reply),
-        Call::RttSetRipas {
-            rec: other,
-            base: from,
-            ..
-        } => rec == *other && base != *from,
-        _ => false,
-    }
-}
-
-/// Whether the call is refused where the REC runs.
-#[tactic(auto, unfolding(verdict_laws::specs::Denying::needs_idle))]
-fn needs_idle(call: &Call, rec: u64) -> bool
-    ensures { result ≡ laws.needs_idle call.now rec }
-{
-    match call {
-        Call::RecEnter { rec: other }
-        | Call::RecDestroy { rec: other }
-        | Call::RttSetRipas { rec: other, .. } => rec == *other,
-        _ => false,
+        Fact::OwnedBy { .. }
+        | Fact::Runnable { .. }
+        | Fact::Idle { .. }
+        | Fact::RunsOrAsksTo { .. } => false,
     }
 }
 

@@ -2,7 +2,7 @@
 
 ghost use Rattle.std.specs.Prelude.{◌≡◌, ◌==◌, false, if◌then◌else◌, IsTrue};
 ghost use Rattle.rmm_spec.specs.declared.tag.Tag.TheVariants.{Data};
-ghost use Rattle.slicing.specs.Facts.{DoesNotEnd};
+ghost use Rattle.slicing.specs.Facts.{DoesNotEnd, DoesNotFree};
 ghost use Rattle.verdict_laws.specs.Facts as laws;
 ghost use Rattle.verdict_laws.specs.Slices as slices;
 ghost use Rattle.verdict_laws.specs.declared.facts.Fact.TheVariants.{Tagged};
@@ -11,11 +11,11 @@ use crate::call_at::CallAt;
 use crate::given_back::freed;
 use crate::kinds::changeable;
 use crate::making::{creates_page, creates_unknown, frees_entry, is_one_entry, is_one_table};
-use crate::making_recs::enters;
+use crate::making_recs::{enters, is_within};
 use command_words::{Name, is_tag};
 use memory_map::entry_number;
 use rmm_spec::{Call, Tag};
-use verdict_laws::{Fact, Standing};
+use verdict_laws::Fact;
 
 /// Whether the call doesn't end the fact, by its reply if it returned.
 pub(crate) fn is_left(fact: Fact, call: &CallAt<'_>) -> bool
@@ -34,8 +34,8 @@ pub(crate) fn is_left(fact: Fact, call: &CallAt<'_>) -> bool
                 && !frees_entry(&call.call, rd, ipa)
                 && !may_set_ripas(&call.call, rd, ipa)
         }
-        Fact::Assigned { rd, ipa, .. } => {
-            !may_assign(&call.call, rd, ipa) && !frees_entry(&call.call, rd, ipa)
+        Fact::Assigned { rd, ipa, page } => {
+            !may_reshape(&call.call, rd, ipa) && !may_free_at(call, rd, ipa, page)
         }
         Fact::HasRipas { rd, ipa, ripas } => {
             !may_reshape(&call.call, rd, ipa)
@@ -52,25 +52,13 @@ pub(crate) fn is_left(fact: Fact, call: &CallAt<'_>) -> bool
                 && !enters(&call.call, rec)
                 && !sets_from(&call.call, rec, base)
         }
-        Fact::RunsOrAsksFrom { rec, base } => {
-            !destroys(&call.call, rec) && !exits(&call.call) && !sets_from(&call.call, rec, base)
+        Fact::RunsOrAsksWithin { rec, least, most } => {
+            !destroys(&call.call, rec)
+                && !exits(&call.call)
+                && !sets_past(&call.call, rec, least, most)
         }
-        Fact::AsksTo { rec, .. } => !destroys(&call.call, rec) && !enters(&call.call, rec),
-    }
-}
-
-/// Whether the call of a CPU that stands there leaves the fact, though it may end it from elsewhere: its CPU is in another REC.
-#[tactic(auto, unfolding(verdict_laws::specs::Facts::stays_with))]
-pub(crate) fn stays_with(fact: Fact, call: &Call, standing: Standing) -> bool
-    ensures { result ≡ laws.stays_with fact call.now standing }
-{
-    let Standing::Inside { rec: at, .. } = standing else {
-        return false;
-    };
-    match fact {
-        Fact::Runnable { rec } => matches!(call, Call::CpuOff) && rec != at,
-        Fact::RunsOrAsksFrom { rec, .. } => matches!(call, Call::Exit) && rec != at,
-        _ => false,
+        Fact::Idle { rec } => !destroys(&call.call, rec) && !enters(&call.call, rec),
+        Fact::RunsOrAsksTo { rec, .. } => !destroys(&call.call, rec) && !exits(&call.call),
     }
 }
 
@@ -91,6 +79,22 @@ fn sets_from(call: &Call, rec: u64, base: u64) -> bool
             base: from,
             ..
         } => rec == *other && base == *from,
+        _ => false,
+    }
+}
+
+/// Whether the call sets a part of what the REC asks for, from one of these addresses on, and may go past them.
+#[tactic(auto, unfolding(verdict_laws::specs::Facts::sets_past))]
+fn sets_past(call: &Call, rec: u64, least: u64, most: u64) -> bool
+    ensures { result ≡ laws.sets_past call.now rec least most }
+{
+    match call {
+        Call::RttSetRipas {
+            rec: other,
+            base,
+            top,
+            ..
+        } => rec == *other && is_within(least, most, *base) && *top > most,
         _ => false,
     }
 }
@@ -261,6 +265,19 @@ fn destroys(call: &Call, granule: u64) -> bool
         Call::RealmDestroy { rd } => *rd == granule,
         Call::RecDestroy { rec } => *rec == granule,
         _ => false,
+    }
+}
+
+/// Whether the call may give back the page at the address.
+fn may_free_at(call: &CallAt<'_>, rd: u64, ipa: u64, page: u64) -> bool
+    ensures { result ≡ false → DoesNotFree rd ipa page call.now }
+{
+    if !frees_entry(&call.call, rd, ipa) {
+        return false;
+    }
+    match &call.answer {
+        Some(answer) => freed(&call.call, answer.reply) == Some(page),
+        None => true,
     }
 }
 

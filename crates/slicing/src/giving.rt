@@ -43,7 +43,7 @@ fn gives_tag(facts: &[Fact], name: &Name, fact: Fact) -> bool
                 && is_tag(name.tag, Tag::Delegated)
                 && give_no_owner(facts, owner)
         }
-        Fact::RunsOn { rec, .. } | Fact::AsksFrom { rec, .. } => {
+        Fact::Idle { rec } | Fact::RunsOn { rec, .. } | Fact::AsksFrom { rec, .. } => {
             name.granule == rec && is_tag(name.tag, Tag::Rec)
         }
         _ => false,

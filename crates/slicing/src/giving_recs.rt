@@ -50,7 +50,7 @@ fn gives_top(fact: Fact, rec: u64, top: u64) -> bool
     ensures { result ≡ laws.gives_top rec top fact }
 {
     match fact {
-        Fact::AsksTo {
+        Fact::RunsOrAsksTo {
             rec: other,
             top: its_top,
             ..
@@ -115,6 +115,33 @@ pub(crate) fn are_ready(facts: &[Fact], call: &Call) -> bool
     }
 }
 
+/// Whether the facts say that the call is refused for its REC, by a row before those that refuse with ERROR_INPUT.
+#[tactic(auto, unfolding(verdict_laws::specs::Denying::is_stopped))]
+pub(crate) fn is_stopped(facts: &[Fact], call: &Call) -> bool
+    ensures { result ≡ laws.is_stopped facts.now call.now }
+{
+    match call {
+        Call::RttSetRipas { rec, .. } => give_running(facts, *rec),
+        _ => false,
+    }
+}
+
+/// Whether one of the facts says that the REC runs.
+fn give_running(facts: &[Fact], rec: u64) -> bool
+    ensures { result ≡ list_any (laws.gives_running rec) facts.now }
+{
+    facts.iter().any(|fact| gives_running(*fact, rec))
+}
+
+fn gives_running(fact: Fact, rec: u64) -> bool
+    ensures { result ≡ laws.gives_running rec fact }
+{
+    match fact {
+        Fact::RunsOn { rec: other, .. } => rec == other,
+        _ => false,
+    }
+}
+
 /// Whether one of the facts says that the REC runs on no CPU.
 fn give_idle(facts: &[Fact], rec: u64) -> bool
     ensures { result ≡ list_any (laws.gives_idle rec) facts.now }
@@ -126,7 +153,7 @@ fn gives_idle(fact: Fact, rec: u64) -> bool
     ensures { result ≡ laws.gives_idle rec fact }
 {
     match fact {
-        Fact::AsksFrom { rec: other, .. } | Fact::AsksTo { rec: other, .. } => rec == other,
+        Fact::Idle { rec: other } | Fact::AsksFrom { rec: other, .. } => rec == other,
         _ => false,
     }
 }

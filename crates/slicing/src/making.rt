@@ -33,10 +33,11 @@ pub(crate) fn begins(fact: Fact) -> bool
         | Fact::Activated { .. }
         | Fact::OwnedBy { .. }
         | Fact::Runnable { .. }
+        | Fact::Idle { .. }
         | Fact::RunsOn { .. }
         | Fact::AsksFrom { .. }
-        | Fact::RunsOrAsksFrom { .. }
-        | Fact::AsksTo { .. } => false,
+        | Fact::RunsOrAsksWithin { .. }
+        | Fact::RunsOrAsksTo { .. } => false,
     }
 }
 
@@ -60,11 +61,13 @@ pub(crate) fn makes(fact: Fact, cpu: u8, call: &Call, reply: ReplyRef<'_>) -> bo
         Fact::Activated { rd } => activates(call, rd),
         Fact::OwnedBy { rec, rd } => makes_owned(call, rec, rd),
         Fact::Runnable { rec } => makes_runnable(call, rec),
+        Fact::Idle { rec } => makes_rec(call, rec),
         Fact::RunsOn { rec, cpu: at } => at == cpu && enters(call, rec),
-        Fact::AsksFrom { rec, base } | Fact::RunsOrAsksFrom { rec, base } => {
-            moves_request(call, reply, rec, base)
+        Fact::AsksFrom { rec, base } => moves_request(call, reply, rec, base),
+        Fact::RunsOrAsksWithin { rec, least, most } => {
+            moves_request(call, reply, rec, least) && least <= most
         }
-        Fact::AsksTo { .. } => false,
+        Fact::RunsOrAsksTo { .. } => false,
     }
 }
 

@@ -28,7 +28,7 @@ pub(crate) fn makes_with(other: Fact, fact: Fact, call: &Call, reply: ReplyRef<'
     ensures { result ≡ laws.makes_with other fact call.now (reply_seen reply.entry) }
 {
     match other {
-        Fact::AsksTo {
+        Fact::RunsOrAsksTo {
             rec,
             ripas: asked,
             ..
@@ -62,6 +62,9 @@ pub(crate) fn sets_ripas(call: &Call, reply: ReplyRef<'_>, rec: u64, rd: u64, ip
 fn is_left_with(fact: Fact, at: u64, reason: ExitReason) -> bool
     ensures { result ≡ laws.is_left_with fact at reason }
 {
+    if let Fact::Idle { rec } = fact {
+        return rec == at;
+    }
     let ExitReason::RipasChange {
         base: from,
         top: its_top,
@@ -71,10 +74,11 @@ fn is_left_with(fact: Fact, at: u64, reason: ExitReason) -> bool
         return false;
     };
     match fact {
-        Fact::AsksFrom { rec, base } | Fact::RunsOrAsksFrom { rec, base } => {
-            rec == at && base == from
+        Fact::AsksFrom { rec, base } => rec == at && base == from,
+        Fact::RunsOrAsksWithin { rec, least, most } => {
+            rec == at && least == from && least <= most
         }
-        Fact::AsksTo { rec, top, ripas } => {
+        Fact::RunsOrAsksTo { rec, top, ripas } => {
             rec == at && top == its_top && ripas == its_ripas && from < its_top
         }
         _ => false,
@@ -129,6 +133,13 @@ pub(crate) fn moves_request(call: &Call, reply: ReplyRef<'_>, rec: u64, base: u6
         Call::RttSetRipas { rec: other, .. } => rec == *other && is_told(base, reply),
         _ => false,
     }
+}
+
+/// Whether an address is one of these.
+pub(crate) fn is_within(least: u64, most: u64, address: u64) -> bool
+    ensures { result ≡ laws.is_within least most address }
+{
+    least <= address && address <= most
 }
 
 /// Whether the address is all that is replied.

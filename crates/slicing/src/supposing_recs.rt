@@ -1,13 +1,16 @@
 //! Which facts of a REC may deny a reply. What is found isn't promised: it is checked.
 
+use crate::call_at::call_at;
 use crate::done::Done;
+use crate::early::open_from;
 use crate::last_return::LastReturn;
 use crate::making_recs::enters;
 use crate::standing::standing_before;
-use crate::supposing::{Together, done_at, wide_before};
+use crate::supposing::{Together, done_at, maker_before, wide_before};
 use history::History;
 use rmi_view::ReplyRef;
-use rmm_spec::Call;
+use rmm_spec::{Call, Tag};
+use std::cmp::max;
 use verdict_laws::{ExitReason, Fact, Standing};
 
 /// What may deny together a reply about a REC.
@@ -64,19 +67,39 @@ fn supposed_set(
     facts
 }
 
-/// What may deny together that the REC runs, where it asks for something.
-pub(crate) fn supposed_idle(history: &History, count: u32, last: &LastReturn<'_>) -> Together {
+/// What may deny together that the REC runs, or isn't ready.
+pub(crate) fn supposed_idle(last: &LastReturn<'_>) -> Together {
     let mut facts = Together::new();
-    let (rec, other) = match (last.call, last.reply) {
-        (Call::RecEnter { rec }, ReplyRef::Err(3, _)) => (rec, Fact::Runnable { rec }),
-        (Call::RttSetRipas { rd, rec, .. }, ReplyRef::Err(3, _)) => {
-            (rec, Fact::OwnedBy { rec, rd })
+    if !matches!(last.reply, ReplyRef::Err(3, _)) {
+        return facts;
+    }
+    match last.call {
+        Call::RecEnter { rec } => {
+            facts.push(Fact::Idle { rec });
+            facts.push(Fact::Runnable { rec });
         }
-        _ => return facts,
+        Call::RttSetRipas { rd, rec, .. } => {
+            facts.push(Fact::Idle { rec });
+            facts.push(Fact::OwnedBy { rec, rd });
+        }
+        Call::RecDestroy { rec } => facts.push(Fact::Idle { rec }),
+        _ => {}
+    }
+    facts
+}
+
+/// What may deny together that a RIPAS is refused for what the call says, where its REC runs.
+pub(crate) fn supposed_stopped(history: &History, count: u32, last: &LastReturn<'_>) -> Together {
+    let mut facts = Together::new();
+    let Call::RttSetRipas { rd, .. } = last.call else {
+        return facts;
     };
-    if let Some(fact) = asked_to(history, count, last.called, rec) {
+    if let Some(fact) = supposed_running(history, count, last) {
         facts.push(fact);
-        facts.push(other);
+        facts.push(Fact::Tagged {
+            granule: rd,
+            tag: Tag::Rd,
+        });
     }
     facts
 }
@@ -103,7 +126,7 @@ pub(crate) fn supposed_running(
     None
 }
 
-/// That it runs or asks for something from where a call says, where it is entered or set as if it asked from elsewhere on.
+/// That it runs or asks for something from where calls may have left it, where it is entered or set as if it asked from elsewhere on.
 pub(crate) fn supposed_asking(
     history: &History,
     count: u32,
@@ -112,10 +135,36 @@ pub(crate) fn supposed_asking(
     let (Call::RecEnter { rec } | Call::RttSetRipas { rec, .. }) = last.call else {
         return None;
     };
-    match asked_from(history, count, last.called, rec)? {
-        Fact::AsksFrom { rec, base } => Some(Fact::RunsOrAsksFrom { rec, base }),
-        _ => None,
+    let fact = asked_from(history, count, last.called, rec)?;
+    let Fact::AsksFrom { base: least, .. } = fact else {
+        return None;
+    };
+    let maker = maker_before(history, count, last.called, fact)?;
+    let most = set_up_to(history, count, maker, rec, least);
+    Some(Fact::RunsOrAsksWithin { rec, least, most })
+}
+
+/// Up to where calls may have set what the REC asks for from the address on, that didn't return before one at a place was made.
+fn set_up_to(history: &History, count: u32, maker: u32, rec: u64, least: u64) -> u64 {
+    let mut most = least;
+    if count as usize > history.len() {
+        return most;
     }
+    for at in open_from(history, maker)..count {
+        let Some(call) = call_at(history, count, at) else {
+            continue;
+        };
+        match call.call {
+            Call::RttSetRipas {
+                rec: other,
+                base,
+                top,
+                ..
+            } if other == rec && base >= least && !call.is_refused() => most = max(most, top),
+            _ => {}
+        }
+    }
+    most
 }
 
 /// From where on it asks for something, if a call says it.
@@ -165,7 +214,7 @@ pub(crate) fn asked_to(history: &History, count: u32, place: u32, rec: u64) -> O
             if let Some(ExitReason::RipasChange { top, ripas, .. }) = reason_of(
                 history, count, &done, rec,
             ) {
-                return Some(Fact::AsksTo { rec, top, ripas });
+                return Some(Fact::RunsOrAsksTo { rec, top, ripas });
             }
         }
     }

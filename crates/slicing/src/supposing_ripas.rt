@@ -73,7 +73,7 @@ fn ripas_set(
     ipa: u64,
 ) -> Option<u64> {
     match asked_by(history, count, place, done, rd, ipa)? {
-        Fact::AsksTo { ripas, .. } => Some(ripas),
+        Fact::RunsOrAsksTo { ripas, .. } => Some(ripas),
         _ => None,
     }
 }

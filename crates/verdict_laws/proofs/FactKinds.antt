@@ -10,16 +10,16 @@ use Rattle.rmm_spec.specs.State.{State, opening}
 use Rattle.rmm_spec.specs.Step.{Step}
 use Rattle.lemmas.proofs.Tests.{both_ways}
 use Rattle.verdict_laws.specs.declared.facts.Fact.{Fact}
-use Rattle.verdict_laws.specs.declared.facts.Fact.TheVariants.{NewRealm, Tagged, Covered, Wide, SoleVmid, PartOf, Unassigned, UnassignedRam, Assigned, HasRipas, Activated, OwnedBy, Runnable, RunsOn, AsksFrom, RunsOrAsksFrom, AsksTo}
+use Rattle.verdict_laws.specs.declared.facts.Fact.TheVariants.{NewRealm, Tagged, Covered, Wide, SoleVmid, PartOf, Unassigned, UnassignedRam, Assigned, HasRipas, Activated, OwnedBy, Runnable, Idle, RunsOn, AsksFrom, RunsOrAsksWithin, RunsOrAsksTo}
 use Rattle.verdict_laws.specs.Denying.{denies}
 use Rattle.verdict_laws.specs.Facts.{begins, holds, makes, may_end}
-use Rattle.verdict_laws.proofs.AskingFacts.{asking-denied, asking-left, asking-made}
+use Rattle.verdict_laws.proofs.AskingFacts.{asking-denied, asking-left, asking-made, to-left}
 use Rattle.verdict_laws.proofs.EntryFacts.{entry-denied, entry-left, entry-made}
 use Rattle.verdict_laws.proofs.PageFacts.{page-denied, page-left, page-made}
 use Rattle.verdict_laws.proofs.PartFacts.{part-left, part-made}
 use Rattle.verdict_laws.proofs.RamFacts.{ram-denied, ram-left, ram-made}
 use Rattle.verdict_laws.proofs.RealmFacts.{realm-denied, realm-left, realm-made}
-use Rattle.verdict_laws.proofs.RecFacts.{from-denied, from-left, from-made, owned-left, owned-made, runnable-left, runnable-made, to-left}
+use Rattle.verdict_laws.proofs.RecFacts.{from-denied, from-left, from-made, idle-left, idle-made, owned-left, owned-made, runnable-left, runnable-made}
 use Rattle.verdict_laws.proofs.RipasFacts.{ripas-denied, ripas-left, ripas-made}
 use Rattle.verdict_laws.proofs.RunFacts.{run-denied, run-left, run-made}
 use Rattle.verdict_laws.proofs.RunningFacts.{running-denied, running-left, running-made}
@@ -44,10 +44,11 @@ holds-opening (HasRipas rd ipa ripas) config is = is
 holds-opening (Activated rd) config is = is
 holds-opening (OwnedBy rec rd) config is = is
 holds-opening (Runnable rec) config is = is
+holds-opening (Idle rec) config is = is
 holds-opening (RunsOn rec at) config is = is
 holds-opening (AsksFrom rec base) config is = is
-holds-opening (RunsOrAsksFrom rec base) config is = is
-holds-opening (AsksTo rec top ripas) config is = is
+holds-opening (RunsOrAsksWithin rec least most) config is = is
+holds-opening (RunsOrAsksTo rec top ripas) config is = is
 
 -- a call that makes it, and is carried out, leaves it so
 pub holds-made : (fact : Fact) (s new : State) (cpu : ℕ) (command : Command) (given : Reply) → IsSound s → Step s cpu command given new
@@ -65,10 +66,11 @@ holds-made (HasRipas rd ipa ripas) s new cpu command given sound = λ step. ripa
 holds-made (Activated rd) s new cpu command given sound = run-made rd s new cpu command given
 holds-made (OwnedBy rec rd) s new cpu command given sound = λ step. owned-made rec s new cpu command given sound step rd
 holds-made (Runnable rec) s new cpu command given sound = λ step. runnable-made rec s new cpu command given sound step
+holds-made (Idle rec) s new cpu command given sound = λ step. idle-made rec s new cpu command given sound step
 holds-made (RunsOn rec at) s new cpu command given sound = λ step. running-made rec at s new cpu command given sound step
 holds-made (AsksFrom rec base) s new cpu command given sound = λ step. from-made rec s new cpu command given sound step base
-holds-made (RunsOrAsksFrom rec base) s new cpu command given sound = λ step. asking-made rec base s new cpu command given sound step
-holds-made (AsksTo rec top ripas) s new cpu command given sound = λ step accepted made. both_ways made refl
+holds-made (RunsOrAsksWithin rec least most) s new cpu command given sound = λ step. asking-made rec least most s new cpu command given sound step
+holds-made (RunsOrAsksTo rec top ripas) s new cpu command given sound = λ step accepted made. both_ways made refl
 
 -- a call that may not end it leaves it
 pub holds-left : (fact : Fact) (s new : State) (cpu : ℕ) (command : Command) (given : Reply) → IsSound s → Step s cpu command given new
@@ -86,10 +88,11 @@ holds-left (HasRipas rd ipa ripas) s new cpu command given sound = λ step. ripa
 holds-left (Activated rd) s new cpu command given sound = run-left rd s new cpu command given
 holds-left (OwnedBy rec rd) s new cpu command given sound = λ step. owned-left rec s new cpu command given sound step rd
 holds-left (Runnable rec) s new cpu command given sound = λ step. runnable-left rec s new cpu command given sound step
+holds-left (Idle rec) s new cpu command given sound = λ step. idle-left rec s new cpu command given sound step
 holds-left (RunsOn rec at) s new cpu command given sound = λ step. running-left rec at s new cpu command given sound step
 holds-left (AsksFrom rec base) s new cpu command given sound = λ step. from-left rec s new cpu command given sound step base
-holds-left (RunsOrAsksFrom rec base) s new cpu command given sound = λ step. asking-left rec base s new cpu command given sound step
-holds-left (AsksTo rec top ripas) s new cpu command given sound = λ step. to-left rec s new cpu command given sound step top ripas
+holds-left (RunsOrAsksWithin rec least most) s new cpu command given sound = λ step. asking-left rec least most s new cpu command given sound step
+holds-left (RunsOrAsksTo rec top ripas) s new cpu command given sound = λ step. to-left rec top ripas s new cpu command given sound step
 
 -- where it holds, no call is given a reply that denies it
 pub held-denies : (fact : Fact) (s new : State) (cpu : ℕ) (command : Command) (given : Reply) → IsSound s → Step s cpu command given new
@@ -107,7 +110,8 @@ held-denies (HasRipas rd ipa ripas) s new cpu command given sound = λ step. rip
 held-denies (Activated rd) s new cpu command given sound = run-denied rd s new cpu command given sound
 held-denies (OwnedBy rec rd) s new cpu command given sound = λ step is denied. both_ways denied refl
 held-denies (Runnable rec) s new cpu command given sound = λ step is denied. both_ways denied refl
+held-denies (Idle rec) s new cpu command given sound = λ step is denied. both_ways denied refl
 held-denies (RunsOn rec at) s new cpu command given sound = λ step. running-denied rec at s new cpu command given sound step
 held-denies (AsksFrom rec base) s new cpu command given sound = λ step. from-denied rec s new cpu command given sound step base
-held-denies (RunsOrAsksFrom rec base) s new cpu command given sound = λ step. asking-denied rec base s new cpu command given sound step
-held-denies (AsksTo rec top ripas) s new cpu command given sound = λ step is denied. both_ways denied refl
+held-denies (RunsOrAsksWithin rec least most) s new cpu command given sound = λ step. asking-denied rec least most s new cpu command given sound step
+held-denies (RunsOrAsksTo rec top ripas) s new cpu command given sound = λ step is denied. both_ways denied refl

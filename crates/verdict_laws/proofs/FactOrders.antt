@@ -160,8 +160,8 @@ module _ (history : History) (is_history : IsHistory history) (called cpu number
           (ap (λ (k : ℕ). may_end fact k (call_of e.command) e.given) c.is_entry.cpu
           ∙ left e.given (λ back told is_back. sym (claims_reply back told is_back))) is
       holds-behind other ahead (inr (inr (inr (inr (standing, stands, stays))))) is =
-          holds-elsewhere fact s new e.cpu e.command e.given standing leads.sound leads.step
-          (stands_there (cpu_named c.line) (number_named c.line) standing (refl, refl) stands) stays is
+          holds-elsewhere s new e.cpu e.command e.given standing leads.sound leads.step
+          (stands_there (cpu_named c.line) (number_named c.line) standing (refl, refl) stands) fact stays is
 
       -- the line of a call that makes it leaves it so
       holds-maker : (maker : IsDoneBefore events place) → IsMadeBy fact events maker → c.is_entry.called ≡ maker.called → holds fact new ≡ true

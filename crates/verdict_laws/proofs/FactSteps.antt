@@ -80,12 +80,12 @@ are_told-there says s (name ∷ names) rows there =
 
 module _ (says : Reply → Bool) (of_accepted : (words : _) → says (reply.Ok words) ≡ false) (of_misplaced : says reply.Misplaced ≡ false) where
   -- what a call leads to is refused with no such reply
-  abbrev IsUntold : Result Accepted Refusal → Type 0
+  abbrev pub IsUntold : Result Accepted Refusal → Type 0
   IsUntold (Ok found) = Unit {0}
   IsUntold (Err refused) = says (reply_of refused) ≡ false
 
   -- so it is with what rows lead to of which none is refused so
-  IsUntold-decided : (rows : List Row) (found : Accepted) → are_told says rows ≡ false → IsUntold (decided rows found)
+  pub IsUntold-decided : (rows : List Row) (found : Accepted) → are_told says rows ≡ false → IsUntold (decided rows found)
   IsUntold-decided [] found none = tt
   IsUntold-decided (row ∷ rows) found none =
       let parts = or_parts (is_told says row) (are_told says rows) none in by row.holds parts.0 (IsUntold-decided rows found parts.1)
@@ -124,6 +124,33 @@ module _ (says : Reply → Bool) (of_accepted : (words : _) → says (reply.Ok w
       → are_told says (with_front s (call_of command) (behind s cpu (call_of command)).0) ≡ false → Step s cpu command given new
       → says given ≡ false
   front-untold s new cpu command given none = answer-untold s new cpu command given (IsUntold-decided _ (behind s cpu (call_of command)).1 none)
+
+  -- rows on words that are allowed lead to what those behind them do
+  IsUntold-allowed : (words : List Word) (rows : List Row) (found : Accepted) → all_allowed words ≡ true → IsUntold (decided rows found)
+      → IsUntold (decided (inputs words rows) found)
+  IsUntold-allowed [] rows found allowed untold = untold
+  IsUntold-allowed (word ∷ words) rows found allowed untold =
+      let parts = and_parts word.allowed (all_allowed words) allowed in rw parts.0 (IsUntold-allowed words rows found parts.1 untold)
+
+  -- and so do those on tags that are there
+  IsUntold-there : (s : State) (names : List Needed) (rows : List Row) (found : Accepted) → are_tagged s names ≡ true
+      → IsUntold (decided rows found) → IsUntold (decided (tagged s names rows) found)
+  IsUntold-there s [] rows found there untold = untold
+  IsUntold-there s (name ∷ names) rows found there untold =
+      let parts = and_parts (has_tag s name.granule name.tag) (are_tagged s names) there in
+      rw parts.0 (IsUntold-there s names rows found parts.1 untold)
+
+  -- so where its words are allowed and what it names has its tags, a call isn't answered so if what is behind those leads to no such reply
+  pub step-untold_behind : (s new : State) (cpu : ℕ) (command : Command) (given : Reply) → all_allowed (words_of (call_of command)) ≡ true
+      → are_tagged s (named (call_of command)) ≡ true
+      → IsUntold (decided (behind s cpu (call_of command)).0 (behind s cpu (call_of command)).1) → Step s cpu command given new
+      → says given ≡ false
+  step-untold_behind s new cpu command given allowed there untold =
+      let c = call_of command in
+      let rows = (behind s cpu c).0 in
+      let found = (behind s cpu c).1 in
+      answer-untold s new cpu command given
+      (IsUntold-allowed (words_of c) (tagged s (named c) rows) found allowed (IsUntold-there s (named c) rows found there untold))
 
   -- or, where its words are allowed and what it names has its tags, none behind those
   pub step-untold_there : (s new : State) (cpu : ℕ) (command : Command) (given : Reply) → all_allowed (words_of (call_of command)) ≡ true

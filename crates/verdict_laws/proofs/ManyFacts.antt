@@ -1,6 +1,6 @@
 -- Where all facts of a list hold, no call is given a reply that they deny, one by itself or all together.
 use Rattle.std.proofs.Common.{◌≡◌, ℕ, ◌-◌, ◌^◌, ◌≤◌, ◌==◌, ◌&&◌, ◌||◌, nat_le, nat_lt, Bool, true, false, IsTrue, All, List, is_some, inl, inr, refl, sym, ◌∙◌, ap, eq-eqb, eqb-true, arith}
-use Rattle.std.specs.Prelude.{is_none, not, unwrap_or}
+use Rattle.std.specs.Prelude.{Err, if◌then◌else◌, is_none, not, unwrap_or}
 use Rattle.std.specs.List.{list_all, list_any}
 use Rattle.std.proofs.lemmas.Bool.{and_from, and_parts, le-leb, leb-true, lt-ltb, not-true, or_cases}
 use Rattle.std.proofs.lemmas.Bool.Decides.{nat_tests}
@@ -9,13 +9,15 @@ use Rattle.std.proofs.lemmas.List.Sums.{AllPass-from_list_all, list_all-from_All
 use Rattle.rmm_spec.specs.declared.call.Call.{Call}
 use Rattle.rmm_spec.specs.declared.call.Call.TheVariants as call
 use Rattle.rmm_spec.specs.declared.command.Command.{Command}
+use Rattle.rmm_spec.specs.declared.condition.Condition.TheVariants as condition
+use Rattle.rmm_spec.specs.declared.refusal.Refusal.TheVariants as refusal
 use Rattle.rmm_spec.specs.declared.reply.Reply.{Reply}
 use Rattle.rmm_spec.specs.declared.tag.Tag.TheVariants.{Delegated, Rd, Rec}
 use Rattle.rmm_spec.specs.declared.version.Version.{Version}
 use Rattle.rmm_spec.specs.declared.version.Version.TheVariants.{One, Two, Large}
 use Rattle.rmm_spec.specs.Call.{call_of, class_of}
 use Rattle.rmm_spec.specs.Lookup.{allows_hash, has_tag, is_granule, is_inside, is_new, is_vmid_used, no_rec, realm_at, rec_at, rec_inside, request_of}
-use Rattle.rmm_spec.specs.Rows.{Needed, all_allowed}
+use Rattle.rmm_spec.specs.Rows.{Needed, all_allowed, decided}
 use Rattle.rmm_spec.specs.Sound.{IsSound}
 use Rattle.rmm_spec.specs.State.{RealmRecord, State}
 use Rattle.rmm_spec.specs.Step.{Step, outcome}
@@ -28,18 +30,18 @@ use Rattle.spec_lemmas.proofs.Members.{Contains-from_slice_get, passing_member}
 use Rattle.rmm_laws.proofs.Searches.{realm_there}
 use Rattle.rmm_laws.proofs.Spaces.{space_cases}
 use Rattle.verdict_laws.specs.declared.facts.Fact.{Fact}
-use Rattle.verdict_laws.specs.declared.facts.Fact.TheVariants.{Activated, AsksFrom, AsksTo, HasRipas, OwnedBy, PartOf, Runnable, RunsOn, SoleVmid, Tagged, Wide}
+use Rattle.verdict_laws.specs.declared.facts.Fact.TheVariants.{Activated, AsksFrom, RunsOrAsksTo, HasRipas, Idle, OwnedBy, PartOf, Runnable, RunsOn, SoleVmid, Tagged, Wide}
 use Rattle.verdict_laws.specs.declared.placing.ExitReason.{ExitReason}
 use Rattle.verdict_laws.specs.declared.placing.Standing.{Standing}
 use Rattle.verdict_laws.specs.declared.placing.Standing.TheVariants.{Inside, Outside}
-use Rattle.verdict_laws.specs.Denying.{are_ready, are_within, denies, deny, deny_input, deny_inside, deny_new, deny_rec, enters_run, give_half, give_tag, give_vmid, gives_base, gives_half, gives_idle, gives_no_owner, gives_none, gives_other_ripas, gives_owner, gives_realm, gives_run, gives_runnable, gives_tag, gives_top, gives_vmid, is_refused_new, is_refused_with}
+use Rattle.verdict_laws.specs.Denying.{are_ready, are_within, denies, deny, deny_input, deny_inside, deny_new, deny_rec, enters_run, give_half, give_tag, give_vmid, gives_base, gives_half, gives_idle, gives_no_owner, gives_none, gives_other_ripas, gives_owner, gives_realm, gives_run, gives_runnable, gives_running, gives_tag, gives_top, gives_vmid, is_refused_new, is_refused_with, is_stopped}
 use Rattle.verdict_laws.specs.Facts.{holds, is_one_entry, is_tag, is_told}
 use Rattle.verdict_laws.proofs.FactKinds.{held-denies}
-use Rattle.verdict_laws.proofs.FactSteps.{are_tagged, are_told, step-untold, step-untold_there}
+use Rattle.verdict_laws.proofs.FactSteps.{IsUntold, IsUntold-decided, are_tagged, are_told, step-untold, step-untold_behind}
 use Rattle.verdict_laws.proofs.PartFacts.{no_owner-given, no_part}
-use Rattle.verdict_laws.proofs.RecFacts.{from_read, owner_read, run_read, to_read}
+use Rattle.verdict_laws.proofs.RecFacts.{from_read, idle_read, idle_there, owner_read, run_read, to_read}
 use Rattle.verdict_laws.proofs.RunFacts.{read_run}
-use Rattle.verdict_laws.proofs.RunningFacts.{running_there}
+use Rattle.verdict_laws.proofs.RunningFacts.{running_read, running_there}
 use Rattle.verdict_laws.proofs.RipasFacts.{inside_told}
 use Rattle.verdict_laws.proofs.Standings.{reason_at, standing-inside, standing_of}
 use Rattle.verdict_laws.proofs.TagFacts.{IsCarried, carried_by, tag-from_is_tag}
@@ -121,6 +123,7 @@ module _ (s : State) (sound : IsSound s) where
         and_from _ _ inside (rw (eqb-true n.granule granule names.0, tag-from_is_tag n.tag Delegated names.1)
         (ap (λ b. b || is_tag (s.tag granule) Delegated) (sym none) ∙ is))
     has_tag-given n inside (AsksFrom rec base) is gives = rec_tagged n rec (from_read base (s.rec rec) is).2 gives
+    has_tag-given n inside (Idle rec) is gives = rec_tagged n rec (idle_there (s.rec rec) is) gives
     has_tag-given n inside (RunsOn rec at) is gives = rec_tagged n rec (running_there at (s.rec rec) is) gives
     has_tag-given n inside _ is gives = both_ways gives refl
 
@@ -164,27 +167,42 @@ module _ (s : State) (sound : IsSound s) where
         ∙ ap (λ g. (request_of (unwrap_or (s.rec g) no_rec)).base) (sym (eqb-true rec other parts.0))
     base-given rec base _ is gives = both_ways gives refl
 
-    -- and ends no earlier than one says
-    top-given : (rec top : ℕ) (fact : Fact) → holds fact s ≡ true → gives_top rec top fact ≡ true
+    -- it runs on no CPU then
+    base_idle : (rec base : ℕ) (fact : Fact) → holds fact s ≡ true → gives_base rec base fact ≡ true → is_none (rec_at s rec).cpu ≡ true
+    unfolding rec_at
+    base_idle rec base (AsksFrom other its_base) is gives =
+        let parts = and_parts (rec == other) (base == its_base) gives in
+        ap (λ g. is_none (unwrap_or (s.rec g) no_rec).cpu) (eqb-true rec other parts.0) ∙ (from_read its_base (s.rec other) is).0
+    base_idle rec base _ is gives = both_ways gives refl
+
+    -- and it ends no earlier than one says
+    top-given : (rec top : ℕ) → is_none (rec_at s rec).cpu ≡ true → (fact : Fact) → holds fact s ≡ true → gives_top rec top fact ≡ true
         → (is_some (rec_at s rec).request ≡ true) × (nat_le top (request_of (rec_at s rec)).top ≡ true)
     unfolding rec_at
-    top-given rec top (AsksTo other its_top ripas) is gives =
+    top-given rec top idle (RunsOrAsksTo other its_top ripas) is gives =
         let parts = and_parts (rec == other) (nat_le top its_top) gives in
         let at = eqb-true rec other parts.0 in
-        let read = to_read its_top ripas (s.rec other) is in (
-          ap (λ g. is_some (unwrap_or (s.rec g) no_rec).request) at ∙ read.1,
-          (λ i. nat_le top ((ap (λ g. (request_of (unwrap_or (s.rec g) no_rec)).top) at ∙ read.2) i)) ∙ parts.1,
+        let read = to_read its_top ripas (s.rec other) is (ap (λ g. is_none (unwrap_or (s.rec g) no_rec).cpu) (sym at) ∙ idle) in (
+          ap (λ g. is_some (unwrap_or (s.rec g) no_rec).request) at ∙ read.0,
+          (λ i. nat_le top ((ap (λ g. (request_of (unwrap_or (s.rec g) no_rec)).top) at ∙ read.1) i)) ∙ parts.1,
         )
-    top-given rec top _ is gives = both_ways gives refl
+    top-given rec top idle _ is gives = both_ways gives refl
 
     -- it runs on no CPU where one says so
     idle-given : (rec : ℕ) (fact : Fact) → holds fact s ≡ true → gives_idle rec fact ≡ true → is_none (rec_at s rec).cpu ≡ true
     unfolding rec_at
     idle-given rec (AsksFrom other base) is gives =
         ap (λ g. is_none (unwrap_or (s.rec g) no_rec).cpu) (eqb-true rec other gives) ∙ (from_read base (s.rec other) is).0
-    idle-given rec (AsksTo other top ripas) is gives =
-        ap (λ g. is_none (unwrap_or (s.rec g) no_rec).cpu) (eqb-true rec other gives) ∙ (to_read top ripas (s.rec other) is).0
+    idle-given rec (Idle other) is gives =
+        ap (λ g. is_none (unwrap_or (s.rec g) no_rec).cpu) (eqb-true rec other gives) ∙ idle_read (s.rec other) is
     idle-given rec _ is gives = both_ways gives refl
+
+    -- it runs where one says so
+    running-given : (rec : ℕ) (fact : Fact) → holds fact s ≡ true → gives_running rec fact ≡ true → is_none (rec_at s rec).cpu ≡ false
+    unfolding rec_at
+    running-given rec (RunsOn other at) is gives =
+        ap (λ g. is_none (unwrap_or (s.rec g) no_rec).cpu) (eqb-true rec other gives) ∙ running_read at (s.rec other) is
+    running-given rec _ is gives = both_ways gives refl
 
     -- it can run
     runnable-given : (rec : ℕ) (fact : Fact) → holds fact s ≡ true → gives_runnable rec fact ≡ true → (rec_at s rec).runnable ≡ true
@@ -269,7 +287,8 @@ module _ (s : State) (sound : IsSound s) where
           let parts = and_parts (nat_lt base top && is_page top && from) (list_any (gives_top rec top) facts) within in
           let begins = and_parts (nat_lt base top && is_page top) from parts.0 in
           let pages = and_parts (nat_lt base top) (is_page top) begins.0 in
-          let ends = from_one (gives_top rec top) (top-given rec top) parts.1 in
+          let idle = from_one (gives_base rec base) (base_idle rec base) begins.1 in
+          let ends = from_one (gives_top rec top) (top-given rec top idle) parts.1 in
           rw (
             ends.0,
             ends.1,
@@ -278,6 +297,19 @@ module _ (s : State) (sound : IsSound s) where
             pages.1,
           ) refl
       behind_within _ within = both_ways within refl
+
+      -- and one whose REC runs is refused for that before those
+      behind_stopped : (c : Call) → is_stopped facts c ≡ true
+          → IsUntold (is_refused_with 1) (λ words. refl) refl (decided (behind s cpu c).0 (behind s cpu c).1)
+      unfolding behind is_stopped
+      behind_stopped (call.RttSetRipas rd rec base top) stopped =
+          rw (from_one (gives_running rec) (running-given rec) stopped) (by ((rec_at s rec).owner == rd))
+        where
+          by : (own : Bool) → IsUntold (is_refused_with 1) (λ words. refl) refl
+              (if own then Err (refusal.Rec condition.RecState) else Err (refusal.Rec condition.RecOwner))
+          by true = refl
+          by false = refl
+      behind_stopped _ stopped = both_ways stopped refl
 
     -- ---- steps
 
@@ -290,11 +322,17 @@ module _ (s : State) (sound : IsSound s) where
       input-denied : (granules : ℕ) → s.config.granules ≡ granules → deny_input granules facts c given ≡ true → ⊥
       input-denied granules size denied =
           let tags = list_all (give_tag granules facts) (named c) in
-          let parts = and_parts (is_refused_with 1 given && all_allowed (words_of c) && tags) (are_within facts c) denied in
+          let parts = and_parts (is_refused_with 1 given && all_allowed (words_of c) && tags) (are_within facts c || is_stopped facts c) denied in
           let front = and_parts (is_refused_with 1 given && all_allowed (words_of c)) tags parts.0 in
           let refused = and_parts (is_refused_with 1 given) (all_allowed (words_of c)) front.0 in
-          both_ways refused.0 (step-untold_there (is_refused_with 1) (λ words. refl) refl s new cpu command given refused.1
-          (are_tagged-given granules (named c) size front.1) (behind_within cpu c parts.1) step)
+          let untold : IsUntold (is_refused_with 1) (λ words. refl) refl (decided (behind s cpu c).0 (behind s cpu c).1) =
+          elim (or_cases (are_within facts c) (is_stopped facts c) parts.1) [
+            | inl within ↦
+                IsUntold-decided (is_refused_with 1) (λ words. refl) refl (behind s cpu c).0 (behind s cpu c).1 (behind_within cpu c within)
+            | inr stopped ↦ behind_stopped cpu c stopped
+          ] in
+          both_ways refused.0 (step-untold_behind (is_refused_with 1) (λ words. refl) refl s new cpu command given refused.1
+          (are_tagged-given granules (named c) size front.1) untold step)
 
       -- nor for a realm that was activated
       new-denied : deny_new facts c given ≡ true → ⊥

@@ -2,7 +2,7 @@
 -- what is then given back.
 use Rattle.std.proofs.Common.{◌≡◌, ℕ, ◌==◌, ◌&&◌, ◌||◌, Bool, true, false, not, Option, Some, inl, inr, refl, sym, ◌∙◌, ap, eqb-true, eq-eqb, option_map}
 use Rattle.std.proofs.Math.Bool.{or-false}
-use Rattle.std.proofs.lemmas.Bool.{and_from, and_parts, not-true, or_cases, or_left, or_parts}
+use Rattle.std.proofs.lemmas.Bool.{and_from, and_parts, cases_Bool, not-true, or_cases, or_left, or_parts, or_right}
 use Rattle.rmm_spec.specs.declared.call.Call.{Call}
 use Rattle.rmm_spec.specs.declared.call.Call.TheVariants as call
 use Rattle.rmm_spec.specs.declared.command.Command.{Command}
@@ -24,9 +24,10 @@ use Rattle.rmm_spec.specs.Walk.{entry_number, is_unassigned}
 use Rattle.lemmas.proofs.Tests.{both_ways}
 use Rattle.spec_lemmas.proofs.Behind.{behind}
 use Rattle.spec_lemmas.proofs.TagLaws.{tag-has_tag}
+use Rattle.rmm_laws.proofs.StepLaws.{step-refuses}
 use Rattle.verdict_laws.specs.declared.facts.Fact.TheVariants as fact
 use Rattle.verdict_laws.specs.Denying.{denies, is_other_entry, is_refused_with, needs_free, needs_other, reads_entry}
-use Rattle.verdict_laws.specs.Facts.{creates_page, creates_unknown, frees_entry, gives_entry, has_page, is_one_entry, is_tag, may_assign, may_reshape}
+use Rattle.verdict_laws.specs.Facts.{creates_page, creates_unknown, frees_entry, gives_entry, has_page, is_one_entry, is_tag, may_reshape}
 use Rattle.verdict_laws.specs.Separate.{is_freed}
 use Rattle.verdict_laws.specs.Slices.{shows_names}
 use Rattle.verdict_laws.proofs.EntryChanges.{leaf-left, leaf_found, leaf_reached, read-denied, same_entry-last}
@@ -108,24 +109,37 @@ page-made rd ipa page s new cpu command given step accepted gives =
     step-has (λ t. has_page (t.leaf rd 3 (entry_number 3 ipa)) page ≡ true) _ s new cpu command given (λ change is. is) (both_ways accepted)
     (behind_gives rd ipa page s cpu (call_of command) gives) step
 
--- a page stays at its entry, but by a call that may replace it or take it back
+-- DATA_CREATE_UNKNOWN needs it so
+unknown_needs : (rd ipa : ℕ) (c : Call) → creates_unknown c rd ipa ≡ true → needs_free c rd ipa ≡ true
+unfolding creates_unknown needs_free
+unknown_needs rd ipa (call.DataCreateUnknown other granule at) creates = creates
+unknown_needs rd ipa _ creates = both_ways creates refl
+
+-- a page stays at its entry, but by a call that may reshape that, or gives it back
 pub page-left : (rd ipa page : ℕ) (s new : State) (cpu : ℕ) (command : Command) (given : Reply) → IsSound s → Step s cpu command given new
-    → (may_assign (call_of command) rd ipa || frees_entry (call_of command) rd ipa) ≡ false
+    → (may_reshape (call_of command) rd ipa || (frees_entry (call_of command) rd ipa && is_freed (call_of command) given page)) ≡ false
     → has_page (s.leaf rd 3 (entry_number 3 ipa)) page ≡ true → has_page (new.leaf rd 3 (entry_number 3 ipa)) page ≡ true
 page-left rd ipa page s new cpu command given sound step stays has =
     let c = call_of command in
     let (ripas, leaf) = page_there page (s.leaf rd 3 (entry_number 3 ipa)) has in
-    let parts = or_parts (may_assign c rd ipa) (frees_entry c rd ipa) stays in
-    let more = or_parts (may_reshape c rd ipa || creates_page c rd ipa) (creates_unknown c rd ipa) parts.0 in
-    let both = or_parts (may_reshape c rd ipa) (creates_page c rd ipa) more.0 in
-    leaf-left (λ (found : Option Entry). has_page found page) rd ipa s cpu sound (Assigned ripas page) leaf refl new command given step (record {
-      stays = both.0;
-      given = λ granule creates. both_ways creates both.1;
-      unknown = λ granule creates. both_ways creates more.1;
-      freed = λ frees. both_ways frees parts.1;
-      init = λ _. ripas_page page Ram;
-      requested = λ its _. ripas_page page its;
-    }) (eq-eqb page page refl)
+    let parts = or_parts (may_reshape c rd ipa) (frees_entry c rd ipa && is_freed c given page) stays in
+    elim (cases_Bool (is_accepted given)) [
+      | inl accepted ↦
+          (let carried = carried_by s cpu command given new (outcome s cpu c) sound accepted refl step in
+          leaf-left (λ (found : Option Entry). has_page found page) rd ipa s cpu sound (Assigned ripas page) leaf refl new command given step
+          (record {
+            stays = parts.0;
+            given = λ granule creates.
+                absurd (carried_free rd ipa page ripas s new cpu given c sound leaf carried (or_right (needs_free c rd ipa) _ creates));
+            unknown = λ granule creates.
+                absurd (carried_free rd ipa page ripas s new cpu given c sound leaf carried (or_left _ _ (unknown_needs rd ipa c creates)));
+            freed = λ frees.
+                both_ways (and_from _ _ frees (destroy_freed rd ipa page ripas s new cpu given c sound leaf carried frees)) parts.1;
+            init = λ _. ripas_page page Ram;
+            requested = λ its _. ripas_page page its;
+          }) (eq-eqb page page refl))
+      | inr refused ↦ ap (λ (t : State). has_page (t.leaf rd 3 (entry_number 3 ipa)) page) (step-refuses s new cpu command given step refused) ∙ has
+    ]
 
 -- and no reply shows its granule with another tag, or gives another back for it
 page-shown : (rd ipa page : ℕ) (s new : State) (cpu : ℕ) (command : Command) (given : Reply) → IsSound s → Step s cpu command given new

@@ -22,7 +22,7 @@ use Rattle.rmm_spec.specs.Ownership.{is_accepted}
 use Rattle.rmm_spec.specs.Sound.{IsSound}
 use Rattle.rmm_spec.specs.State.{RecRecord, State}
 use Rattle.rmm_spec.specs.Step.{CarriesOut, Step, is_placed, outcome}
-use Rattle.rmm_spec.specs.Step.Ripas.{reached_change}
+use Rattle.rmm_spec.specs.Step.Ripas.{IsReached, reached_change}
 use Rattle.lemmas.proofs.Tests.{both_ways}
 use Rattle.spec_lemmas.proofs.Behind.{behind}
 use Rattle.rmm_laws.proofs.Applies.{Applies}
@@ -58,7 +58,7 @@ module _ (test : Option RecRecord → Bool) (absent : test None ≡ false) where
     -- and with what is done, whatever end a reply gives
     abbrev pub StaysDone : Accepted → Type 0
     StaysDone (Done words change) = Stays change
-    StaysDone (Reaches stretch) = (top : ℕ) → Stays (reached_change stretch top)
+    StaysDone (Reaches stretch) = (top : ℕ) → IsReached s stretch top → Stays (reached_change stretch top)
 
     -- one that is put elsewhere is not this
     put_other : (other : ℕ) (new : RecRecord) → (rec ≡ other → test (Some new) ≡ true)
@@ -103,7 +103,7 @@ module _ (test : Option RecRecord → Bool) (absent : test None ≡ false) where
         → CarriesOut (Ok found) s given new → test (new.rec rec) ≡ true
     carried_met new given (Done words change) sound stays can carried = rw carried.1 (changed_met change sound can stays)
     carried_met new given (Reaches stretch) sound stays can (top, (reached, is_ok, is_next)) =
-        rw is_next (changed_met (reached_change stretch top) sound (can top reached) (stays top))
+        rw is_next (changed_met (reached_change stretch top) sound (can top reached) (stays top reached))
 
     -- so it does behind a step, where what its call does leaves it so
     pub rec-kept : (new : State) (cpu : ℕ) (command : Command) (given : Reply) → IsSound s → Step s cpu command given new

@@ -1,8 +1,8 @@
 -- RECs: whose one is, whether it can run, and what it asks for while it runs on no CPU. What a call makes so stays so until another may end it, and
 -- isn't denied.
-use Rattle.std.proofs.Common.{◌≡◌, ℕ, ◌==◌, ◌&&◌, ◌||◌, true, false, Bool, Option, Some, None, IsTrue, is_some, refl, sym, ◌∙◌, ap, eqb-true, eq-eqb, arith, inl, inr, subst}
-use Rattle.std.specs.Prelude.{is_none, nat_lt, not, unwrap_or}
-use Rattle.std.proofs.lemmas.Bool.{and_from, and_parts, cases_Bool, false_from_ne_true, ltb-true, not-true, or_parts, or_right}
+use Rattle.std.proofs.Common.{◌≡◌, ℕ, ◌==◌, ◌&&◌, ◌||◌, true, false, Bool, Option, Some, None, IsTrue, is_some, refl, sym, ◌∙◌, ap, eqb-true, eq-eqb, arith, inl, inr}
+use Rattle.std.specs.Prelude.{is_none, nat_le, nat_lt, not, unwrap_or}
+use Rattle.std.proofs.lemmas.Bool.{and_from, and_parts, cases_Bool, false_from_ne_true, le-leb, ltb-true, not-true, or_cases, or_parts, or_right}
 use Rattle.rmm_spec.specs.declared.call.Call.{Call}
 use Rattle.rmm_spec.specs.declared.call.Call.TheVariants as call
 use Rattle.rmm_spec.specs.declared.change.RecUpdate.{RecUpdate}
@@ -23,13 +23,13 @@ use Rattle.spec_lemmas.proofs.Behind.{behind}
 use Rattle.rmm_laws.proofs.Searches.{inside_runs}
 use Rattle.rmm_laws.proofs.StepLaws.{step-refuses}
 use Rattle.verdict_laws.specs.declared.facts.Fact.{Fact}
-use Rattle.verdict_laws.specs.declared.facts.Fact.TheVariants.{AsksFrom, AsksTo, RunsOrAsksFrom}
+use Rattle.verdict_laws.specs.declared.facts.Fact.TheVariants.{AsksFrom, RunsOrAsksTo, Idle, RunsOrAsksWithin}
 use Rattle.verdict_laws.specs.declared.placing.ExitReason.{ExitReason}
 use Rattle.verdict_laws.specs.declared.placing.ExitReason.TheVariants as exit_reason
 use Rattle.verdict_laws.specs.declared.placing.Standing.{Standing}
 use Rattle.verdict_laws.specs.declared.placing.Standing.TheVariants.{Inside}
 use Rattle.verdict_laws.specs.Denying.{asks_else}
-use Rattle.verdict_laws.specs.Facts.{asks_from, asks_to, can_run, destroys, enters, has_owner, holds, is_left_with, is_told, is_up_to, leaves_with, makes_owned, makes_runnable, moves_request, runs_or_asks, sets_from, turns_off}
+use Rattle.verdict_laws.specs.Facts.{asks_from, can_run, destroys, enters, has_owner, holds, is_idle, is_left_with, is_told, is_up_to, is_within, leaves_with, makes_owned, makes_rec, makes_runnable, moves_request, runs_or_asks, runs_or_asks_to, sets_from, turns_off}
 use Rattle.verdict_laws.proofs.RecChanges.{StaysDone, met_record, rec-kept}
 use Rattle.verdict_laws.proofs.Spared.{runs_on-read}
 use Rattle.verdict_laws.proofs.SparedCalls.{idle_elsewhere}
@@ -58,6 +58,13 @@ module _ (s : State) (cpu : ℕ) (given : Reply) (new : State) where
       let parts = and_parts (rec == other) (flags == 1) makes in rw (carried.done.1, parts.0) parts.1
   made_runnable rec _ carried makes = both_ways makes refl
 
+  -- and one that runs on no CPU
+  made_idle : (rec : ℕ) (c : Call) → IsCarried s cpu c given new → makes_rec c rec ≡ true → is_idle (new.rec rec) ≡ true
+  unfolding behind changed makes_rec
+  made_idle rec (call.RecCreate rd other mpidr flags aux0 aux1) carried makes =
+      rw (carried.done.1, eq-eqb rec other (sym (eqb-true other rec makes))) refl
+  made_idle rec _ carried makes = both_ways makes refl
+
   -- one asks for nothing once it is made, and for the rest of a stretch once a part is set
   pub made_request : (rec base : ℕ) (c : Call) → IsCarried s cpu c given new → moves_request c given rec base ≡ true
       → asks_from (new.rec rec) base ≡ true
@@ -75,12 +82,12 @@ module _ (s : State) (cpu : ℕ) (given : Reply) (new : State) where
 -- ---- what calls leave
 
 -- a call that sets a part of what the REC asks for
-unfoldable pub sets_request : Call → ℕ → Bool
+unfoldable sets_request : Call → ℕ → Bool
 sets_request (call.RttSetRipas rd other base top) rec = rec == other
 sets_request _ rec = false
 
 -- from elsewhere on, if not from there
-pub asks_elsewhere : (c : Call) (given : Reply) (rec base : ℕ) → sets_request c rec ≡ true → sets_from c rec base ≡ false
+asks_elsewhere : (c : Call) (given : Reply) (rec base : ℕ) → sets_request c rec ≡ true → sets_from c rec base ≡ false
     → asks_else c given rec base ≡ true
 unfolding asks_else sets_from sets_request
 asks_elsewhere (call.RttSetRipas rd other from top) given rec base sets apart =
@@ -101,8 +108,8 @@ module _ (test : Option RecRecord → Bool) (absent : test None ≡ false) (rec 
   keeps_record updated call.CpuOff keeps off = λ here. off refl
   keeps_record updated call.SystemOff keeps off = λ here. updated SystemTurnedOff (λ same. cc)
   keeps_record updated call.Exit keeps off = λ here. updated Exited (λ same. cc)
-  keeps_record updated (call.RttInitRipas rd base top) keeps off = λ end. tt
-  keeps_record updated (call.RttSetRipas rd other base top) keeps off = λ end here. updated (RequestMoved end) (λ same. cc)
+  keeps_record updated (call.RttInitRipas rd base top) keeps off = λ end reached. tt
+  keeps_record updated (call.RttSetRipas rd other base top) keeps off = λ end reached here. updated (RequestMoved end) (λ same. cc)
   keeps_record updated _ keeps off = tt
 
   module _ (idle : (found : Option RecRecord) → test found ≡ true → IsTrue (is_none (unwrap_or found no_rec).cpu)) where
@@ -124,8 +131,8 @@ module _ (test : Option RecRecord → Bool) (absent : test None ≡ false) (rec 
     keeps_idle call.CpuOff placed keeps moved = λ here. absurd (not_own (and_parts (is_inside s cpu) _ placed).0 here)
     keeps_idle call.SystemOff placed keeps moved = λ here. absurd (not_own (and_parts (is_inside s cpu) _ placed).0 here)
     keeps_idle call.Exit placed keeps moved = λ here. absurd (not_own placed here)
-    keeps_idle (call.RttInitRipas rd base top) placed keeps moved = λ end. tt
-    keeps_idle (call.RttSetRipas rd other base top) placed keeps moved = λ end here. moved end (eq-eqb rec other here)
+    keeps_idle (call.RttInitRipas rd base top) placed keeps moved = λ end reached. tt
+    keeps_idle (call.RttSetRipas rd other base top) placed keeps moved = λ end reached here. moved end (eq-eqb rec other here)
     keeps_idle _ placed keeps moved = tt
 
 -- ---- tests
@@ -152,14 +159,24 @@ runnable_updated TurnedOff rec other is = absurd (other refl)
 runnable_updated SystemTurnedOff rec other is = is
 runnable_updated (RequestMoved base) rec other is = is
 
+-- what runs on no CPU is there, and is read so
+pub idle_there : (found : Option RecRecord) → is_idle found ≡ true → is_some found ≡ true
+idle_there None idle = both_ways idle refl
+idle_there (Some rec) idle = refl
+
+pub idle_read : (found : Option RecRecord) → is_idle found ≡ true → is_none (unwrap_or found no_rec).cpu ≡ true
+idle_read None idle = both_ways idle refl
+idle_read (Some rec) idle = idle
+
+-- so it is once a part of what it asks for is set
+idle_moved : (end : ℕ) (rec : RecRecord) → is_idle (Some rec) ≡ true → is_idle (Some (rec_updated (RequestMoved end) rec)) ≡ true
+unfolding rec_updated
+idle_moved end rec idle = idle
+
 -- what asks so runs on no CPU
 from_idle : (base : ℕ) (found : Option RecRecord) → asks_from found base ≡ true → IsTrue (is_none (unwrap_or found no_rec).cpu)
 from_idle base None asks = both_ways asks refl
 from_idle base (Some rec) asks = (and_parts (is_none rec.cpu) _ asks).0
-
-to_idle : (top ripas : ℕ) (found : Option RecRecord) → asks_to found top ripas ≡ true → IsTrue (is_none (unwrap_or found no_rec).cpu)
-to_idle top ripas None asks = both_ways asks refl
-to_idle top ripas (Some rec) asks = (and_parts (is_none rec.cpu) _ asks).0
 
 -- what is asked for is read so
 up_to_read : (found : Option Request) (top ripas : ℕ) → is_up_to found top ripas ≡ true
@@ -170,13 +187,16 @@ up_to_read (Some request) top ripas is =
     (refl, eqb-true request.top top parts.0, eqb-true (ripas_number request.ripas) ripas parts.1)
 
 -- so it is once a part of it is set
-to_moved : (top ripas end : ℕ) (rec : RecRecord) → asks_to (Some rec) top ripas ≡ true
-    → asks_to (Some (rec_updated (RequestMoved end) rec)) top ripas ≡ true
+pub to_moved : (top ripas end : ℕ) (rec : RecRecord) → runs_or_asks_to (Some rec) top ripas ≡ true
+    → runs_or_asks_to (Some (rec_updated (RequestMoved end) rec)) top ripas ≡ true
 unfolding rec_updated
-to_moved top ripas end rec asks =
-    let parts = and_parts (is_none rec.cpu) (is_up_to rec.request top ripas) asks in
-    let read = up_to_read rec.request top ripas parts.1 in
-    and_from _ _ parts.0 (and_from _ _ (eq-eqb _ top read.1) (eq-eqb _ ripas read.2))
+to_moved top ripas end rec asks = elim (or_cases (is_some rec.cpu) (is_up_to rec.request top ripas) asks) [
+  | inl runs ↦ ap (λ (b : Bool). b || ((unwrap_or rec.request no_request).top == top
+      && ripas_number (unwrap_or rec.request no_request).ripas == ripas)) runs
+  | inr ends ↦
+      (let read = up_to_read rec.request top ripas ends in
+      or_right (is_some rec.cpu) _ (and_from _ _ (eq-eqb _ top read.1) (eq-eqb _ ripas read.2)))
+]
 
 -- what begins there is read so
 pub from_read : (base : ℕ) (found : Option RecRecord) → asks_from found base ≡ true
@@ -185,13 +205,17 @@ from_read base None asks = both_ways asks refl
 from_read base (Some rec) asks =
     let parts = and_parts (is_none rec.cpu) ((request_of rec).base == base) asks in (parts.0, eqb-true _ base parts.1, refl)
 
-pub to_read : (top ripas : ℕ) (found : Option RecRecord) → asks_to found top ripas ≡ true
-    → (is_none (unwrap_or found no_rec).cpu ≡ true) × (is_some (unwrap_or found no_rec).request ≡ true)
-    × ((request_of (unwrap_or found no_rec)).top ≡ top) × (ripas_number (request_of (unwrap_or found no_rec)).ripas ≡ ripas)
-to_read top ripas None asks = both_ways asks refl
-to_read top ripas (Some rec) asks =
-    let parts = and_parts (is_none rec.cpu) (is_up_to rec.request top ripas) asks in
-    let read = up_to_read rec.request top ripas parts.1 in (parts.0, read.0, read.1, read.2)
+pub to_read : (top ripas : ℕ) (found : Option RecRecord) → runs_or_asks_to found top ripas ≡ true
+    → IsTrue (is_none (unwrap_or found no_rec).cpu)
+    → (is_some (unwrap_or found no_rec).request ≡ true) × ((request_of (unwrap_or found no_rec)).top ≡ top)
+    × (ripas_number (request_of (unwrap_or found no_rec)).ripas ≡ ripas)
+to_read top ripas None asks idle = both_ways asks refl
+to_read top ripas (Some rec) asks idle = by rec.cpu asks idle
+  where
+    by : (at : Option ℕ) → (is_some at || is_up_to rec.request top ripas) ≡ true → IsTrue (is_none at)
+        → (is_some rec.request ≡ true) × ((request_of rec).top ≡ top) × (ripas_number (request_of rec).ripas ≡ ripas)
+    by None asks idle = up_to_read rec.request top ripas asks
+    by (Some k) asks idle = both_ways idle refl
 
 pub owner_read : (rd : ℕ) (found : Option RecRecord) → has_owner found rd ≡ true → (unwrap_or found no_rec).owner ≡ rd
 owner_read rd None is = both_ways is refl
@@ -201,11 +225,14 @@ pub run_read : (found : Option RecRecord) → can_run found ≡ true → (unwrap
 run_read None is = both_ways is refl
 run_read (Some rec) is = is
 
--- what asks so on no CPU runs or asks so
-pub runs_or_asks-asking : (base : ℕ) (found : Option RecRecord) → asks_from found base ≡ true → runs_or_asks found base ≡ true
-runs_or_asks-asking base None asks = both_ways asks refl
-runs_or_asks-asking base (Some rec) asks =
-    let parts = and_parts (is_none rec.cpu) ((request_of rec).base == base) asks in or_right (is_some rec.cpu) _ parts.1
+-- what asks so on no CPU runs or asks so, or from later on
+pub runs_or_asks-asking : (base most : ℕ) (found : Option RecRecord) → asks_from found base ≡ true → nat_le base most ≡ true
+    → runs_or_asks found base most ≡ true
+runs_or_asks-asking base most None asks ends = both_ways asks refl
+runs_or_asks-asking base most (Some rec) asks ends =
+    let parts = and_parts (is_none rec.cpu) ((request_of rec).base == base) asks in
+    or_right (is_some rec.cpu) _ (ap (is_within base most) (eqb-true (request_of rec).base base parts.1)
+    ∙ and_from (nat_le base base) (nat_le base most) (le-leb base base (omega arith)) ends)
 
 -- ---- a REC that leaves
 
@@ -228,7 +255,7 @@ module _ (s : State) (cpu : ℕ) (given : Reply) (new : State) (rec base top rip
     (stands : standing_of s cpu ≡ Inside rec (exit_reason.RipasChange base top ripas)) where
   -- its record, and what that says then
   left_asking : IsCarried s cpu call.Exit given new
-      → (asks_from (new.rec rec) base ≡ true) × (nat_lt base top ≡ true → asks_to (new.rec rec) top ripas ≡ true)
+      → (asks_from (new.rec rec) base ≡ true) × (nat_lt base top ≡ true → runs_or_asks_to (new.rec rec) top ripas ≡ true)
   unfolding behind class_of changed rec_updated
   left_asking carried =
       let at = rec_inside s cpu in
@@ -243,26 +270,15 @@ module _ (s : State) (cpu : ℕ) (given : Reply) (new : State) (rec base top rip
         λ some. rw (carried.done.1, own) (up_to_asked r.request base top ripas asked.1 asked.2 some),
       )
 
-module _ (s : State) (cpu : ℕ) (given : Reply) (new : State) (rec base : ℕ) where
-  -- a call isn't carried out as if a REC that runs on no CPU asked for something from elsewhere on
-  pub rows_asked : (asked : Call) → IsCarried s cpu asked given new
-      → (IsTrue (is_none (rec_at s rec).cpu) → (request_of (rec_at s rec)).base ≡ base) → asks_else asked given rec base ≡ true → ⊥
-  unfolding behind asks_else
-  rows_asked (call.RecEnter other) carried read other_words =
-      let parts = and_parts (rec == other) (not (is_told base given)) other_words in
-      let here = sym (eqb-true rec other parts.0) in
-      let begins = read (subst (λ g. IsTrue (is_none (rec_at s g).cpu)) here carried.rows.1.1.0) in
-      let told : is_told base given ≡ true =
-      ap (is_told base) carried.done.0 ∙ eq-eqb base _ (sym (ap (λ g. (request_of (rec_at s g)).base) here ∙ begins)) in
-      both_ways told (not-true (is_told base given) parts.1)
-  rows_asked (call.RttSetRipas rd other from top) carried read other_words =
-      let parts = and_parts (rec == other) (not (base == from)) other_words in
-      let here = sym (eqb-true rec other parts.0) in
-      let begins = read (subst (λ g. IsTrue (is_none (rec_at s g).cpu)) here carried.rows.1.0) in
-      let same : base ≡ from =
-      sym (eqb-true from _ carried.rows.1.1.1.0 ∙ ap (λ g. (request_of (rec_at s g)).base) here ∙ begins) in
-      both_ways (eq-eqb base from same) (not-true (base == from) parts.1)
-  rows_asked _ carried read other_words = both_ways other_words refl
+-- one that leaves runs on no CPU
+left_idle : (s : State) (cpu : ℕ) (given : Reply) (new : State) (rec : ℕ) (reason : ExitReason) → standing_of s cpu ≡ Inside rec reason
+    → IsCarried s cpu call.Exit given new → is_idle (new.rec rec) ≡ true
+unfolding behind class_of changed rec_updated
+left_idle s cpu given new rec reason stands carried =
+    let at = rec_inside s cpu in
+    let is : Inside at (reason_at (rec_at s at)) ≡ Inside rec reason = sym (standing-inside s cpu carried.placed) ∙ stands in
+    let here : rec ≡ at = cc in
+    rw (carried.done.1, eq-eqb rec at here) refl
 
 -- ---- steps
 
@@ -288,6 +304,17 @@ module _ (rec : ℕ) (s new : State) (cpu : ℕ) (command : Command) (given : Re
         rec-kept test refl rec s is new cpu command given sound step (λ placed.
         keeps_record test refl rec s is cpu (λ update _. updated update) c keeps (λ _. updated TurnedOff))
 
+  -- it runs on no CPU where a call makes it
+  pub idle-made : is_accepted given ≡ true → makes_rec c rec ≡ true → is_idle (new.rec rec) ≡ true
+  idle-made accepted = made_idle s cpu given new rec c (carried accepted)
+
+  -- until it is destroyed, or entered
+  pub idle-left : (destroys c rec || enters c rec) ≡ false → is_idle (s.rec rec) ≡ true → is_idle (new.rec rec) ≡ true
+  idle-left keeps is =
+      rec-kept is_idle refl rec s is new cpu command given sound step (λ placed.
+      keeps_idle is_idle refl rec s is cpu idle_read c placed keeps (λ end _.
+      idle_moved end (rec_at s rec) (met_record is_idle refl rec s is)))
+
   -- where a call makes it so, it can run
   pub runnable-made : is_accepted given ≡ true → makes_runnable c rec ≡ true → can_run (new.rec rec) ≡ true
   runnable-made accepted = made_runnable s cpu given new rec c (carried accepted)
@@ -305,10 +332,24 @@ module _ (rec : ℕ) (s new : State) (cpu : ℕ) (command : Command) (given : Re
     pub from-made : is_accepted given ≡ true → moves_request c given rec base ≡ true → asks_from (new.rec rec) base ≡ true
     from-made accepted = made_request s cpu given new rec base c (carried accepted)
 
-    -- so it is read of one that asks for it
-    read_from : asks_from (s.rec rec) base ≡ true → IsTrue (is_none (rec_at s rec).cpu) → (request_of (rec_at s rec)).base ≡ base
-    unfolding rec_at
-    read_from is idle = (from_read base (s.rec rec) is).1
+    -- a call isn't carried out as if it asked for something from elsewhere on
+    rows_asked : (asked : Call) → IsCarried s cpu asked given new → asks_from (s.rec rec) base ≡ true → asks_else asked given rec base ≡ true → ⊥
+    unfolding behind asks_else rec_at
+    rows_asked (call.RecEnter other) carried is other_words =
+        let parts = and_parts (rec == other) (not (is_told base given)) other_words in
+        let read = from_read base (s.rec rec) is in
+        let told : is_told base given ≡ true =
+        ap (is_told base) carried.done.0
+        ∙ eq-eqb base _ (sym (ap (λ g. (request_of (unwrap_or (s.rec g) no_rec)).base) (sym (eqb-true rec other parts.0)) ∙ read.1)) in
+        both_ways told (not-true (is_told base given) parts.1)
+    rows_asked (call.RttSetRipas rd other from top) carried is other_words =
+        let parts = and_parts (rec == other) (not (base == from)) other_words in
+        let read = from_read base (s.rec rec) is in
+        let begins = eqb-true from _ carried.rows.1.1.1.0 in
+        let same : base ≡ from = sym (begins
+        ∙ ap (λ g. (request_of (unwrap_or (s.rec g) no_rec)).base) (sym (eqb-true rec other parts.0)) ∙ read.1) in
+        both_ways (eq-eqb base from same) (not-true (base == from) parts.1)
+    rows_asked _ carried is other_words = both_ways other_words refl
 
     -- until it is destroyed, is entered, or a part is set from there on
     pub from-left : (destroys c rec || enters c rec || sets_from c rec base) ≡ false → asks_from (s.rec rec) base ≡ true
@@ -319,26 +360,16 @@ module _ (rec : ℕ) (s new : State) (cpu : ℕ) (command : Command) (given : Re
         elim (cases_Bool (is_accepted given)) [
           | inl accepted ↦ rec-kept test refl rec s is new cpu command given sound step (λ placed.
               keeps_idle test refl rec s is cpu (from_idle base) c placed parts.0 (λ end sets.
-              absurd (rows_asked s cpu given new rec base c (carried accepted) (read_from is) (asks_elsewhere c given rec base sets parts.1))))
+              absurd (rows_asked c (carried accepted) is (asks_elsewhere c given rec base sets parts.1))))
           | inr refused ↦ ap (λ (t : State). test (t.rec rec)) (step-refuses s new cpu command given step refused) ∙ is
         ]
-
-  module _ (top ripas : ℕ) where
-    -- what it asks for ends there until it is destroyed, or entered
-    pub to-left : (destroys c rec || enters c rec) ≡ false → asks_to (s.rec rec) top ripas ≡ true → asks_to (new.rec rec) top ripas ≡ true
-    to-left keeps is =
-        let test = λ (found : Option RecRecord). asks_to found top ripas in
-        rec-kept test refl rec s is new cpu command given sound step (λ placed.
-        keeps_idle test refl rec s is cpu (to_idle top ripas) c placed keeps (λ end _.
-        to_moved top ripas end (rec_at s rec) (met_record test refl rec s is)))
 
   -- ---- replies
 
   module _ (base : ℕ) where
     pub from-denied : asks_from (s.rec rec) base ≡ true → (is_accepted given && asks_else c given rec base) ≡ true → ⊥
     from-denied is denied =
-        let parts = and_parts (is_accepted given) (asks_else c given rec base) denied in
-        rows_asked s cpu given new rec base c (carried parts.0) (read_from base is) parts.1
+        let parts = and_parts (is_accepted given) (asks_else c given rec base) denied in rows_asked base c (carried parts.0) is parts.1
 
 -- ---- RECs that leave
 
@@ -360,15 +391,18 @@ leaves-made fact s new cpu command given standing sound step accepted =
 
     of_reason : (fact : Fact) (rec : ℕ) (reason : ExitReason) → IsCarried s cpu call.Exit given new → standing_of s cpu ≡ Inside rec reason
         → is_left_with fact rec reason ≡ true → holds fact new ≡ true
+    of_reason (Idle rec) at reason carried stands leaves =
+        ap (λ g. is_idle (new.rec g)) (eqb-true rec at leaves) ∙ left_idle s cpu given new at reason stands carried
     of_reason (AsksFrom rec base) at (exit_reason.RipasChange from top ripas) carried stands leaves =
         from_reason rec base at from top ripas carried stands leaves
-    of_reason (RunsOrAsksFrom rec base) at (exit_reason.RipasChange from top ripas) carried stands leaves =
-        runs_or_asks-asking base (new.rec rec) (from_reason rec base at from top ripas carried stands leaves)
-    of_reason (AsksTo rec top ripas) at (exit_reason.RipasChange from its_top its_ripas) carried stands leaves =
+    of_reason (RunsOrAsksWithin rec least most) at (exit_reason.RipasChange from top ripas) carried stands leaves =
+        let parts = and_parts (rec == at && least == from) (nat_le least most) leaves in
+        runs_or_asks-asking least most (new.rec rec) (from_reason rec least at from top ripas carried stands parts.0) parts.1
+    of_reason (RunsOrAsksTo rec top ripas) at (exit_reason.RipasChange from its_top its_ripas) carried stands leaves =
         let parts = and_parts (rec == at && top == its_top && ripas == its_ripas) (nat_lt from its_top) leaves in
         let outer = and_parts (rec == at && top == its_top) (ripas == its_ripas) parts.0 in
         let inner = and_parts (rec == at) (top == its_top) outer.0 in
-        (λ i. asks_to (new.rec (eqb-true rec at inner.0 i)) (eqb-true top its_top inner.1 i) (eqb-true ripas its_ripas outer.1 i))
+        (λ i. runs_or_asks_to (new.rec (eqb-true rec at inner.0 i)) (eqb-true top its_top inner.1 i) (eqb-true ripas its_ripas outer.1 i))
         ∙ (left_asking s cpu given new at from its_top its_ripas stands carried).1 parts.1
     of_reason _ at _ carried stands leaves = both_ways leaves refl
 

@@ -1,7 +1,7 @@
 -- Entries of the last level of a RIPAS: one that a call makes so, by itself or as a REC asked, is so until another may replace it or set its RIPAS,
 -- and isn't read as of another.
-use Rattle.std.proofs.Common.{◌≡◌, ℕ, ◌-◌, ◌*◌, ◌<◌, ◌==◌, ◌&&◌, ◌||◌, nat_le, nat_lt, if◌then◌else◌, Bool, true, false, not, Option, Some, inl, inr, refl, sym, ◌∙◌, ap, subst, eqb-true, eq-eqb, arith}
-use Rattle.std.specs.Prelude.{unwrap_or}
+use Rattle.std.proofs.Common.{◌≡◌, ℕ, ◌-◌, ◌*◌, ◌<◌, ◌==◌, ◌&&◌, ◌||◌, nat_le, nat_lt, if◌then◌else◌, Bool, true, false, not, Option, Some, inl, inr, refl, sym, ◌∙◌, ap, subst, eqb-true, eq-eqb, arith, IsTrue}
+use Rattle.std.specs.Prelude.{unwrap_or, is_none}
 use Rattle.std.proofs.lemmas.Bool.{and_from, and_parts, le-leb, leb-true, lt-ltb, ltb-true, not-true, or_cases, or_parts}
 use Rattle.rmm_spec.specs.declared.accepted.StretchUse.TheVariants.{Requested}
 use Rattle.rmm_spec.specs.declared.call.Call.{Call}
@@ -27,9 +27,9 @@ use Rattle.lemmas.proofs.Tests.{both_ways}
 use Rattle.spec_lemmas.proofs.Behind.{behind}
 use Rattle.spec_lemmas.proofs.WalkLaws.{reach-le}
 use Rattle.verdict_laws.specs.declared.facts.Fact.{Fact}
-use Rattle.verdict_laws.specs.declared.facts.Fact.TheVariants.{AsksTo, HasRipas}
+use Rattle.verdict_laws.specs.declared.facts.Fact.TheVariants.{RunsOrAsksTo, HasRipas}
 use Rattle.verdict_laws.specs.Denying.{is_reported, reads_entry}
-use Rattle.verdict_laws.specs.Facts.{asks_to, creates_page, frees_entry, has_ripas, holds, is_one_entry, is_told, is_told_past, makes_with, may_init, may_reshape, may_set_ripas, sets_ram, sets_ripas}
+use Rattle.verdict_laws.specs.Facts.{creates_page, frees_entry, has_ripas, holds, is_one_entry, is_told, is_told_past, makes_with, may_init, may_reshape, may_set_ripas, runs_or_asks_to, sets_ram, sets_ripas}
 use Rattle.verdict_laws.proofs.EntryChanges.{leaf-left, leaf_found, ripas_read-denied, same_entry-last}
 use Rattle.verdict_laws.proofs.FactSteps.{IsDoneSo, step-has}
 use Rattle.verdict_laws.proofs.RamFacts.{IsWithin-may_set, MaySet, last_stretch, ram-made, ram_there}
@@ -65,7 +65,8 @@ behind_creates rd ipa s cpu _ creates = both_ways creates refl
 
 -- RTT_SET_RIPAS leaves what its REC asked for
 made_asked : (rd ipa rec top asked : ℕ) (s new : State) (cpu : ℕ) (given : Reply) (c : Call) → IsSound s → IsCarried s cpu c given new
-    → asks_to (s.rec rec) top asked ≡ true → sets_ripas c given rec rd ipa ≡ true → has_ripas (new.leaf rd 3 (entry_number 3 ipa)) asked ≡ true
+    → runs_or_asks_to (s.rec rec) top asked ≡ true → sets_ripas c given rec rd ipa ≡ true
+    → has_ripas (new.leaf rd 3 (entry_number 3 ipa)) asked ≡ true
 unfolding behind sets_ripas changed reached_change rec_at
 made_asked rd ipa rec top asked s new cpu given (call.RttSetRipas other its_rec base wanted) sound carried asks sets =
     let parts = and_parts (rec == its_rec && rd == other && nat_le base ipa) (is_told_past base ipa given) sets in
@@ -81,9 +82,10 @@ made_asked rd ipa rec top asked s new cpu given (call.RttSetRipas other its_rec 
     let purpose = Requested its_rec ripas in
     let may = subst (MaySet s purpose other base wanted end) last (reached, carried.rows.1.1.1.1.1.1.1.0, can.1.0) in
     let there = IsWithin-may_set s purpose other base wanted end ipa sound can.0 may (leb-true base ipa from.1) (ltb-true ipa end past.0) in
+    let idle = subst (λ g. IsTrue (is_none (unwrap_or (s.rec g) no_rec).cpu)) (sym (eqb-true rec its_rec own.0)) carried.rows.1.0 in
     let kind : ripas_number ripas ≡ asked =
     ap (λ g. ripas_number (request_of (unwrap_or (s.rec g) no_rec)).ripas) (sym (eqb-true rec its_rec own.0))
-    ∙ (to_read top asked (s.rec rec) asks).3 in
+    ∙ (to_read top asked (s.rec rec) asks idle).2 in
     let n = entry_number 3 ipa in
     let here = subst (λ r. s.leaf r 3 n ≡ Some (entry_at s other 3 n)) (sym (eqb-true rd other own.1)) there.leaf in
     rw (is_next, last, own.1, le-leb _ _ there.above, lt-ltb _ _ there.up_to, here)
@@ -162,7 +164,7 @@ module _ (rd ipa ripas : ℕ) (s new : State) (cpu : ℕ) (command : Command) (g
 -- where a call makes a fact so with another, and is accepted where that holds, the fact holds behind it
 pub with-made : (other fact : Fact) (s new : State) (cpu : ℕ) (command : Command) (given : Reply) → IsSound s → Step s cpu command given new
     → is_accepted given ≡ true → holds other s ≡ true → makes_with other fact (call_of command) given ≡ true → holds fact new ≡ true
-with-made (AsksTo rec top asked) (HasRipas rd ipa ripas) s new cpu command given sound step accepted holds_other makes =
+with-made (RunsOrAsksTo rec top asked) (HasRipas rd ipa ripas) s new cpu command given sound step accepted holds_other makes =
     let c = call_of command in
     let parts = and_parts (ripas == asked) (sets_ripas c given rec rd ipa) makes in
     ap (has_ripas (new.leaf rd 3 (entry_number 3 ipa))) (eqb-true ripas asked parts.0)

@@ -31,6 +31,15 @@ pub running_there : (at : ℕ) (found : Option RecRecord) → runs_on at found �
 running_there at None runs = both_ways runs refl
 running_there at (Some r) runs = refl
 
+-- and isn't read as idle
+pub running_read : (at : ℕ) (found : Option RecRecord) → runs_on at found ≡ true → is_none (unwrap_or found no_rec).cpu ≡ false
+running_read at None runs = both_ways runs refl
+running_read at (Some r) runs = by r.cpu runs
+  where
+    by : (found : Option ℕ) → is_cpu at found ≡ true → is_none found ≡ false
+    by None runs = both_ways runs refl
+    by (Some k) runs = refl
+
 -- on one CPU
 one_cpu : (at cpu : ℕ) (found : Option RecRecord) → runs_on at found ≡ true → runs_on cpu found ≡ true → at ≡ cpu
 one_cpu at cpu None one other = both_ways one refl
@@ -78,8 +87,8 @@ module _ (rec at : ℕ) (s new : State) (cpu : ℕ) (given : Reply) where
         both_ways
         (eq-eqb at cpu (one_cpu at cpu (s.rec rec) runs (ap (λ g. runs_on cpu (s.rec g)) here ∙ inside_runs s cpu carried.placed)))
         keeps
-    keeps_running (call.RttInitRipas rd base top) carried keeps = λ end. tt
-    keeps_running (call.RttSetRipas rd other base top) carried keeps = λ end here. met_record (runs_on at) refl rec s runs
+    keeps_running (call.RttInitRipas rd base top) carried keeps = λ end reached. tt
+    keeps_running (call.RttSetRipas rd other base top) carried keeps = λ end reached here. met_record (runs_on at) refl rec s runs
     keeps_running _ carried keeps = tt
 
 -- ---- steps

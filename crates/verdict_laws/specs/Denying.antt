@@ -1,5 +1,5 @@
 -- Which replies aren't given where facts hold: by one of them, by several together, or where a CPU stands. This project's own.
-use Rattle.std.specs.Prelude.{ℕ, ◌-◌, ◌^◌, ◌==◌, ◌&&◌, ◌||◌, nat_le, nat_lt, Bool, true, false, not, List, Option, None, Some, slice_index_or}
+use Rattle.std.specs.Prelude.{ℕ, ◌-◌, ◌^◌, ◌==◌, ◌&&◌, ◌||◌, nat_le, nat_lt, Bool, true, false, not, List, [], ◌∷◌, Option, None, Some, slice_index_or}
 use Rattle.std.specs.List.{list_all, list_any}
 use Rattle.rmm_spec.specs.declared.call.Call.{Call}
 use Rattle.rmm_spec.specs.declared.call.Call.TheVariants as call
@@ -12,12 +12,12 @@ use Rattle.rmm_spec.specs.Ownership.{is_accepted}
 use Rattle.rmm_spec.specs.Rows.{Needed, all_allowed}
 use Rattle.rmm_spec.specs.Step.Terms.{Way, is_page, named, way_of, words_of}
 use Rattle.verdict_laws.specs.declared.facts.Fact.{Fact}
-use Rattle.verdict_laws.specs.declared.facts.Fact.TheVariants.{NewRealm, Tagged, Covered, Wide, SoleVmid, PartOf, Unassigned, UnassignedRam, Assigned, HasRipas, Activated, OwnedBy, Runnable, RunsOn, AsksFrom, RunsOrAsksFrom, AsksTo}
+use Rattle.verdict_laws.specs.declared.facts.Fact.TheVariants.{NewRealm, Tagged, Covered, Wide, SoleVmid, PartOf, Unassigned, UnassignedRam, Assigned, HasRipas, Activated, OwnedBy, Runnable, Idle, RunsOn, AsksFrom, RunsOrAsksWithin, RunsOrAsksTo}
 use Rattle.verdict_laws.specs.declared.placing.Standing.{Standing}
 use Rattle.verdict_laws.specs.declared.placing.Standing.TheVariants.{Inside}
 use Rattle.verdict_laws.specs.Separate.{is_freed}
 use Rattle.verdict_laws.specs.Slices.{shows_names}
-use Rattle.verdict_laws.specs.Facts.{creates_page, frees_entry, is_one_entry, is_one_table, is_tag, is_told}
+use Rattle.verdict_laws.specs.Facts.{creates_page, frees_entry, is_one_entry, is_one_table, is_tag, is_told, is_within}
 
 -- ---- by one
 
@@ -71,6 +71,21 @@ asks_else (call.RecEnter other) given rec base = rec == other && not (is_told ba
 asks_else (call.RttSetRipas rd other from top) given rec base = rec == other && not (base == from)
 asks_else _ given rec base = false
 
+-- whether the only word is one of these addresses
+abbrev pub is_word_within : ℕ → ℕ → List ℕ → Bool
+is_word_within least most (word ∷ []) = is_within least most word
+is_word_within least most _ = false
+
+abbrev pub is_told_within : ℕ → ℕ → Reply → Bool
+is_told_within least most (reply.Ok words) = is_word_within least most words.items
+is_told_within least most _ = false
+
+-- whether the call is carried out as if the REC asked for something from none of these addresses on
+unfoldable pub asks_outside : Call → Reply → ℕ → ℕ → ℕ → Bool
+asks_outside (call.RecEnter other) given rec least most = rec == other && not (is_told_within least most given)
+asks_outside (call.RttSetRipas rd other from top) given rec least most = rec == other && not (is_within least most from)
+asks_outside _ given rec least most = false
+
 -- whether the call is refused where the REC runs
 unfoldable pub needs_idle : Call → ℕ → Bool
 needs_idle (call.RecEnter other) rec = rec == other
@@ -114,10 +129,11 @@ denies (HasRipas rd ipa ripas) c given = is_accepted given && reads_entry c rd i
 denies (Activated rd) c given = is_accepted given && needs_new c rd
 denies (OwnedBy rec rd) c given = false
 denies (Runnable rec) c given = false
+denies (Idle rec) c given = false
 denies (RunsOn rec at) c given = is_accepted given && needs_idle c rec
 denies (AsksFrom rec base) c given = is_accepted given && asks_else c given rec base
-denies (RunsOrAsksFrom rec base) c given = is_accepted given && asks_else c given rec base
-denies (AsksTo rec top ripas) c given = false
+denies (RunsOrAsksWithin rec least most) c given = is_accepted given && asks_outside c given rec least most
+denies (RunsOrAsksTo rec top ripas) c given = false
 
 -- ---- replies that several deny
 
@@ -132,6 +148,7 @@ abbrev pub gives_tag : List Fact → Needed → Fact → Bool
 gives_tag facts n (Tagged granule tag) = n.granule == granule && is_tag n.tag tag
 gives_tag facts n (Wide rd width) = n.granule == rd && is_tag n.tag Rd
 gives_tag facts n (PartOf granule owner) = n.granule == granule && is_tag n.tag Delegated && list_any (gives_no_owner owner) facts
+gives_tag facts n (Idle rec) = n.granule == rec && is_tag n.tag Rec
 gives_tag facts n (RunsOn rec at) = n.granule == rec && is_tag n.tag Rec
 gives_tag facts n (AsksFrom rec base) = n.granule == rec && is_tag n.tag Rec
 gives_tag facts n _ = false
@@ -170,7 +187,7 @@ gives_base rec base _ = false
 
 -- whether the fact says that what the REC asks for ends at the address or later
 abbrev pub gives_top : ℕ → ℕ → Fact → Bool
-gives_top rec top (AsksTo other its_top ripas) = rec == other && nat_le top its_top
+gives_top rec top (RunsOrAsksTo other its_top ripas) = rec == other && nat_le top its_top
 gives_top rec top _ = false
 
 -- whether the facts say that the REC asks for the pages, and there are some
@@ -195,10 +212,21 @@ are_within facts (call.RttReadEntry rd ipa level) = nat_le 1 level && give_half 
 are_within facts (call.RttSetRipas rd rec base top) = give_pages facts rec base top
 are_within facts _ = false
 
--- whether the call is refused with ERROR_INPUT, though where the facts hold all is well that it says and names
+-- whether the fact says that the REC runs
+abbrev pub gives_running : ℕ → Fact → Bool
+gives_running rec (RunsOn other at) = rec == other
+gives_running rec _ = false
+
+-- whether the facts say that the call is refused for its REC, by a row before those that refuse with ERROR_INPUT
+unfoldable pub is_stopped : List Fact → Call → Bool
+is_stopped facts (call.RttSetRipas rd rec base top) = list_any (gives_running rec) facts
+is_stopped facts _ = false
+
+-- whether the call is refused with ERROR_INPUT, though where the facts hold all is well that it says and names, or it is refused for its REC before
 abbrev pub deny_input : ℕ → List Fact → Call → Reply → Bool
 deny_input granules facts c given =
-    is_refused_with 1 given && all_allowed (words_of c) && list_all (give_tag granules facts) (named c) && are_within facts c
+    is_refused_with 1 given && all_allowed (words_of c) && list_all (give_tag granules facts) (named c)
+    && (are_within facts c || is_stopped facts c)
 
 -- whether the fact says that the realm was activated
 abbrev pub gives_run : ℕ → Fact → Bool
@@ -227,8 +255,8 @@ deny_new facts c given = is_refused_new given && enters_run facts c
 
 -- whether the fact says that the REC runs on no CPU
 abbrev pub gives_idle : ℕ → Fact → Bool
+gives_idle rec (Idle other) = rec == other
 gives_idle rec (AsksFrom other base) = rec == other
-gives_idle rec (AsksTo other top ripas) = rec == other
 gives_idle rec _ = false
 
 -- whether the fact says that the REC can run

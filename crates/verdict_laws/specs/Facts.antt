@@ -15,7 +15,7 @@ use Rattle.rmm_spec.specs.Rows.{Needed}
 use Rattle.rmm_spec.specs.State.{RealmRecord, RecRecord, Request, State}
 use Rattle.rmm_spec.specs.Walk.{entry_number, entry_ripas, is_multiple, is_ram, is_unassigned, table_number, table_size}
 use Rattle.verdict_laws.specs.declared.facts.Fact.{Fact}
-use Rattle.verdict_laws.specs.declared.facts.Fact.TheVariants.{NewRealm, Tagged, Covered, Wide, SoleVmid, PartOf, Unassigned, UnassignedRam, Assigned, HasRipas, Activated, OwnedBy, Runnable, RunsOn, AsksFrom, RunsOrAsksFrom, AsksTo}
+use Rattle.verdict_laws.specs.declared.facts.Fact.TheVariants.{NewRealm, Tagged, Covered, Wide, SoleVmid, PartOf, Unassigned, UnassignedRam, Assigned, HasRipas, Activated, OwnedBy, Runnable, Idle, RunsOn, AsksFrom, RunsOrAsksWithin, RunsOrAsksTo}
 use Rattle.verdict_laws.specs.declared.placing.ExitReason.{ExitReason}
 use Rattle.verdict_laws.specs.declared.placing.ExitReason.TheVariants.{RipasChange}
 use Rattle.verdict_laws.specs.declared.placing.Standing.{Standing}
@@ -104,25 +104,34 @@ abbrev pub can_run : Option RecRecord → Bool
 can_run None = false
 can_run (Some rec) = rec.runnable
 
+-- whether a REC is there, and runs on no CPU
+abbrev pub is_idle : Option RecRecord → Bool
+is_idle None = false
+is_idle (Some rec) = is_none rec.cpu
+
 -- whether a REC is there, runs on no CPU, and what it asks for begins at the address, or is nothing and the address is 0
 abbrev pub asks_from : Option RecRecord → ℕ → Bool
 asks_from None base = false
 asks_from (Some rec) base = is_none rec.cpu && (request_of rec).base == base
 
--- whether a REC is there, and runs, or what it asks for begins at the address, or is nothing and the address is 0
-abbrev pub runs_or_asks : Option RecRecord → ℕ → Bool
-runs_or_asks None base = false
-runs_or_asks (Some rec) base = is_some rec.cpu || (request_of rec).base == base
+-- whether an address is one of these
+abbrev pub is_within : ℕ → ℕ → ℕ → Bool
+is_within least most address = nat_le least address && nat_le address most
+
+-- whether a REC is there, and runs, or what it asks for begins at one of these addresses, or is nothing and 0 is one of them
+abbrev pub runs_or_asks : Option RecRecord → ℕ → ℕ → Bool
+runs_or_asks None least most = false
+runs_or_asks (Some rec) least most = is_some rec.cpu || is_within least most (request_of rec).base
 
 -- whether something is asked for that ends at the address, and is the RIPAS of that number
 abbrev pub is_up_to : Option Request → ℕ → ℕ → Bool
 is_up_to None top ripas = false
 is_up_to (Some request) top ripas = request.top == top && ripas_number request.ripas == ripas
 
--- whether a REC is there, runs on no CPU, and asks for that
-abbrev pub asks_to : Option RecRecord → ℕ → ℕ → Bool
-asks_to None top ripas = false
-asks_to (Some rec) top ripas = is_none rec.cpu && is_up_to rec.request top ripas
+-- whether a REC is there, and runs, or asks for that
+abbrev pub runs_or_asks_to : Option RecRecord → ℕ → ℕ → Bool
+runs_or_asks_to None top ripas = false
+runs_or_asks_to (Some rec) top ripas = is_some rec.cpu || is_up_to rec.request top ripas
 
 -- whether the fact holds
 abbrev pub holds : Fact → State → Bool
@@ -139,10 +148,11 @@ holds (HasRipas rd ipa ripas) s = has_ripas (s.leaf rd 3 (entry_number 3 ipa)) r
 holds (Activated rd) s = has_run (s.realm rd)
 holds (OwnedBy rec rd) s = has_owner (s.rec rec) rd
 holds (Runnable rec) s = can_run (s.rec rec)
+holds (Idle rec) s = is_idle (s.rec rec)
 holds (RunsOn rec at) s = runs_on at (s.rec rec)
 holds (AsksFrom rec base) s = asks_from (s.rec rec) base
-holds (RunsOrAsksFrom rec base) s = runs_or_asks (s.rec rec) base
-holds (AsksTo rec top ripas) s = asks_to (s.rec rec) top ripas
+holds (RunsOrAsksWithin rec least most) s = runs_or_asks (s.rec rec) least most
+holds (RunsOrAsksTo rec top ripas) s = runs_or_asks_to (s.rec rec) top ripas
 
 -- whether it does before the first call
 abbrev pub begins : Fact → Bool
@@ -159,10 +169,11 @@ begins (HasRipas rd ipa ripas) = false
 begins (Activated rd) = false
 begins (OwnedBy rec rd) = false
 begins (Runnable rec) = false
+begins (Idle rec) = false
 begins (RunsOn rec at) = false
 begins (AsksFrom rec base) = false
-begins (RunsOrAsksFrom rec base) = false
-begins (AsksTo rec top ripas) = false
+begins (RunsOrAsksWithin rec least most) = false
+begins (RunsOrAsksTo rec top ripas) = false
 
 -- ---- calls that make it
 
@@ -290,10 +301,11 @@ makes (HasRipas rd ipa ripas) cpu c given = ripas == 1 && (sets_ram c given rd i
 makes (Activated rd) cpu c given = activates c rd
 makes (OwnedBy rec rd) cpu c given = makes_owned c rec rd
 makes (Runnable rec) cpu c given = makes_runnable c rec
+makes (Idle rec) cpu c given = makes_rec c rec
 makes (RunsOn rec at) cpu c given = at == cpu && enters c rec
 makes (AsksFrom rec base) cpu c given = moves_request c given rec base
-makes (RunsOrAsksFrom rec base) cpu c given = moves_request c given rec base
-makes (AsksTo rec top ripas) cpu c given = false
+makes (RunsOrAsksWithin rec least most) cpu c given = moves_request c given rec least && nat_le least most
+makes (RunsOrAsksTo rec top ripas) cpu c given = false
 
 -- whether the call, carried out with that reply, sets the RIPAS that the REC asks for, and the address has an entry there of the last level
 unfoldable pub sets_ripas : Call → Reply → ℕ → ℕ → ℕ → Bool
@@ -303,14 +315,16 @@ sets_ripas _ given rec rd ipa = false
 
 -- whether the call makes the fact, where it is carried out with that reply and another holds before: the REC asks for that
 abbrev pub makes_with : Fact → Fact → Call → Reply → Bool
-makes_with (AsksTo rec top asked) (HasRipas rd ipa ripas) c given = ripas == asked && sets_ripas c given rec rd ipa
+makes_with (RunsOrAsksTo rec top asked) (HasRipas rd ipa ripas) c given = ripas == asked && sets_ripas c given rec rd ipa
 makes_with other fact c given = false
 
 -- whether the fact is so of a REC that leaves for the reason; what is asked for has pages
 abbrev pub is_left_with : Fact → ℕ → ExitReason → Bool
+is_left_with (Idle rec) at reason = rec == at
 is_left_with (AsksFrom rec base) at (RipasChange from top ripas) = rec == at && base == from
-is_left_with (RunsOrAsksFrom rec base) at (RipasChange from top ripas) = rec == at && base == from
-is_left_with (AsksTo rec top ripas) at (RipasChange from its_top its_ripas) = rec == at && top == its_top && ripas == its_ripas && nat_lt from its_top
+is_left_with (RunsOrAsksWithin rec least most) at (RipasChange from top ripas) = rec == at && least == from && nat_le least most
+is_left_with (RunsOrAsksTo rec top ripas) at (RipasChange from its_top its_ripas) =
+    rec == at && top == its_top && ripas == its_ripas && nat_lt from its_top
 is_left_with _ at reason = false
 
 -- whether the call makes the fact, where it is carried out and its CPU stands there: a REC leaves, and so it is of it
@@ -398,6 +412,11 @@ unfoldable pub sets_from : Call → ℕ → ℕ → Bool
 sets_from (call.RttSetRipas rd other from top) rec base = rec == other && base == from
 sets_from _ rec base = false
 
+-- whether the call sets a part of what the REC asks for, from one of these addresses on, and may go past them
+unfoldable pub sets_past : Call → ℕ → ℕ → ℕ → Bool
+sets_past (call.RttSetRipas rd other base top) rec least most = rec == other && is_within least most base && not (nat_le top most)
+sets_past _ rec least most = false
+
 -- whether the CPU's call may end the fact, where it is carried out with that reply
 abbrev pub may_end : Fact → ℕ → Call → Reply → Bool
 may_end (NewRealm rd) cpu c given = may_activate c rd
@@ -408,19 +427,31 @@ may_end (SoleVmid rd vmid) cpu c given = may_share c rd vmid
 may_end (PartOf granule owner) cpu c given = needs (changeable c) granule Delegated
 may_end (Unassigned rd ipa) cpu c given = may_assign c rd ipa
 may_end (UnassignedRam rd ipa) cpu c given = may_assign c rd ipa || frees_entry c rd ipa || may_set_ripas c rd ipa
-may_end (Assigned rd ipa page) cpu c given = may_assign c rd ipa || frees_entry c rd ipa
+may_end (Assigned rd ipa page) cpu c given = may_reshape c rd ipa || (frees_entry c rd ipa && is_freed c given page)
 may_end (HasRipas rd ipa ripas) cpu c given =
     may_reshape c rd ipa || (if ripas == 1 then frees_entry c rd ipa else creates_page c rd ipa) || may_set_ripas c rd ipa || may_init c rd
 may_end (Activated rd) cpu c given = may_narrow c rd
 may_end (OwnedBy rec rd) cpu c given = destroys c rec
 may_end (Runnable rec) cpu c given = destroys c rec || turns_off c
+may_end (Idle rec) cpu c given = destroys c rec || enters c rec
 may_end (RunsOn rec at) cpu c given = exits c && at == cpu
 may_end (AsksFrom rec base) cpu c given = destroys c rec || enters c rec || sets_from c rec base
-may_end (RunsOrAsksFrom rec base) cpu c given = destroys c rec || exits c || sets_from c rec base
-may_end (AsksTo rec top ripas) cpu c given = destroys c rec || enters c rec
+may_end (RunsOrAsksWithin rec least most) cpu c given = destroys c rec || exits c || sets_past c rec least most
+may_end (RunsOrAsksTo rec top ripas) cpu c given = destroys c rec || exits c
 
--- whether the call of a CPU that stands there leaves the fact, though it may end it from elsewhere: its CPU is in another REC
-unfoldable pub stays_with : Fact → Call → Standing → Bool
-stays_with (Runnable rec) call.CpuOff (Inside at reason) = not (rec == at)
-stays_with (RunsOrAsksFrom rec base) call.Exit (Inside at reason) = not (rec == at)
-stays_with fact _ standing = false
+-- whether a REC leaves by the call of a CPU that stands in another
+unfoldable pub exits_other : Call → Standing → ℕ → Bool
+exits_other call.Exit (Inside at reason) rec = not (rec == at)
+exits_other _ standing rec = false
+
+-- whether one turns itself off by it
+unfoldable pub turns_off_other : Call → Standing → ℕ → Bool
+turns_off_other call.CpuOff (Inside at reason) rec = not (rec == at)
+turns_off_other _ standing rec = false
+
+-- whether the call of a CPU that stands there leaves the fact, though it may end it from elsewhere
+abbrev pub stays_with : Fact → Call → Standing → Bool
+stays_with (Runnable rec) c standing = turns_off_other c standing rec
+stays_with (RunsOrAsksWithin rec least most) c standing = exits_other c standing rec
+stays_with (RunsOrAsksTo rec top ripas) c standing = exits_other c standing rec
+stays_with fact c standing = false

@@ -41,14 +41,16 @@ pub enum Fact {
     OwnedBy { rec: u64, rd: u64 },
     /// The REC is there, was made runnable, and didn't turn itself off.
     Runnable { rec: u64 },
+    /// The REC is there, and runs on no CPU.
+    Idle { rec: u64 },
     /// The REC is there, and runs on the CPU.
     RunsOn { rec: u64, cpu: u8 },
     /// The REC is there, runs on no CPU, and asks for a RIPAS from the address on, or for none where that is 0.
     AsksFrom { rec: u64, base: u64 },
-    /// The REC is there, and runs on a CPU or asks for a RIPAS from the address on, or for none where that is 0.
-    RunsOrAsksFrom { rec: u64, base: u64 },
-    /// The REC is there, runs on no CPU, and asks for the RIPAS, by its number, up to the address.
-    AsksTo { rec: u64, top: u64, ripas: u64 },
+    /// The REC is there, and runs on a CPU or asks for a RIPAS from one of these addresses on, or for none, which is from 0 on.
+    RunsOrAsksWithin { rec: u64, least: u64, most: u64 },
+    /// The REC is there, and runs on a CPU or asks for the RIPAS, by its number, up to the address.
+    RunsOrAsksTo { rec: u64, top: u64, ripas: u64 },
 }
 
 /// First events of a history, so many, have no order where one of their replies is denied by facts that hold while its call may take effect, by
