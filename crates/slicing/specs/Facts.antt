@@ -1,6 +1,7 @@
 -- What is looked at of calls for the facts of a history.
 use Rattle.std.specs.Prelude.{◌≡◌, ℕ, ◌⊎◌, ◌&&◌, true, false, List, Option, IfSome}
 use Rattle.rmi_view.specs.Seen.{reply_seen}
+use Rattle.rmm_spec.specs.declared.call.Call.{Call}
 use Rattle.rmm_spec.specs.declared.command.Command.{Command}
 use Rattle.rmm_spec.specs.declared.event.Event.{Event}
 use Rattle.rmm_spec.specs.declared.reply.Reply.{Reply}
@@ -19,6 +20,14 @@ use Rattle.slicing.specs.declared.done.Done.{Done}
 use Rattle.slicing.specs.declared.last_return.LastReturn.{LastReturn}
 use Rattle.slicing.specs.Calls.{ChangesNothing}
 use Rattle.slicing.specs.Unused.{IsNoLater}
+
+-- the call doesn't end the fact, whichever CPU makes it and whatever it is replied
+abbrev pub Keeps : Fact → Call → Type 0
+Keeps fact c = (cpu : ℕ) (given : Reply) → may_end fact cpu c given ≡ false
+
+-- the call that is made at the place doesn't, if one is
+abbrev pub KeepsUnread : Fact → List Event → ℕ → Type 0
+KeepsUnread fact events at = (cpu number : ℕ) (command : Command) → IsCalled events at cpu number command → Keeps fact (call_of command)
 
 -- the call doesn't end the fact, with its reply if it returned, or any
 abbrev pub DoesNotEnd : Fact → CallAt → Type 0

@@ -7,10 +7,10 @@ ghost use Rattle.verdict_laws.specs.Denying as laws;
 ghost use Rattle.verdict_laws.specs.declared.facts.Fact.TheVariants.{Assigned, Tagged};
 
 use crate::call_at::shows_names;
-use crate::denying_recs::{asks_else, asks_outside, needs_idle};
+use crate::denying_recs::{asks_outside, needs_idle};
 use crate::given_back::freed;
 use crate::giving::{are_within, give_tags};
-use crate::giving_recs::{are_ready, enters_run, give_other_ripas, is_stopped};
+use crate::giving_recs::{are_ready, asks_pages, enters_run, give_other_ripas};
 use crate::making::{creates_page, frees_entry, is_one_entry, is_one_table};
 use command_words::{Name, is_tag, named, way_of, words_allow};
 use memory_map::Config;
@@ -31,7 +31,7 @@ pub(crate) fn deny(config: &Config, facts: &[Fact], call: &Call, reply: ReplyRef
         ReplyRef::Err(1, _) => {
             words_allow(call)
                 && give_tags(config, facts, named(call).as_slice())
-                && (are_within(facts, call) || is_stopped(facts, call))
+                && (are_within(facts, call) || asks_pages(facts, call))
         }
         ReplyRef::Err(2, 0) => enters_run(facts, call),
         ReplyRef::Err(3, _) => are_ready(facts, call),
@@ -72,7 +72,7 @@ pub(crate) fn denies(fact: Fact, call: &Call, reply: ReplyRef<'_>) -> bool
         }
         Fact::Activated { rd } => matches!(reply, ReplyRef::Ok(_)) && needs_new(call, rd),
         Fact::AsksFrom { rec, base } => {
-            matches!(reply, ReplyRef::Ok(_)) && asks_else(call, reply, rec, base)
+            matches!(reply, ReplyRef::Ok(_)) && asks_outside(call, reply, rec, base, base)
         }
         Fact::RunsOrAsksWithin { rec, least, most } => {
             matches!(reply, ReplyRef::Ok(_)) && asks_outside(call, reply, rec, least, most)

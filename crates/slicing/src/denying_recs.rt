@@ -4,25 +4,9 @@ ghost use Rattle.std.specs.Prelude.{◌≡◌};
 ghost use Rattle.rmi_view.specs.Seen.{reply_seen};
 ghost use Rattle.verdict_laws.specs.Denying as laws;
 
-use crate::making_recs::{is_told, is_within};
+use crate::making_recs::is_within;
 use rmi_view::ReplyRef;
 use rmm_spec::Call;
-
-/// Whether the call is carried out as if the REC asked for something from another address on.
-#[tactic(auto, unfolding(verdict_laws::specs::Denying::asks_else))]
-pub(crate) fn asks_else(call: &Call, reply: ReplyRef<'_>, rec: u64, base: u64) -> bool
-    ensures { result ≡ laws.asks_else call.now (reply_seen reply.entry) rec base }
-{
-    match call {
-        Call::RecEnter { rec: other } => rec == *other && !is_told(base, reply),
-        Call::RttSetRipas {
-            rec: other,
-            base: from,
-            ..
-        } => rec == *other && base != *from,
-        _ => false,
-    }
-}
 
 /// Whether the call is carried out as if the REC asked for something from none of these addresses on.
 #[tactic(auto, unfolding(verdict_laws::specs::Denying::asks_outside))]

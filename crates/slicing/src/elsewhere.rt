@@ -1,4 +1,4 @@
-//! Which calls of CPUs that stand in other RECs leave facts.
+//! Which calls of CPUs that stand in other RECs, or in none, leave facts.
 
 ghost use Rattle.std.specs.Prelude.{◌≡◌};
 ghost use Rattle.verdict_laws.specs.Facts as laws;
@@ -19,30 +19,34 @@ pub(crate) fn stays_with(fact: Fact, call: &Call, standing: Standing) -> bool
     }
 }
 
-/// Whether another REC leaves by the call.
+/// Whether no exit of a CPU that stands there is the REC's.
 #[tactic(auto, unfolding(verdict_laws::specs::Facts::exits_other))]
 fn exits_other(call: &Call, standing: Standing, rec: u64) -> bool
     ensures { result ≡ laws.exits_other call.now standing rec }
 {
     match call {
-        Call::Exit => match standing {
-            Standing::Inside { rec: at, .. } => rec != at,
-            Standing::Outside => false,
-        },
+        Call::Exit => is_elsewhere(standing, rec),
         _ => false,
     }
 }
 
-/// Whether another REC turns itself off by the call.
+/// Whether it isn't the REC that turns itself off by the call.
 #[tactic(auto, unfolding(verdict_laws::specs::Facts::turns_off_other))]
 fn turns_off_other(call: &Call, standing: Standing, rec: u64) -> bool
     ensures { result ≡ laws.turns_off_other call.now standing rec }
 {
     match call {
-        Call::CpuOff => match standing {
-            Standing::Inside { rec: at, .. } => rec != at,
-            Standing::Outside => false,
-        },
+        Call::CpuOff => is_elsewhere(standing, rec),
         _ => false,
+    }
+}
+
+/// Whether a CPU that stands there is in another REC, or in none.
+fn is_elsewhere(standing: Standing, rec: u64) -> bool
+    ensures { result ≡ laws.is_elsewhere standing rec }
+{
+    match standing {
+        Standing::Outside => true,
+        Standing::Inside { rec: at, .. } => rec != at,
     }
 }

@@ -1,14 +1,13 @@
 //! Which calls may end facts.
 
-ghost use Rattle.std.specs.Prelude.{◌≡◌, ◌==◌, false, if◌then◌else◌, IsTrue};
-ghost use Rattle.rmm_spec.specs.declared.tag.Tag.TheVariants.{Data};
-ghost use Rattle.slicing.specs.Facts.{DoesNotEnd, DoesNotFree};
+ghost use Rattle.std.specs.Prelude.{◌≡◌, ◌==◌, ℕ, false, if◌then◌else◌, IsTrue};
+ghost use Rattle.rmm_spec.specs.declared.reply.Reply.{Reply};
+ghost use Rattle.slicing.specs.Facts.{Keeps};
+ghost use Rattle.verdict_laws.specs.Separate.{is_freed};
 ghost use Rattle.verdict_laws.specs.Facts as laws;
 ghost use Rattle.verdict_laws.specs.Slices as slices;
 ghost use Rattle.verdict_laws.specs.declared.facts.Fact.TheVariants.{Tagged};
 
-use crate::call_at::CallAt;
-use crate::given_back::freed;
 use crate::kinds::changeable;
 use crate::making::{creates_page, creates_unknown, frees_entry, is_one_entry, is_one_table};
 use crate::making_recs::{enters, is_within};
@@ -17,48 +16,44 @@ use memory_map::entry_number;
 use rmm_spec::{Call, Tag};
 use verdict_laws::Fact;
 
-/// Whether the call doesn't end the fact, by its reply if it returned.
-pub(crate) fn is_left(fact: Fact, call: &CallAt<'_>) -> bool
-    ensures { IsTrue result → DoesNotEnd fact call.now }
+/// Whether the call doesn't end the fact, whichever CPU makes it and whatever it is replied.
+pub(crate) fn keeps(fact: Fact, call: &Call) -> bool
+    ensures { IsTrue result → Keeps fact call.now }
 {
     match fact {
-        Fact::NewRealm { rd } => !may_activate(&call.call, rd),
+        Fact::NewRealm { rd } => !may_activate(call, rd),
         Fact::Tagged { granule, tag } => keeps_tag(call, granule, tag),
-        Fact::Covered { rd, level, ipa } => !may_uncover(&call.call, rd, level, ipa),
-        Fact::Wide { rd, .. } => !may_narrow(&call.call, rd),
-        Fact::SoleVmid { rd, vmid } => !may_share(&call.call, rd, vmid),
-        Fact::PartOf { granule, .. } => !may_take(&call.call, granule, Tag::Delegated),
-        Fact::Unassigned { rd, ipa } => !may_assign(&call.call, rd, ipa),
+        Fact::Covered { rd, level, ipa } => !may_uncover(call, rd, level, ipa),
+        Fact::Wide { rd, .. } => !may_narrow(call, rd),
+        Fact::SoleVmid { rd, vmid } => !may_share(call, rd, vmid),
+        Fact::PartOf { granule, .. } => !may_take(call, granule, Tag::Delegated),
+        Fact::Unassigned { rd, ipa } => !may_assign(call, rd, ipa),
         Fact::UnassignedRam { rd, ipa } => {
-            !may_assign(&call.call, rd, ipa)
-                && !frees_entry(&call.call, rd, ipa)
-                && !may_set_ripas(&call.call, rd, ipa)
+            !may_assign(call, rd, ipa)
+                && !frees_entry(call, rd, ipa)
+                && !may_set_ripas(call, rd, ipa)
         }
-        Fact::Assigned { rd, ipa, page } => {
-            !may_reshape(&call.call, rd, ipa) && !may_free_at(call, rd, ipa, page)
+        Fact::Assigned { rd, ipa, .. } => {
+            !may_reshape(call, rd, ipa) && !frees_entry(call, rd, ipa)
         }
         Fact::HasRipas { rd, ipa, ripas } => {
-            !may_reshape(&call.call, rd, ipa)
-                && !may_change(&call.call, rd, ipa, ripas)
-                && !may_set_ripas(&call.call, rd, ipa)
-                && !may_init(&call.call, rd)
+            !may_reshape(call, rd, ipa)
+                && !may_change(call, rd, ipa, ripas)
+                && !may_set_ripas(call, rd, ipa)
+                && !may_init(call, rd)
         }
-        Fact::Activated { rd } => !may_narrow(&call.call, rd),
-        Fact::OwnedBy { rec, .. } => !destroys(&call.call, rec),
-        Fact::Runnable { rec } => !destroys(&call.call, rec) && !turns_off(&call.call),
-        Fact::RunsOn { cpu, .. } => !exits(&call.call) || cpu != call.cpu,
+        Fact::Activated { rd } => !may_narrow(call, rd),
+        Fact::OwnedBy { rec, .. } => !destroys(call, rec),
+        Fact::Runnable { rec } => !destroys(call, rec) && !turns_off(call),
+        Fact::RunsOn { .. } => !exits(call),
         Fact::AsksFrom { rec, base } => {
-            !destroys(&call.call, rec)
-                && !enters(&call.call, rec)
-                && !sets_from(&call.call, rec, base)
+            !destroys(call, rec) && !enters(call, rec) && !sets_from(call, rec, base)
         }
         Fact::RunsOrAsksWithin { rec, least, most } => {
-            !destroys(&call.call, rec)
-                && !exits(&call.call)
-                && !sets_past(&call.call, rec, least, most)
+            !destroys(call, rec) && !exits(call) && !sets_past(call, rec, least, most)
         }
-        Fact::Idle { rec } => !destroys(&call.call, rec) && !enters(&call.call, rec),
-        Fact::RunsOrAsksTo { rec, .. } => !destroys(&call.call, rec) && !exits(&call.call),
+        Fact::Idle { rec } => !destroys(call, rec) && !enters(call, rec),
+        Fact::RunsOrAsksTo { rec, .. } => !destroys(call, rec) && !exits(call),
     }
 }
 
@@ -158,7 +153,7 @@ fn may_share(call: &Call, rd: u64, vmid: u64) -> bool
 }
 
 #[tactic(auto, unfolding(verdict_laws::specs::Facts::may_reshape))]
-fn may_reshape(call: &Call, rd: u64, ipa: u64) -> bool
+pub(crate) fn may_reshape(call: &Call, rd: u64, ipa: u64) -> bool
     ensures { result ≡ laws.may_reshape call.now rd ipa }
 {
     match call {
@@ -229,16 +224,23 @@ fn may_init(call: &Call, rd: u64) -> bool
     }
 }
 
-/// Whether the granule keeps the tag, as far as the call goes.
-fn keeps_tag(call: &CallAt<'_>, granule: u64, tag: Tag) -> bool
-    ensures { IsTrue result → DoesNotEnd (Tagged granule tag) call.now }
+/// Whether the granule keeps the tag, whatever the call is replied.
+fn keeps_tag(call: &Call, granule: u64, tag: Tag) -> bool
+    ensures { IsTrue result → Keeps (Tagged granule tag) call.now }
 {
     match tag {
-        Tag::Undelegated | Tag::Delegated => !may_take(&call.call, granule, tag),
-        Tag::Rd | Tag::Rec => !destroys(&call.call, granule),
-        Tag::Data => !may_free(call, granule),
+        Tag::Undelegated | Tag::Delegated => !may_take(call, granule, tag),
+        Tag::Rd | Tag::Rec => !destroys(call, granule),
+        Tag::Data => !frees_some(call),
         Tag::RecAux | Tag::Rtt => false,
     }
+}
+
+/// Whether the call may give back a granule that it doesn't name.
+pub(crate) fn frees_some(call: &Call) -> bool
+    ensures { result ≡ false → (given : Reply) (granule : ℕ) → is_freed call.now given granule ≡ false }
+{
+    matches!(call, Call::DataDestroy { .. } | Call::RttRemove { .. })
 }
 
 /// Whether the call may take the tag off the granule, which it names.
@@ -265,28 +267,5 @@ fn destroys(call: &Call, granule: u64) -> bool
         Call::RealmDestroy { rd } => *rd == granule,
         Call::RecDestroy { rec } => *rec == granule,
         _ => false,
-    }
-}
-
-/// Whether the call may give back the page at the address.
-fn may_free_at(call: &CallAt<'_>, rd: u64, ipa: u64, page: u64) -> bool
-    ensures { result ≡ false → DoesNotFree rd ipa page call.now }
-{
-    if !frees_entry(&call.call, rd, ipa) {
-        return false;
-    }
-    match &call.answer {
-        Some(answer) => freed(&call.call, answer.reply) == Some(page),
-        None => true,
-    }
-}
-
-/// Whether the call may give the granule back without naming it.
-fn may_free(call: &CallAt<'_>, granule: u64) -> bool
-    ensures { result ≡ false → DoesNotEnd (Tagged granule Data) call.now }
-{
-    match &call.answer {
-        Some(answer) => freed(&call.call, answer.reply) == Some(granule),
-        None => matches!(call.call, Call::DataDestroy { .. } | Call::RttRemove { .. }),
     }
 }

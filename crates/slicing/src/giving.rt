@@ -4,7 +4,6 @@ ghost use Rattle.std.specs.Prelude.{◌≡◌, ◌-◌, ◌^◌, ◌<◌, true, 
 ghost use Rattle.std.specs.List.{list_all, list_any};
 ghost use Rattle.verdict_laws.specs.Denying as laws;
 
-use crate::giving_recs::give_pages;
 use command_words::{Name, is_tag};
 use memory_map::{Config, granule_at};
 use rmm_spec::{Call, Tag};
@@ -43,9 +42,10 @@ fn gives_tag(facts: &[Fact], name: &Name, fact: Fact) -> bool
                 && is_tag(name.tag, Tag::Delegated)
                 && give_no_owner(facts, owner)
         }
-        Fact::Idle { rec } | Fact::RunsOn { rec, .. } | Fact::AsksFrom { rec, .. } => {
-            name.granule == rec && is_tag(name.tag, Tag::Rec)
-        }
+        Fact::Idle { rec }
+        | Fact::RunsOn { rec, .. }
+        | Fact::AsksFrom { rec, .. }
+        | Fact::RunsOrAsksWithin { rec, .. } => name.granule == rec && is_tag(name.tag, Tag::Rec),
         _ => false,
     }
 }
@@ -88,7 +88,6 @@ pub(crate) fn are_within(facts: &[Fact], call: &Call) -> bool
             *level >= 2 && give_half(facts, *rd, *ipa)
         }
         Call::RttReadEntry { rd, ipa, level } => *level >= 1 && give_half(facts, *rd, *ipa),
-        Call::RttSetRipas { rec, base, top, .. } => give_pages(facts, *rec, *base, *top),
         _ => false,
     }
 }

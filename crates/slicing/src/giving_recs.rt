@@ -13,14 +13,14 @@ use rmi_view::ReplyRef;
 use rmm_spec::Call;
 use verdict_laws::Fact;
 
-/// Whether the facts say that the REC asks for the pages, and there are some.
-pub(crate) fn give_pages(facts: &[Fact], rec: u64, base: u64, top: u64) -> bool
+/// Whether the facts say that the REC asks for the pages, and there are some, unless it runs.
+fn give_pages(facts: &[Fact], rec: u64, base: u64, top: u64) -> bool
     ensures { result ≡ laws.give_pages facts.now rec base top }
 {
     base < top && is_page(top) && give_base(facts, rec, base) && give_top(facts, rec, top)
 }
 
-/// Whether one of the facts says that what the REC asks for begins at the address.
+/// Whether one of the facts says that what the REC asks for begins at the address, unless it runs.
 fn give_base(facts: &[Fact], rec: u64, base: u64) -> bool
     ensures { result ≡ list_any (laws.gives_base rec base) facts.now }
 {
@@ -35,11 +35,16 @@ fn gives_base(fact: Fact, rec: u64, base: u64) -> bool
             rec: other,
             base: its_base,
         } => rec == other && base == its_base,
+        Fact::RunsOrAsksWithin {
+            rec: other,
+            least,
+            most,
+        } => rec == other && base == least && base == most,
         _ => false,
     }
 }
 
-/// Whether one of the facts says that what the REC asks for ends at the address or later.
+/// Whether one of the facts says that what it asks for ends at the address or later, unless it runs.
 fn give_top(facts: &[Fact], rec: u64, top: u64) -> bool
     ensures { result ≡ list_any (laws.gives_top rec top) facts.now }
 {
@@ -115,13 +120,15 @@ pub(crate) fn are_ready(facts: &[Fact], call: &Call) -> bool
     }
 }
 
-/// Whether the facts say that the call is refused for its REC, by a row before those that refuse with ERROR_INPUT.
-#[tactic(auto, unfolding(verdict_laws::specs::Denying::is_stopped))]
-pub(crate) fn is_stopped(facts: &[Fact], call: &Call) -> bool
-    ensures { result ≡ laws.is_stopped facts.now call.now }
+/// Whether the facts say that the call's REC runs, so that it is refused for that before what is asked for is looked at, or asks for its pages.
+#[tactic(auto, unfolding(verdict_laws::specs::Denying::asks_pages))]
+pub(crate) fn asks_pages(facts: &[Fact], call: &Call) -> bool
+    ensures { result ≡ laws.asks_pages facts.now call.now }
 {
     match call {
-        Call::RttSetRipas { rec, .. } => give_running(facts, *rec),
+        Call::RttSetRipas { rec, base, top, .. } => {
+            give_running(facts, *rec) || give_pages(facts, *rec, *base, *top)
+        }
         _ => false,
     }
 }

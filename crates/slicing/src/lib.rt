@@ -22,6 +22,10 @@ mod giving_recs;
 mod keeping;
 mod kinds;
 mod last_return;
+mod latest;
+mod latest_recs;
+mod leaving;
+mod left;
 mod links;
 mod making;
 mod making_recs;
@@ -36,6 +40,7 @@ mod standing;
 mod supposing;
 mod supposing_recs;
 mod supposing_ripas;
+mod together;
 mod unused;
 mod window;
 

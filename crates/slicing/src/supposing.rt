@@ -2,14 +2,15 @@
 
 use crate::denied::is_made_by;
 use crate::denying::denies;
-use crate::done::{Done, done_before};
 use crate::given_back::freed;
 use crate::last_return::LastReturn;
+use crate::latest::{concerns, done_at, function_at, gives_page, may_make};
 use crate::making::{tags, takes_part};
+use crate::together::Together;
 use command_words::{Way, named, way_of, words_allow};
 use history::History;
 use rmi_view::ReplyRef;
-use rmm_spec::{Call, Tag};
+use rmm_spec::{Call, FunctionId, Tag};
 use verdict_laws::Fact;
 
 /// The tags that calls give to granules by name.
@@ -20,39 +21,6 @@ const TAGS: [Tag; 5] = [
     Tag::Rec,
     Tag::Data,
 ];
-
-/// How many facts are supposed together at most: two of each granule that a call names, how wide its realm is, and who has its VMID.
-const MOST_FACTS: usize = 10;
-
-/// Facts that are supposed together: the first of these, so many.
-#[derive(Clone, Copy)]
-pub(crate) struct Together {
-    facts: [Fact; MOST_FACTS],
-    count: usize,
-}
-
-impl Together {
-    /// None.
-    pub(crate) fn new() -> Self {
-        Together {
-            facts: [Fact::NewRealm { rd: 0 }; MOST_FACTS],
-            count: 0,
-        }
-    }
-
-    /// The facts.
-    pub(crate) fn as_slice(&self) -> &[Fact] {
-        &self.facts[..self.count.min(MOST_FACTS)]
-    }
-
-    /// Takes one more, where there is room.
-    pub(crate) fn push(&mut self, fact: Fact) {
-        if let Some(place) = self.facts.get_mut(self.count) {
-            *place = fact;
-            self.count = self.count.saturating_add(1);
-        }
-    }
-}
 
 /// How many bits a realm's addresses may have.
 const WIDTHS: [u64; 2] = [0x27, 0x30];
@@ -85,6 +53,9 @@ pub(crate) fn supposed_page(history: &History, count: u32, last: &LastReturn<'_>
 
 /// That an entry has a page, where the call that is made at one place gives it and returned before another.
 fn page_given(history: &History, count: u32, place: u32, at: u32) -> Option<Fact> {
+    if !gives_page(function_at(history, at)?) {
+        return None;
+    }
     match done_at(history, count, place, at)?.call {
         Call::DataCreate {
             rd,
@@ -162,18 +133,27 @@ pub(crate) fn supposed_together(history: &History, count: u32, last: &LastReturn
 /// The realm to which the latest call gave the VMID that returned before a place.
 fn owner_before(history: &History, count: u32, place: u32, vmid: u64) -> Option<u64> {
     for back in 1..place.saturating_add(1) {
-        if let Some(done) = done_at(history, count, place, place.saturating_sub(back)) {
-            match done.call {
-                Call::RealmCreate {
-                    rd,
-                    vmid: its_vmid,
-                    ..
-                } if vmid == its_vmid => return Some(rd),
-                _ => {}
-            }
+        let at = place.saturating_sub(back);
+        if let Some(rd) = owner_at(history, count, place, at, vmid) {
+            return Some(rd);
         }
     }
     None
+}
+
+/// The realm to which the call that is made at one place gave the VMID, if that returned before another.
+fn owner_at(history: &History, count: u32, place: u32, at: u32, vmid: u64) -> Option<u64> {
+    if !matches!(function_at(history, at), Some(FunctionId::RealmCreate)) {
+        return None;
+    }
+    match done_at(history, count, place, at)?.call {
+        Call::RealmCreate {
+            rd,
+            vmid: its_vmid,
+            ..
+        } if vmid == its_vmid => Some(rd),
+        _ => None,
+    }
 }
 
 /// How many bits the addresses have of the realm in whose tables the call walks, as the latest call says that made it.
@@ -250,6 +230,9 @@ fn granule_before(history: &History, count: u32, place: u32, granule: u64) -> Fa
 
 /// What the call says of it that is made at one place, where it returned before another.
 fn granule_at(history: &History, count: u32, place: u32, at: u32, granule: u64) -> Option<Fact> {
+    if !concerns(history, at, granule) {
+        return None;
+    }
     let done = done_at(history, count, place, at)?;
     for tag in TAGS {
         if tags(&done.call, done.reply, granule, tag) {
@@ -267,19 +250,20 @@ fn granule_at(history: &History, count: u32, place: u32, at: u32, granule: u64) 
 pub(crate) fn maker_before(history: &History, count: u32, place: u32, fact: Fact) -> Option<u32> {
     for back in 1..place.saturating_add(1) {
         let at = place.saturating_sub(back);
-        if let Some(done) = done_at(history, count, place, at) {
-            if is_made_by(history, count, fact, &done) {
-                return Some(at);
-            }
+        if is_made_at(history, count, place, fact, at) {
+            return Some(at);
         }
     }
     None
 }
 
-/// The call that is made at one place, where it was carried out and returned before another.
-pub(crate) fn done_at(history: &History, count: u32, place: u32, at: u32) -> Option<Done<'_>> {
-    if count as usize > history.len() {
-        return None;
+/// Whether the call that is made at one place makes the fact, and returned before another.
+fn is_made_at(history: &History, count: u32, place: u32, fact: Fact, at: u32) -> bool {
+    match function_at(history, at) {
+        Some(function) if may_make(fact, function) => match done_at(history, count, place, at) {
+            Some(done) => is_made_by(history, count, fact, &done),
+            None => false,
+        },
+        _ => false,
     }
-    done_before(history, count, at, place)
 }

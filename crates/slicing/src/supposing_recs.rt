@@ -1,17 +1,16 @@
 //! Which facts of a REC may deny a reply. What is found isn't promised: it is checked.
 
 use crate::call_at::call_at;
-use crate::done::Done;
 use crate::early::open_from;
 use crate::last_return::LastReturn;
-use crate::making_recs::enters;
-use crate::standing::standing_before;
-use crate::supposing::{Together, done_at, maker_before, wide_before};
+use crate::latest_recs::{asked_from, asked_to, entered_at, owner_before};
+use crate::supposing::{maker_before, wide_before};
+use crate::together::Together;
 use history::History;
 use rmi_view::ReplyRef;
 use rmm_spec::{Call, Tag};
 use std::cmp::max;
-use verdict_laws::{ExitReason, Fact, Standing};
+use verdict_laws::Fact;
 
 /// What may deny together a reply about a REC.
 pub(crate) fn supposed_of_rec(history: &History, count: u32, last: &LastReturn<'_>) -> Together {
@@ -91,11 +90,33 @@ pub(crate) fn supposed_idle(last: &LastReturn<'_>) -> Together {
 /// What may deny together that a RIPAS is refused for what the call says, where its REC runs.
 pub(crate) fn supposed_stopped(history: &History, count: u32, last: &LastReturn<'_>) -> Together {
     let mut facts = Together::new();
-    let Call::RttSetRipas { rd, .. } = last.call else {
+    let (Call::RttSetRipas { rd, .. }, ReplyRef::Err(1, _)) = (last.call, last.reply) else {
         return facts;
     };
     if let Some(fact) = supposed_running(history, count, last) {
         facts.push(fact);
+        facts.push(Fact::Tagged {
+            granule: rd,
+            tag: Tag::Rd,
+        });
+    }
+    facts
+}
+
+/// What may deny together that it is, where its REC may be entered meanwhile: then it is refused for that, and else the REC asks for those pages.
+pub(crate) fn supposed_pages(history: &History, count: u32, last: &LastReturn<'_>) -> Together {
+    let mut facts = Together::new();
+    let (Call::RttSetRipas { rd, rec, base, .. }, ReplyRef::Err(1, _)) = (last.call, last.reply)
+    else {
+        return facts;
+    };
+    if let Some(fact) = asked_to(history, count, last.called, rec) {
+        facts.push(fact);
+        facts.push(Fact::RunsOrAsksWithin {
+            rec,
+            least: base,
+            most: base,
+        });
         facts.push(Fact::Tagged {
             granule: rd,
             tag: Tag::Rd,
@@ -117,10 +138,8 @@ pub(crate) fn supposed_running(
     };
     for back in 1..last.called.saturating_add(1) {
         let at = last.called.saturating_sub(back);
-        if let Some(done) = done_at(history, count, last.called, at) {
-            if enters(&done.call, rec) {
-                return Some(Fact::RunsOn { rec, cpu: done.cpu });
-            }
+        if let Some(cpu) = entered_at(history, count, last.called, at, rec) {
+            return Some(Fact::RunsOn { rec, cpu });
         }
     }
     None
@@ -174,75 +193,4 @@ fn asked(history: &History, count: u32, last: &LastReturn<'_>, rec: u64) -> Toge
         facts.push(fact);
     }
     facts
-}
-
-/// The realm of the REC, as the latest call says that made it and returned before a place.
-pub(crate) fn owner_before(history: &History, count: u32, place: u32, rec: u64) -> Option<u64> {
-    for back in 1..place.saturating_add(1) {
-        if let Some(done) = done_at(history, count, place, place.saturating_sub(back)) {
-            match done.call {
-                Call::RecCreate { rd, rec: other, .. } if rec == other => return Some(rd),
-                _ => {}
-            }
-        }
-    }
-    None
-}
-
-/// From where on the REC asks for something, as the latest call says that returned before a place, if it wasn't entered since.
-fn asked_from(history: &History, count: u32, place: u32, rec: u64) -> Option<Fact> {
-    for back in 1..place.saturating_add(1) {
-        if let Some(done) = done_at(history, count, place, place.saturating_sub(back)) {
-            if enters(&done.call, rec) {
-                return None;
-            }
-            if let Some(base) = base_after(history, count, &done, rec) {
-                return Some(Fact::AsksFrom { rec, base });
-            }
-        }
-    }
-    None
-}
-
-/// Up to where, and for which RIPAS, as the latest exit says.
-pub(crate) fn asked_to(history: &History, count: u32, place: u32, rec: u64) -> Option<Fact> {
-    for back in 1..place.saturating_add(1) {
-        if let Some(done) = done_at(history, count, place, place.saturating_sub(back)) {
-            if enters(&done.call, rec) {
-                return None;
-            }
-            if let Some(ExitReason::RipasChange { top, ripas, .. }) = reason_of(
-                history, count, &done, rec,
-            ) {
-                return Some(Fact::RunsOrAsksTo { rec, top, ripas });
-            }
-        }
-    }
-    None
-}
-
-/// Where what the REC asks for begins after a call that was carried out, if that changes it.
-fn base_after(history: &History, count: u32, done: &Done<'_>, rec: u64) -> Option<u64> {
-    match done.call {
-        Call::RecCreate { rec: other, .. } if rec == other => Some(0),
-        Call::RttSetRipas { rec: other, .. } if rec == other => match done.reply {
-            ReplyRef::Ok(words) => words.first().copied(),
-            _ => None,
-        },
-        _ => match reason_of(history, count, done, rec)? {
-            ExitReason::RipasChange { base, .. } => Some(base),
-            _ => None,
-        },
-    }
-}
-
-/// Why the REC leaves by the call, if that is its exit.
-fn reason_of(history: &History, count: u32, done: &Done<'_>, rec: u64) -> Option<ExitReason> {
-    if !matches!(done.call, Call::Exit) || count as usize > history.len() {
-        return None;
-    }
-    match standing_before(history, count, done.cpu, done.number)? {
-        Standing::Inside { rec: at, reason } if at == rec => Some(reason),
-        _ => None,
-    }
 }

@@ -2,13 +2,14 @@
 
 use crate::done::Done;
 use crate::last_return::LastReturn;
+use crate::latest::{done_at, function_at};
+use crate::latest_recs::{asked_to, owner_before};
 use crate::making::makes;
 use crate::making_recs::sets_ripas;
 use crate::standing::standing_before;
-use crate::supposing::{Together, done_at};
-use crate::supposing_recs::{asked_to, owner_before};
+use crate::together::Together;
 use history::History;
-use rmm_spec::Call;
+use rmm_spec::{Call, FunctionId};
 use verdict_laws::{Fact, Standing};
 
 /// What may deny together which RIPAS a REC is told, or the host.
@@ -48,19 +49,29 @@ fn supposed_told(history: &History, count: u32, last: &LastReturn<'_>, ipa: u64)
 
 /// Of which RIPAS the address is, as the latest call says that set it and returned before a place.
 fn ripas_before(history: &History, count: u32, place: u32, rd: u64, ipa: u64) -> Option<Fact> {
-    let ram = Fact::HasRipas { rd, ipa, ripas: 1 };
     for back in 1..place.saturating_add(1) {
         let at = place.saturating_sub(back);
-        if let Some(done) = done_at(history, count, place, at) {
-            if makes(ram, done.cpu, &done.call, done.reply) {
-                return Some(ram);
-            }
-            if let Some(ripas) = ripas_set(history, count, at, &done, rd, ipa) {
-                return Some(Fact::HasRipas { rd, ipa, ripas });
-            }
+        if let Some(ripas) = ripas_at(history, count, place, at, rd, ipa) {
+            return Some(Fact::HasRipas { rd, ipa, ripas });
         }
     }
     None
+}
+
+/// Which RIPAS the call sets there that is made at one place, if that returned before another.
+fn ripas_at(history: &History, count: u32, place: u32, at: u32, rd: u64, ipa: u64) -> Option<u64> {
+    match function_at(history, at)? {
+        FunctionId::RttInitRipas | FunctionId::DataCreate => {
+            let done = done_at(history, count, place, at)?;
+            let ram = Fact::HasRipas { rd, ipa, ripas: 1 };
+            makes(ram, done.cpu, &done.call, done.reply).then_some(1)
+        }
+        FunctionId::RttSetRipas => {
+            let done = done_at(history, count, place, at)?;
+            ripas_set(history, count, at, &done, rd, ipa)
+        }
+        _ => None,
+    }
 }
 
 /// Which RIPAS a call that is made at the place sets at the address, as its REC asked.
@@ -108,11 +119,18 @@ pub(crate) fn maker_with(
     };
     for back in 1..place.saturating_add(1) {
         let at = place.saturating_sub(back);
-        if let Some(done) = done_at(history, count, place, at) {
-            if let Some(other) = asked_by(history, count, at, &done, rd, ipa) {
-                return Some((at, other));
-            }
+        if let Some(other) = asked_at(history, count, place, at, rd, ipa) {
+            return Some((at, other));
         }
     }
     None
+}
+
+/// What a REC asks for before the call that is made at one place, if that sets it at the address and returned before another.
+fn asked_at(history: &History, count: u32, place: u32, at: u32, rd: u64, ipa: u64) -> Option<Fact> {
+    if !matches!(function_at(history, at), Some(FunctionId::RttSetRipas)) {
+        return None;
+    }
+    let done = done_at(history, count, place, at)?;
+    asked_by(history, count, at, &done, rd, ipa)
 }

@@ -1,5 +1,5 @@
 -- RECs that run or ask for a RIPAS from one of some addresses on: so it is until they are destroyed or leave, or a part is set past those. A CPU
--- that stands in another REC ends nothing of them.
+-- that stands elsewhere ends nothing of them.
 use Rattle.std.proofs.Common.{◌≡◌, ℕ, ◌≤◌, ◌==◌, ◌&&◌, ◌||◌, Bool, true, false, arith, subst, Option, Some, None, IsTrue, is_some, refl, sym, ◌∙◌, ap, eqb-true, eq-eqb, inl, inr}
 use Rattle.std.specs.Prelude.{is_none, nat_le, not, unwrap_or}
 use Rattle.std.proofs.lemmas.Bool.{and_from, and_parts, cases_Bool, le-leb, leb-true, not-true, or_parts, or_right, true_from_ne_false}
@@ -21,14 +21,12 @@ use Rattle.rmm_laws.proofs.Searches.{inside_runs}
 use Rattle.rmm_laws.proofs.StepLaws.{step-refuses}
 use Rattle.verdict_laws.specs.declared.facts.Fact.{Fact}
 use Rattle.verdict_laws.specs.declared.facts.Fact.TheVariants.{Runnable, RunsOrAsksTo, RunsOrAsksWithin}
-use Rattle.verdict_laws.specs.declared.placing.ExitReason.{ExitReason}
 use Rattle.verdict_laws.specs.declared.placing.Standing.{Standing}
-use Rattle.verdict_laws.specs.declared.placing.Standing.TheVariants.{Inside}
 use Rattle.verdict_laws.specs.Denying.{asks_outside, is_told_within}
-use Rattle.verdict_laws.specs.Facts.{can_run, destroys, exits, exits_other, holds, is_within, moves_request, runs_or_asks, runs_or_asks_to, sets_past, stays_with, turns_off_other}
+use Rattle.verdict_laws.specs.Facts.{can_run, destroys, exits, exits_other, holds, is_elsewhere, is_within, moves_request, runs_or_asks, runs_or_asks_to, sets_past, stays_with, turns_off_other}
 use Rattle.verdict_laws.proofs.RecChanges.{StaysDone, met_record, rec-kept}
 use Rattle.verdict_laws.proofs.RecFacts.{apart, made_request, runs_or_asks-asking, to_moved}
-use Rattle.verdict_laws.proofs.Standings.{reason_at, standing-inside, standing_of}
+use Rattle.verdict_laws.proofs.Standings.{standing-inside, standing_of}
 use Rattle.verdict_laws.proofs.TagFacts.{IsCarried, carried_by}
 
 -- what runs on a CPU is read as running
@@ -45,8 +43,13 @@ inside_running : (s : State) (cpu rec : ℕ) → is_inside s cpu ≡ true → re
 unfolding rec_at
 inside_running s cpu rec inside here = is_some-running cpu (s.rec rec) (ap (λ g. runs_on cpu (s.rec g)) here ∙ inside_runs s cpu inside)
 
+-- what does so is there
+pub asking_there : (least most : ℕ) (found : Option RecRecord) → runs_or_asks found least most ≡ true → is_some found ≡ true
+asking_there least most None is = both_ways is refl
+asking_there least most (Some r) is = refl
+
 -- one that runs on none asks so
-asks-idle : (least most : ℕ) (found : Option RecRecord) → runs_or_asks found least most ≡ true → IsTrue (is_none (unwrap_or found no_rec).cpu)
+pub asks-idle : (least most : ℕ) (found : Option RecRecord) → runs_or_asks found least most ≡ true → IsTrue (is_none (unwrap_or found no_rec).cpu)
     → is_within least most (request_of (unwrap_or found no_rec)).base ≡ true
 asks-idle least most None is idle = both_ways is refl
 asks-idle least most (Some r) is idle = by r.cpu is idle
@@ -182,32 +185,30 @@ module _ (rec least most : ℕ) (s new : State) (cpu : ℕ) (command : Command) 
       let parts = and_parts (is_accepted given) (asks_outside c given rec least most) denied in
       rows_asked rec least most s new cpu given is c (carried parts.0) parts.1
 
--- ---- CPUs in other RECs
+-- ---- CPUs elsewhere
 
--- a CPU that stands in another REC isn't inside of this
-not_here : (s : State) (cpu rec at : ℕ) (reason : ExitReason) → standing_of s cpu ≡ Inside at reason → not (rec == at) ≡ true
-    → is_inside s cpu ≡ true → rec ≡ rec_inside s cpu → ⊥
-not_here s cpu rec at reason stands other inside here =
-    let is : Inside (rec_inside s cpu) (reason_at (rec_at s (rec_inside s cpu))) ≡ Inside at reason =
-    sym (standing-inside s cpu inside) ∙ stands in
-    let same : rec_inside s cpu ≡ at = cc in
-    both_ways (eq-eqb rec at (here ∙ same)) (not-true (rec == at) other)
+-- a CPU that stands elsewhere isn't inside of the REC
+not_here : (s : State) (cpu rec : ℕ) (standing : Standing) → standing_of s cpu ≡ standing → is_elsewhere standing rec ≡ true → is_inside s cpu ≡ true
+    → rec ≡ rec_inside s cpu → ⊥
+not_here s cpu rec standing stands other inside here =
+    both_ways (ap (λ (at : Standing). is_elsewhere at rec) (sym (standing-inside s cpu inside) ∙ stands) ∙ other)
+    (ap not (eq-eqb rec (rec_inside s cpu) here))
 
 module _ (s new : State) (cpu : ℕ) (command : Command) (given : Reply) (standing : Standing) (sound : IsSound s)
     (step : Step s cpu command given new) (stands : standing_of s cpu ≡ standing) where
-  -- so a test of this one is met behind its exit, or behind the call by which the other turns itself off
+  -- so a test of the REC is met behind its exit, or behind the call by which another turns itself off
   module _ (test : Option RecRecord → Bool) (absent : test None ≡ false) (rec : ℕ) (met : test (s.rec rec) ≡ true) where
     out : (c : Call) (standing : Standing) → is_placed s cpu (class_of c) ≡ true → standing_of s cpu ≡ standing
         → exits_other c standing rec ≡ true → StaysDone test absent rec s met (behind s cpu c).1
     unfolding behind class_of exits_other
-    out call.Exit (Inside at reason) placed stands other = λ here. absurd (not_here s cpu rec at reason stands other placed here)
+    out call.Exit standing placed stands other = λ here. absurd (not_here s cpu rec standing stands other placed here)
     out _ _ placed stands other = both_ways other refl
 
     off : (c : Call) (standing : Standing) → is_placed s cpu (class_of c) ≡ true → standing_of s cpu ≡ standing
         → turns_off_other c standing rec ≡ true → StaysDone test absent rec s met (behind s cpu c).1
     unfolding behind class_of turns_off_other
-    off call.CpuOff (Inside at reason) placed stands other =
-        λ here. absurd (not_here s cpu rec at reason stands other (and_parts (is_inside s cpu) _ placed).0 here)
+    off call.CpuOff standing placed stands other =
+        λ here. absurd (not_here s cpu rec standing stands other (and_parts (is_inside s cpu) _ placed).0 here)
     off _ _ placed stands other = both_ways other refl
 
     exits-elsewhere : exits_other (call_of command) standing rec ≡ true → test (new.rec rec) ≡ true
@@ -218,7 +219,7 @@ module _ (s new : State) (cpu : ℕ) (command : Command) (given : Reply) (standi
     off-elsewhere other =
         rec-kept test absent rec s met new cpu command given sound step (λ placed. off (call_of command) standing placed stands other)
 
-  -- so such a call of it leaves a fact of this one
+  -- so such a call leaves a fact of it
   pub holds-elsewhere : (fact : Fact) → stays_with fact (call_of command) standing ≡ true → holds fact s ≡ true → holds fact new ≡ true
   holds-elsewhere (Runnable rec) other is = off-elsewhere can_run refl rec is other
   holds-elsewhere (RunsOrAsksWithin rec least most) other is = exits-elsewhere (λ found. runs_or_asks found least most) refl rec is other

@@ -1,5 +1,6 @@
 -- What steps make, leave and deny of a fact, by its kind.
-use Rattle.std.proofs.Common.{◌≡◌, ℕ, true, false, refl}
+use Rattle.std.proofs.Common.{◌≡◌, ℕ, true, false, arith, refl}
+use Rattle.std.proofs.lemmas.Bool.{le-leb}
 use Rattle.rmm_spec.specs.declared.command.Command.{Command}
 use Rattle.rmm_spec.specs.declared.reply.Reply.{Reply}
 use Rattle.rmm_spec.specs.Call.{call_of}
@@ -19,7 +20,7 @@ use Rattle.verdict_laws.proofs.PageFacts.{page-denied, page-left, page-made}
 use Rattle.verdict_laws.proofs.PartFacts.{part-left, part-made}
 use Rattle.verdict_laws.proofs.RamFacts.{ram-denied, ram-left, ram-made}
 use Rattle.verdict_laws.proofs.RealmFacts.{realm-denied, realm-left, realm-made}
-use Rattle.verdict_laws.proofs.RecFacts.{from-denied, from-left, from-made, idle-left, idle-made, owned-left, owned-made, runnable-left, runnable-made}
+use Rattle.verdict_laws.proofs.RecFacts.{from-left, from-made, idle-left, idle-made, owned-left, owned-made, runnable-left, runnable-made, runs_or_asks-asking}
 use Rattle.verdict_laws.proofs.RipasFacts.{ripas-denied, ripas-left, ripas-made}
 use Rattle.verdict_laws.proofs.RunFacts.{run-denied, run-left, run-made}
 use Rattle.verdict_laws.proofs.RunningFacts.{running-denied, running-left, running-made}
@@ -112,6 +113,7 @@ held-denies (OwnedBy rec rd) s new cpu command given sound = λ step is denied. 
 held-denies (Runnable rec) s new cpu command given sound = λ step is denied. both_ways denied refl
 held-denies (Idle rec) s new cpu command given sound = λ step is denied. both_ways denied refl
 held-denies (RunsOn rec at) s new cpu command given sound = λ step. running-denied rec at s new cpu command given sound step
-held-denies (AsksFrom rec base) s new cpu command given sound = λ step. from-denied rec s new cpu command given sound step base
+held-denies (AsksFrom rec base) s new cpu command given sound = λ step is.
+    asking-denied rec base base s new cpu command given sound step (runs_or_asks-asking base base (s.rec rec) is (le-leb base base (omega arith)))
 held-denies (RunsOrAsksWithin rec least most) s new cpu command given sound = λ step. asking-denied rec least most s new cpu command given sound step
 held-denies (RunsOrAsksTo rec top ripas) s new cpu command given sound = λ step is denied. both_ways denied refl

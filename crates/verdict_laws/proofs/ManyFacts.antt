@@ -2,7 +2,7 @@
 use Rattle.std.proofs.Common.{◌≡◌, ℕ, ◌-◌, ◌^◌, ◌≤◌, ◌==◌, ◌&&◌, ◌||◌, nat_le, nat_lt, Bool, true, false, IsTrue, All, List, is_some, inl, inr, refl, sym, ◌∙◌, ap, eq-eqb, eqb-true, arith}
 use Rattle.std.specs.Prelude.{Err, if◌then◌else◌, is_none, not, unwrap_or}
 use Rattle.std.specs.List.{list_all, list_any}
-use Rattle.std.proofs.lemmas.Bool.{and_from, and_parts, le-leb, leb-true, lt-ltb, not-true, or_cases}
+use Rattle.std.proofs.lemmas.Bool.{and_from, and_parts, cases_Bool, le-leb, leb-true, lt-ltb, not-true, or_cases}
 use Rattle.std.proofs.lemmas.Bool.Decides.{nat_tests}
 use Rattle.std.proofs.lemmas.List.Elements.{All-contains, All-weaker}
 use Rattle.std.proofs.lemmas.List.Sums.{AllPass-from_list_all, list_all-from_AllPass}
@@ -30,12 +30,13 @@ use Rattle.spec_lemmas.proofs.Members.{Contains-from_slice_get, passing_member}
 use Rattle.rmm_laws.proofs.Searches.{realm_there}
 use Rattle.rmm_laws.proofs.Spaces.{space_cases}
 use Rattle.verdict_laws.specs.declared.facts.Fact.{Fact}
-use Rattle.verdict_laws.specs.declared.facts.Fact.TheVariants.{Activated, AsksFrom, RunsOrAsksTo, HasRipas, Idle, OwnedBy, PartOf, Runnable, RunsOn, SoleVmid, Tagged, Wide}
+use Rattle.verdict_laws.specs.declared.facts.Fact.TheVariants.{Activated, AsksFrom, RunsOrAsksTo, HasRipas, Idle, OwnedBy, PartOf, Runnable, RunsOn, RunsOrAsksWithin, SoleVmid, Tagged, Wide}
 use Rattle.verdict_laws.specs.declared.placing.ExitReason.{ExitReason}
 use Rattle.verdict_laws.specs.declared.placing.Standing.{Standing}
 use Rattle.verdict_laws.specs.declared.placing.Standing.TheVariants.{Inside, Outside}
-use Rattle.verdict_laws.specs.Denying.{are_ready, are_within, denies, deny, deny_input, deny_inside, deny_new, deny_rec, enters_run, give_half, give_tag, give_vmid, gives_base, gives_half, gives_idle, gives_no_owner, gives_none, gives_other_ripas, gives_owner, gives_realm, gives_run, gives_runnable, gives_running, gives_tag, gives_top, gives_vmid, is_refused_new, is_refused_with, is_stopped}
-use Rattle.verdict_laws.specs.Facts.{holds, is_one_entry, is_tag, is_told}
+use Rattle.verdict_laws.specs.Denying.{are_ready, are_within, asks_pages, denies, deny, deny_input, deny_inside, deny_new, deny_rec, enters_run, give_half, give_pages, give_tag, give_vmid, gives_base, gives_half, gives_idle, gives_no_owner, gives_none, gives_other_ripas, gives_owner, gives_realm, gives_run, gives_runnable, gives_running, gives_tag, gives_top, gives_vmid, is_refused_new, is_refused_with}
+use Rattle.verdict_laws.specs.Facts.{holds, is_one_entry, is_tag, is_told, runs_or_asks}
+use Rattle.verdict_laws.proofs.AskingFacts.{asking_there, asks-idle}
 use Rattle.verdict_laws.proofs.FactKinds.{held-denies}
 use Rattle.verdict_laws.proofs.FactSteps.{IsUntold, IsUntold-decided, are_tagged, are_told, step-untold, step-untold_behind}
 use Rattle.verdict_laws.proofs.PartFacts.{no_owner-given, no_part}
@@ -123,6 +124,7 @@ module _ (s : State) (sound : IsSound s) where
         and_from _ _ inside (rw (eqb-true n.granule granule names.0, tag-from_is_tag n.tag Delegated names.1)
         (ap (λ b. b || is_tag (s.tag granule) Delegated) (sym none) ∙ is))
     has_tag-given n inside (AsksFrom rec base) is gives = rec_tagged n rec (from_read base (s.rec rec) is).2 gives
+    has_tag-given n inside (RunsOrAsksWithin rec least most) is gives = rec_tagged n rec (asking_there least most (s.rec rec) is) gives
     has_tag-given n inside (Idle rec) is gives = rec_tagged n rec (idle_there (s.rec rec) is) gives
     has_tag-given n inside (RunsOn rec at) is gives = rec_tagged n rec (running_there at (s.rec rec) is) gives
     has_tag-given n inside _ is gives = both_ways gives refl
@@ -158,35 +160,40 @@ module _ (s : State) (sound : IsSound s) where
 
     -- ---- RECs
 
-    -- what a REC asks for begins where a fact says
-    base-given : (rec base : ℕ) (fact : Fact) → holds fact s ≡ true → gives_base rec base fact ≡ true → base ≡ (request_of (rec_at s rec)).base
-    unfolding rec_at
-    base-given rec base (AsksFrom other its_base) is gives =
-        let parts = and_parts (rec == other) (base == its_base) gives in
-        eqb-true base its_base parts.1 ∙ sym (from_read its_base (s.rec other) is).1
-        ∙ ap (λ g. (request_of (unwrap_or (s.rec g) no_rec)).base) (sym (eqb-true rec other parts.0))
-    base-given rec base _ is gives = both_ways gives refl
+    module _ (rec : ℕ) (idle : is_none (rec_at s rec).cpu ≡ true) where
+      -- what a REC asks for that runs on no CPU begins where a fact says
+      base-given : (base : ℕ) (fact : Fact) → holds fact s ≡ true → gives_base rec base fact ≡ true → base ≡ (request_of (rec_at s rec)).base
+      unfolding rec_at
+      base-given base (AsksFrom other its_base) is gives =
+          let parts = and_parts (rec == other) (base == its_base) gives in
+          eqb-true base its_base parts.1 ∙ sym (from_read its_base (s.rec other) is).1
+          ∙ ap (λ g. (request_of (unwrap_or (s.rec g) no_rec)).base) (sym (eqb-true rec other parts.0))
+      base-given base (RunsOrAsksWithin other least most) is gives =
+          let parts = and_parts (rec == other && base == least) (base == most) gives in
+          let names = and_parts (rec == other) (base == least) parts.0 in
+          let at = eqb-true rec other names.0 in
+          let begins = (request_of (unwrap_or (s.rec rec) no_rec)).base in
+          let within = and_parts (nat_le least begins) (nat_le begins most)
+          (asks-idle least most (s.rec rec) (ap (λ g. runs_or_asks (s.rec g) least most) at ∙ is) idle) in
+          let first = leb-true least begins within.0 in
+          let last = leb-true begins most within.1 in
+          let from = eqb-true base least names.1 in
+          let up_to = eqb-true base most parts.1 in
+          omega (arith, first, last, from, up_to)
+      base-given base _ is gives = both_ways gives refl
 
-    -- it runs on no CPU then
-    base_idle : (rec base : ℕ) (fact : Fact) → holds fact s ≡ true → gives_base rec base fact ≡ true → is_none (rec_at s rec).cpu ≡ true
-    unfolding rec_at
-    base_idle rec base (AsksFrom other its_base) is gives =
-        let parts = and_parts (rec == other) (base == its_base) gives in
-        ap (λ g. is_none (unwrap_or (s.rec g) no_rec).cpu) (eqb-true rec other parts.0) ∙ (from_read its_base (s.rec other) is).0
-    base_idle rec base _ is gives = both_ways gives refl
-
-    -- and it ends no earlier than one says
-    top-given : (rec top : ℕ) → is_none (rec_at s rec).cpu ≡ true → (fact : Fact) → holds fact s ≡ true → gives_top rec top fact ≡ true
-        → (is_some (rec_at s rec).request ≡ true) × (nat_le top (request_of (rec_at s rec)).top ≡ true)
-    unfolding rec_at
-    top-given rec top idle (RunsOrAsksTo other its_top ripas) is gives =
-        let parts = and_parts (rec == other) (nat_le top its_top) gives in
-        let at = eqb-true rec other parts.0 in
-        let read = to_read its_top ripas (s.rec other) is (ap (λ g. is_none (unwrap_or (s.rec g) no_rec).cpu) (sym at) ∙ idle) in (
-          ap (λ g. is_some (unwrap_or (s.rec g) no_rec).request) at ∙ read.0,
-          (λ i. nat_le top ((ap (λ g. (request_of (unwrap_or (s.rec g) no_rec)).top) at ∙ read.1) i)) ∙ parts.1,
-        )
-    top-given rec top idle _ is gives = both_ways gives refl
+      -- and it ends no earlier than one says
+      top-given : (top : ℕ) (fact : Fact) → holds fact s ≡ true → gives_top rec top fact ≡ true
+          → (is_some (rec_at s rec).request ≡ true) × (nat_le top (request_of (rec_at s rec)).top ≡ true)
+      unfolding rec_at
+      top-given top (RunsOrAsksTo other its_top ripas) is gives =
+          let parts = and_parts (rec == other) (nat_le top its_top) gives in
+          let at = eqb-true rec other parts.0 in
+          let read = to_read its_top ripas (s.rec other) is (ap (λ g. is_none (unwrap_or (s.rec g) no_rec).cpu) (sym at) ∙ idle) in (
+            ap (λ g. is_some (unwrap_or (s.rec g) no_rec).request) at ∙ read.0,
+            (λ i. nat_le top ((ap (λ g. (request_of (unwrap_or (s.rec g) no_rec)).top) at ∙ read.1) i)) ∙ parts.1,
+          )
+      top-given top _ is gives = both_ways gives refl
 
     -- it runs on no CPU where one says so
     idle-given : (rec : ℕ) (fact : Fact) → holds fact s ≡ true → gives_idle rec fact ≡ true → is_none (rec_at s rec).cpu ≡ true
@@ -282,34 +289,46 @@ module _ (s : State) (sound : IsSound s) where
       behind_within (call.RttReadEntry rd ipa level) within =
           let is = IsInHalf-at 1 level rd ipa within in
           rw (le-leb (realm_at s rd).start_level level (omega (arith, is.0, is.1.first)), is.1.inside) refl
-      behind_within (call.RttSetRipas rd rec base top) within =
+      behind_within _ within = both_ways within refl
+
+      -- nor do those on what a REC that runs on no CPU asks for
+      asked_idle : (rd rec base top : ℕ) → is_none (rec_at s rec).cpu ≡ true → give_pages facts rec base top ≡ true
+          → are_told (is_refused_with 1) (behind s cpu (call.RttSetRipas rd rec base top)).0 ≡ false
+      unfolding behind
+      asked_idle rd rec base top idle gives =
           let from = list_any (gives_base rec base) facts in
-          let parts = and_parts (nat_lt base top && is_page top && from) (list_any (gives_top rec top) facts) within in
+          let parts = and_parts (nat_lt base top && is_page top && from) (list_any (gives_top rec top) facts) gives in
           let begins = and_parts (nat_lt base top && is_page top) from parts.0 in
           let pages = and_parts (nat_lt base top) (is_page top) begins.0 in
-          let idle = from_one (gives_base rec base) (base_idle rec base) begins.1 in
-          let ends = from_one (gives_top rec top) (top-given rec top idle) parts.1 in
+          let ends = from_one (gives_top rec top) (top-given rec idle top) parts.1 in
           rw (
             ends.0,
             ends.1,
-            eq-eqb base _ (from_one (gives_base rec base) (base-given rec base) begins.1),
+            eq-eqb base _ (from_one (gives_base rec base) (base-given rec idle base) begins.1),
             pages.0,
             pages.1,
           ) refl
-      behind_within _ within = both_ways within refl
 
-      -- and one whose REC runs is refused for that before those
-      behind_stopped : (c : Call) → is_stopped facts c ≡ true
+      -- and where it runs the call is refused for that before
+      behind_asked : (c : Call) → asks_pages facts c ≡ true
           → IsUntold (is_refused_with 1) (λ words. refl) refl (decided (behind s cpu c).0 (behind s cpu c).1)
-      unfolding behind is_stopped
-      behind_stopped (call.RttSetRipas rd rec base top) stopped =
-          rw (from_one (gives_running rec) (running-given rec) stopped) (by ((rec_at s rec).owner == rd))
+      unfolding behind asks_pages
+      behind_asked (call.RttSetRipas rd rec base top) asks = elim (cases_Bool (is_none (rec_at s rec).cpu)) [
+        | inl idle ↦ elim (or_cases (list_any (gives_running rec) facts) (give_pages facts rec base top) asks) [
+          | inl running ↦ both_ways idle (from_one (gives_running rec) (running-given rec) running)
+          | inr pages ↦
+              let c = call.RttSetRipas rd rec base top in
+              IsUntold-decided (is_refused_with 1) (λ words. refl) refl (behind s cpu c).0 (behind s cpu c).1
+              (asked_idle rd rec base top idle pages)
+        ]
+        | inr runs ↦ rw runs (by ((rec_at s rec).owner == rd))
+      ]
         where
           by : (own : Bool) → IsUntold (is_refused_with 1) (λ words. refl) refl
               (if own then Err (refusal.Rec condition.RecState) else Err (refusal.Rec condition.RecOwner))
           by true = refl
           by false = refl
-      behind_stopped _ stopped = both_ways stopped refl
+      behind_asked _ asks = both_ways asks refl
 
     -- ---- steps
 
@@ -322,14 +341,14 @@ module _ (s : State) (sound : IsSound s) where
       input-denied : (granules : ℕ) → s.config.granules ≡ granules → deny_input granules facts c given ≡ true → ⊥
       input-denied granules size denied =
           let tags = list_all (give_tag granules facts) (named c) in
-          let parts = and_parts (is_refused_with 1 given && all_allowed (words_of c) && tags) (are_within facts c || is_stopped facts c) denied in
+          let parts = and_parts (is_refused_with 1 given && all_allowed (words_of c) && tags) (are_within facts c || asks_pages facts c) denied in
           let front = and_parts (is_refused_with 1 given && all_allowed (words_of c)) tags parts.0 in
           let refused = and_parts (is_refused_with 1 given) (all_allowed (words_of c)) front.0 in
           let untold : IsUntold (is_refused_with 1) (λ words. refl) refl (decided (behind s cpu c).0 (behind s cpu c).1) =
-          elim (or_cases (are_within facts c) (is_stopped facts c) parts.1) [
+          elim (or_cases (are_within facts c) (asks_pages facts c) parts.1) [
             | inl within ↦
                 IsUntold-decided (is_refused_with 1) (λ words. refl) refl (behind s cpu c).0 (behind s cpu c).1 (behind_within cpu c within)
-            | inr stopped ↦ behind_stopped cpu c stopped
+            | inr asks ↦ behind_asked cpu c asks
           ] in
           both_ways refused.0 (step-untold_behind (is_refused_with 1) (λ words. refl) refl s new cpu command given refused.1
           (are_tagged-given granules (named c) size front.1) untold step)

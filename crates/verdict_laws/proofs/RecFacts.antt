@@ -1,8 +1,8 @@
 -- RECs: whose one is, whether it can run, and what it asks for while it runs on no CPU. What a call makes so stays so until another may end it, and
 -- isn't denied.
 use Rattle.std.proofs.Common.{◌≡◌, ℕ, ◌==◌, ◌&&◌, ◌||◌, true, false, Bool, Option, Some, None, IsTrue, is_some, refl, sym, ◌∙◌, ap, eqb-true, eq-eqb, arith, inl, inr}
-use Rattle.std.specs.Prelude.{is_none, nat_le, nat_lt, not, unwrap_or}
-use Rattle.std.proofs.lemmas.Bool.{and_from, and_parts, cases_Bool, false_from_ne_true, le-leb, ltb-true, not-true, or_cases, or_parts, or_right}
+use Rattle.std.specs.Prelude.{is_none, nat_le, nat_lt, unwrap_or}
+use Rattle.std.proofs.lemmas.Bool.{and_from, and_parts, cases_Bool, false_from_ne_true, le-leb, ltb-true, or_cases, or_parts, or_right}
 use Rattle.rmm_spec.specs.declared.call.Call.{Call}
 use Rattle.rmm_spec.specs.declared.call.Call.TheVariants as call
 use Rattle.rmm_spec.specs.declared.change.RecUpdate.{RecUpdate}
@@ -28,7 +28,6 @@ use Rattle.verdict_laws.specs.declared.placing.ExitReason.{ExitReason}
 use Rattle.verdict_laws.specs.declared.placing.ExitReason.TheVariants as exit_reason
 use Rattle.verdict_laws.specs.declared.placing.Standing.{Standing}
 use Rattle.verdict_laws.specs.declared.placing.Standing.TheVariants.{Inside}
-use Rattle.verdict_laws.specs.Denying.{asks_else}
 use Rattle.verdict_laws.specs.Facts.{asks_from, can_run, destroys, enters, has_owner, holds, is_idle, is_left_with, is_told, is_up_to, is_within, leaves_with, makes_owned, makes_rec, makes_runnable, moves_request, runs_or_asks, runs_or_asks_to, sets_from, turns_off}
 use Rattle.verdict_laws.proofs.RecChanges.{StaysDone, met_record, rec-kept}
 use Rattle.verdict_laws.proofs.Spared.{runs_on-read}
@@ -85,14 +84,6 @@ module _ (s : State) (cpu : ℕ) (given : Reply) (new : State) where
 unfoldable sets_request : Call → ℕ → Bool
 sets_request (call.RttSetRipas rd other base top) rec = rec == other
 sets_request _ rec = false
-
--- from elsewhere on, if not from there
-asks_elsewhere : (c : Call) (given : Reply) (rec base : ℕ) → sets_request c rec ≡ true → sets_from c rec base ≡ false
-    → asks_else c given rec base ≡ true
-unfolding asks_else sets_from sets_request
-asks_elsewhere (call.RttSetRipas rd other from top) given rec base sets apart =
-    and_from _ _ sets (ap not (ap (λ same. same && base == from) (sym sets) ∙ apart))
-asks_elsewhere _ given rec base sets apart = both_ways sets refl
 
 module _ (test : Option RecRecord → Bool) (absent : test None ≡ false) (rec : ℕ) (s : State) (met : test (s.rec rec) ≡ true) (cpu : ℕ) where
   -- A test that goes by neither where a REC runs nor what it asks for is met behind a call that doesn't destroy the REC; one that turns off is looked
@@ -332,24 +323,14 @@ module _ (rec : ℕ) (s new : State) (cpu : ℕ) (command : Command) (given : Re
     pub from-made : is_accepted given ≡ true → moves_request c given rec base ≡ true → asks_from (new.rec rec) base ≡ true
     from-made accepted = made_request s cpu given new rec base c (carried accepted)
 
-    -- a call isn't carried out as if it asked for something from elsewhere on
-    rows_asked : (asked : Call) → IsCarried s cpu asked given new → asks_from (s.rec rec) base ≡ true → asks_else asked given rec base ≡ true → ⊥
-    unfolding behind asks_else rec_at
-    rows_asked (call.RecEnter other) carried is other_words =
-        let parts = and_parts (rec == other) (not (is_told base given)) other_words in
-        let read = from_read base (s.rec rec) is in
-        let told : is_told base given ≡ true =
-        ap (is_told base) carried.done.0
-        ∙ eq-eqb base _ (sym (ap (λ g. (request_of (unwrap_or (s.rec g) no_rec)).base) (sym (eqb-true rec other parts.0)) ∙ read.1)) in
-        both_ways told (not-true (is_told base given) parts.1)
-    rows_asked (call.RttSetRipas rd other from top) carried is other_words =
-        let parts = and_parts (rec == other) (not (base == from)) other_words in
-        let read = from_read base (s.rec rec) is in
-        let begins = eqb-true from _ carried.rows.1.1.1.0 in
-        let same : base ≡ from = sym (begins
-        ∙ ap (λ g. (request_of (unwrap_or (s.rec g) no_rec)).base) (sym (eqb-true rec other parts.0)) ∙ read.1) in
-        both_ways (eq-eqb base from same) (not-true (base == from) parts.1)
-    rows_asked _ carried is other_words = both_ways other_words refl
+    -- a part is set from there on, if one is
+    set_from : (asked : Call) → IsCarried s cpu asked given new → asks_from (s.rec rec) base ≡ true → sets_request asked rec ≡ true
+        → sets_from asked rec base ≡ true
+    unfolding behind rec_at sets_from sets_request
+    set_from (call.RttSetRipas rd other from top) carried is sets =
+        let here = ap (λ g. (request_of (unwrap_or (s.rec g) no_rec)).base) (sym (eqb-true rec other sets)) in
+        and_from _ _ sets (eq-eqb base from (sym (eqb-true from _ carried.rows.1.1.1.0 ∙ here ∙ (from_read base (s.rec rec) is).1)))
+    set_from _ carried is sets = both_ways sets refl
 
     -- until it is destroyed, is entered, or a part is set from there on
     pub from-left : (destroys c rec || enters c rec || sets_from c rec base) ≡ false → asks_from (s.rec rec) base ≡ true
@@ -360,16 +341,9 @@ module _ (rec : ℕ) (s new : State) (cpu : ℕ) (command : Command) (given : Re
         elim (cases_Bool (is_accepted given)) [
           | inl accepted ↦ rec-kept test refl rec s is new cpu command given sound step (λ placed.
               keeps_idle test refl rec s is cpu (from_idle base) c placed parts.0 (λ end sets.
-              absurd (rows_asked c (carried accepted) is (asks_elsewhere c given rec base sets parts.1))))
+              both_ways (set_from c (carried accepted) is sets) parts.1))
           | inr refused ↦ ap (λ (t : State). test (t.rec rec)) (step-refuses s new cpu command given step refused) ∙ is
         ]
-
-  -- ---- replies
-
-  module _ (base : ℕ) where
-    pub from-denied : asks_from (s.rec rec) base ≡ true → (is_accepted given && asks_else c given rec base) ≡ true → ⊥
-    from-denied is denied =
-        let parts = and_parts (is_accepted given) (asks_else c given rec base) denied in rows_asked base c (carried parts.0) is parts.1
 
 -- ---- RECs that leave
 

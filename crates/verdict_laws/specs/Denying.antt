@@ -65,12 +65,6 @@ needs_free (call.DataCreateUnknown other granule at) rd ipa = rd == other && is_
 needs_free (call.RttInitRipas other base top) rd ipa = rd == other && is_one_entry ipa base
 needs_free _ rd ipa = false
 
--- whether the call is carried out as if the REC asked for something from another address on
-unfoldable pub asks_else : Call → Reply → ℕ → ℕ → Bool
-asks_else (call.RecEnter other) given rec base = rec == other && not (is_told base given)
-asks_else (call.RttSetRipas rd other from top) given rec base = rec == other && not (base == from)
-asks_else _ given rec base = false
-
 -- whether the only word is one of these addresses
 abbrev pub is_word_within : ℕ → ℕ → List ℕ → Bool
 is_word_within least most (word ∷ []) = is_within least most word
@@ -131,7 +125,7 @@ denies (OwnedBy rec rd) c given = false
 denies (Runnable rec) c given = false
 denies (Idle rec) c given = false
 denies (RunsOn rec at) c given = is_accepted given && needs_idle c rec
-denies (AsksFrom rec base) c given = is_accepted given && asks_else c given rec base
+denies (AsksFrom rec base) c given = is_accepted given && asks_outside c given rec base base
 denies (RunsOrAsksWithin rec least most) c given = is_accepted given && asks_outside c given rec least most
 denies (RunsOrAsksTo rec top ripas) c given = false
 
@@ -151,6 +145,7 @@ gives_tag facts n (PartOf granule owner) = n.granule == granule && is_tag n.tag 
 gives_tag facts n (Idle rec) = n.granule == rec && is_tag n.tag Rec
 gives_tag facts n (RunsOn rec at) = n.granule == rec && is_tag n.tag Rec
 gives_tag facts n (AsksFrom rec base) = n.granule == rec && is_tag n.tag Rec
+gives_tag facts n (RunsOrAsksWithin rec least most) = n.granule == rec && is_tag n.tag Rec
 gives_tag facts n _ = false
 
 -- whether it is one of so many granules, and one of the facts says so; addresses of none are Undelegated too
@@ -180,17 +175,18 @@ gives_vmid facts vmid _ = false
 abbrev pub give_vmid : List Fact → ℕ → Bool
 give_vmid facts vmid = list_any (gives_vmid facts vmid) facts
 
--- whether the fact says that what the REC asks for begins at the address
+-- whether the fact says that what the REC asks for begins at the address, unless it runs
 abbrev pub gives_base : ℕ → ℕ → Fact → Bool
 gives_base rec base (AsksFrom other its_base) = rec == other && base == its_base
+gives_base rec base (RunsOrAsksWithin other least most) = rec == other && base == least && base == most
 gives_base rec base _ = false
 
--- whether the fact says that what the REC asks for ends at the address or later
+-- whether the fact says that what it asks for ends at the address or later, unless it runs
 abbrev pub gives_top : ℕ → ℕ → Fact → Bool
 gives_top rec top (RunsOrAsksTo other its_top ripas) = rec == other && nat_le top its_top
 gives_top rec top _ = false
 
--- whether the facts say that the REC asks for the pages, and there are some
+-- whether the facts say that it asks for the pages, and there are some, unless it runs
 abbrev pub give_pages : List Fact → ℕ → ℕ → ℕ → Bool
 give_pages facts rec base top = nat_lt base top && is_page top && list_any (gives_base rec base) facts && list_any (gives_top rec top) facts
 
@@ -209,7 +205,6 @@ are_within facts (call.RecEnter rec) = true
 are_within facts (call.RttCreate rd rtt ipa level) = nat_le 2 level && give_half facts rd ipa
 are_within facts (call.RttRemove removal rd ipa level) = nat_le 2 level && give_half facts rd ipa
 are_within facts (call.RttReadEntry rd ipa level) = nat_le 1 level && give_half facts rd ipa
-are_within facts (call.RttSetRipas rd rec base top) = give_pages facts rec base top
 are_within facts _ = false
 
 -- whether the fact says that the REC runs
@@ -217,16 +212,17 @@ abbrev pub gives_running : ℕ → Fact → Bool
 gives_running rec (RunsOn other at) = rec == other
 gives_running rec _ = false
 
--- whether the facts say that the call is refused for its REC, by a row before those that refuse with ERROR_INPUT
-unfoldable pub is_stopped : List Fact → Call → Bool
-is_stopped facts (call.RttSetRipas rd rec base top) = list_any (gives_running rec) facts
-is_stopped facts _ = false
+-- Whether the facts say that the call's REC runs or asks for its pages. Where it runs the call is refused for that, by a row before those on what is
+-- asked for.
+unfoldable pub asks_pages : List Fact → Call → Bool
+asks_pages facts (call.RttSetRipas rd rec base top) = list_any (gives_running rec) facts || give_pages facts rec base top
+asks_pages facts _ = false
 
 -- whether the call is refused with ERROR_INPUT, though where the facts hold all is well that it says and names, or it is refused for its REC before
 abbrev pub deny_input : ℕ → List Fact → Call → Reply → Bool
 deny_input granules facts c given =
     is_refused_with 1 given && all_allowed (words_of c) && list_all (give_tag granules facts) (named c)
-    && (are_within facts c || is_stopped facts c)
+    && (are_within facts c || asks_pages facts c)
 
 -- whether the fact says that the realm was activated
 abbrev pub gives_run : ℕ → Fact → Bool

@@ -19,7 +19,7 @@ use Rattle.verdict_laws.specs.declared.facts.Fact.TheVariants.{NewRealm, Tagged,
 use Rattle.verdict_laws.specs.declared.placing.ExitReason.{ExitReason}
 use Rattle.verdict_laws.specs.declared.placing.ExitReason.TheVariants.{RipasChange}
 use Rattle.verdict_laws.specs.declared.placing.Standing.{Standing}
-use Rattle.verdict_laws.specs.declared.placing.Standing.TheVariants.{Inside}
+use Rattle.verdict_laws.specs.declared.placing.Standing.TheVariants.{Inside, Outside}
 use Rattle.verdict_laws.specs.Separate.{is_freed}
 use Rattle.verdict_laws.specs.Slices.{changeable, leaves_unused}
 
@@ -439,14 +439,19 @@ may_end (AsksFrom rec base) cpu c given = destroys c rec || enters c rec || sets
 may_end (RunsOrAsksWithin rec least most) cpu c given = destroys c rec || exits c || sets_past c rec least most
 may_end (RunsOrAsksTo rec top ripas) cpu c given = destroys c rec || exits c
 
--- whether a REC leaves by the call of a CPU that stands in another
+-- whether a CPU that stands there is in another REC, or in none
+abbrev pub is_elsewhere : Standing → ℕ → Bool
+is_elsewhere Outside rec = true
+is_elsewhere (Inside at reason) rec = not (rec == at)
+
+-- whether no exit of such a CPU is this REC's
 unfoldable pub exits_other : Call → Standing → ℕ → Bool
-exits_other call.Exit (Inside at reason) rec = not (rec == at)
+exits_other call.Exit standing rec = is_elsewhere standing rec
 exits_other _ standing rec = false
 
--- whether one turns itself off by it
+-- whether it isn't this REC that turns itself off
 unfoldable pub turns_off_other : Call → Standing → ℕ → Bool
-turns_off_other call.CpuOff (Inside at reason) rec = not (rec == at)
+turns_off_other call.CpuOff standing rec = is_elsewhere standing rec
 turns_off_other _ standing rec = false
 
 -- whether the call of a CPU that stands there leaves the fact, though it may end it from elsewhere

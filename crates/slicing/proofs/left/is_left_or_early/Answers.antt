@@ -2,7 +2,7 @@
 use Rattle.std.proofs.Common.{inr}
 use Rattle.slicing.specs.Calls.{events_to}
 use Rattle.slicing.proofs.FactLaws.{IsLeftAt-passed}
-use Rattle.slicing.proofs.denied.is_left_or_early.Goals as goal
+use Rattle.slicing.proofs.left.is_left_or_early.Goals as goal
 
 pub returns-then-is_passed_by : goal.returns-then-is_passed_by
 returns-then-is_passed_by c is cpu number command is_called =

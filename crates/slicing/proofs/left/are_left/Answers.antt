@@ -4,7 +4,7 @@ use Rattle.std.proofs.lemmas.Bool.{cases_lt}
 use Rattle.std.proofs.lemmas.List.{length-take-le}
 use Rattle.std.proofs.lemmas.Option.{slice_get_within}
 use Rattle.slicing.specs.Calls.{events_to}
-use Rattle.slicing.proofs.denied.are_left.Goals as goal
+use Rattle.slicing.proofs.left.are_left.Goals as goal
 
 pub loop-at-preserved : goal.loop-at-preserved
 loop-at-preserved c = below_more _ _ c.loop-at.invariant (c.if-not-is_left_or_early.ensures refl)

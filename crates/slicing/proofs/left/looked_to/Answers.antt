@@ -2,7 +2,7 @@
 use Rattle.std.proofs.Common.{arith, inr}
 use Rattle.slicing.specs.Calls.{events_to}
 use Rattle.slicing.proofs.FactLaws.{IsOver-answered}
-use Rattle.slicing.proofs.denied.looked_to.Goals as goal
+use Rattle.slicing.proofs.left.looked_to.Goals as goal
 
 pub returns-in-Some-answer-clause-over : goal.returns-in-Some-answer-clause-over
 returns-in-Some-answer-clause-over c at past =

@@ -1,0 +1,116 @@
+//! What calls say of a REC before a place: whose it is, what it asks for, and where it was entered.
+
+use crate::done::Done;
+use crate::latest::{done_at, function_at};
+use crate::making_recs::enters;
+use crate::standing::standing_before;
+use history::History;
+use rmi_view::ReplyRef;
+use rmm_spec::{Call, FunctionId};
+use verdict_laws::{ExitReason, Fact, Standing};
+
+/// The CPU that entered the REC by the call which is made at one place, if that returned before another.
+pub(crate) fn entered_at(
+    history: &History,
+    count: u32,
+    place: u32,
+    at: u32,
+    rec: u64,
+) -> Option<u8> {
+    if !matches!(function_at(history, at), Some(FunctionId::RecEnter)) {
+        return None;
+    }
+    let done = done_at(history, count, place, at)?;
+    enters(&done.call, rec).then_some(done.cpu)
+}
+
+/// The realm of the REC, as the latest call says that made it and returned before a place.
+pub(crate) fn owner_before(history: &History, count: u32, place: u32, rec: u64) -> Option<u64> {
+    for back in 1..place.saturating_add(1) {
+        let at = place.saturating_sub(back);
+        if let Some(rd) = owner_at(history, count, place, at, rec) {
+            return Some(rd);
+        }
+    }
+    None
+}
+
+/// The realm for which the call that is made at one place makes the REC, if that returned before another.
+fn owner_at(history: &History, count: u32, place: u32, at: u32, rec: u64) -> Option<u64> {
+    if !matches!(function_at(history, at), Some(FunctionId::RecCreate)) {
+        return None;
+    }
+    match done_at(history, count, place, at)?.call {
+        Call::RecCreate { rd, rec: other, .. } if rec == other => Some(rd),
+        _ => None,
+    }
+}
+
+/// From where on the REC asks for something, as the latest call says that returned before a place, if it wasn't entered since.
+pub(crate) fn asked_from(history: &History, count: u32, place: u32, rec: u64) -> Option<Fact> {
+    for back in 1..place.saturating_add(1) {
+        let at = place.saturating_sub(back);
+        if let Some(done) = of_rec_at(history, count, place, at) {
+            if enters(&done.call, rec) {
+                return None;
+            }
+            if let Some(base) = base_after(history, count, &done, rec) {
+                return Some(Fact::AsksFrom { rec, base });
+            }
+        }
+    }
+    None
+}
+
+/// Up to where, and for which RIPAS, as the latest exit says.
+pub(crate) fn asked_to(history: &History, count: u32, place: u32, rec: u64) -> Option<Fact> {
+    for back in 1..place.saturating_add(1) {
+        let at = place.saturating_sub(back);
+        if let Some(done) = of_rec_at(history, count, place, at) {
+            if enters(&done.call, rec) {
+                return None;
+            }
+            if let Some(ExitReason::RipasChange { top, ripas, .. }) = reason_of(
+                history, count, &done, rec,
+            ) {
+                return Some(Fact::RunsOrAsksTo { rec, top, ripas });
+            }
+        }
+    }
+    None
+}
+
+/// The call that is made at one place, if it is of those that change what a REC asks for and returned before another.
+fn of_rec_at(history: &History, count: u32, place: u32, at: u32) -> Option<Done<'_>> {
+    match function_at(history, at)? {
+        FunctionId::RecCreate | FunctionId::RecEnter | FunctionId::RttSetRipas | FunctionId::Exit =>
+            done_at(history, count, place, at),
+        _ => None,
+    }
+}
+
+/// Where what the REC asks for begins after a call that was carried out, if that changes it.
+fn base_after(history: &History, count: u32, done: &Done<'_>, rec: u64) -> Option<u64> {
+    match done.call {
+        Call::RecCreate { rec: other, .. } if rec == other => Some(0),
+        Call::RttSetRipas { rec: other, .. } if rec == other => match done.reply {
+            ReplyRef::Ok(words) => words.first().copied(),
+            _ => None,
+        },
+        _ => match reason_of(history, count, done, rec)? {
+            ExitReason::RipasChange { base, .. } => Some(base),
+            _ => None,
+        },
+    }
+}
+
+/// Why the REC leaves by the call, if that is its exit.
+fn reason_of(history: &History, count: u32, done: &Done<'_>, rec: u64) -> Option<ExitReason> {
+    if !matches!(done.call, Call::Exit) || count as usize > history.len() {
+        return None;
+    }
+    match standing_before(history, count, done.cpu, done.number)? {
+        Standing::Inside { rec: at, reason } if at == rec => Some(reason),
+        _ => None,
+    }
+}
