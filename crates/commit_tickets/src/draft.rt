@@ -80,7 +80,7 @@ impl Draft {
     {
         self.answer = foresee(config, command, token.cpu, &token.place, hold.pairs());
         self.room = room_of(alloc, &self.answer).ok();
-        let _ = token.mine.reserve();
+        let _ = token.reserve();
     }
 
     /// The reply.

@@ -1,6 +1,6 @@
 //! A draft comes to stand in the journal.
 
-ghost use Rattle.std.specs.Prelude.{◌≡◌, ◌+◌, ◌<◌, ◌≤◌, [], ◌∷◌, ◌++◌, length, None, Err, IsTrue, IfOk, IfErr, OnOk, OnErr};
+ghost use Rattle.std.specs.Prelude.{◌≡◌, ◌≤◌, length, None, Some, IsTrue, IfOk, IfErr, OnOk, OnErr};
 ghost use Rattle.rmm_spec.specs.Call.{call_of};
 ghost use Rattle.rmm_laws.specs.Whole.{side_changed};
 ghost use Rattle.rmm_spec.specs.declared.version.Version.TheVariants.{Large};
@@ -13,8 +13,8 @@ ghost use Rattle.command_core.specs.Seen.{place_of, known_cell};
 ghost use Rattle.command_core.specs.Settled.{is_settled};
 ghost use Rattle.command_core.specs.Sides.{side_of};
 ghost use Rattle.granule_lock.specs.HeldCells.{hold_cells};
-ghost use Rattle.commit_tickets.specs.Commits.{IsOfRun};
-ghost use Rattle.commit_tickets.specs.declared.fault.CommitFault.TheVariants.{Disagrees};
+ghost use Rattle.commit_tickets.specs.Commits.{IsEntry, IsOfRun};
+ghost use Rattle.commit_tickets.specs.declared.fault.CommitFault.TheVariants.{NoMemory};
 ghost use Rattle.commit_tickets.specs.Drafts.{IsDecided, IsDraft, IsEnteredOn};
 ghost use Rattle.commit_tickets.specs.Faults.{DecidesTable, HasCause};
 ghost use Rattle.commit_tickets.specs.Left.{HasGained, HasGainedNone, HasListed, HasFailed};
@@ -46,21 +46,7 @@ pub(crate) fn enter<S: Site>(
 ) -> Result<usize, CommitFault>
     requires settled { IsTrue (is_settled S.config (call_of command.now) (place_of token.old.place) (hold_cells hold.now)) }
     requires draft { IsDraft S.config command.now token.old (hold_cells hold.now) draft.old }
-    ensures of_run { IsOfRun S.config journal.old }
-    ensures ticket { IfOk result (λ ticket. ticket ≡ length journal.old.entries) }
-    ensures journal { OnOk result (HasGained token.old.cpu command.now (given_of draft.new.answer) journal.old journal.new) }
-    ensures side { OnOk result
-        (side_of journal.new.side ≡ side_changed (known_cell (hold_cells hold.now)) (side_of journal.old.side) (spec.change_of draft.new.answer)) }
-    ensures token { IfOk result (λ ticket. HasListed token.old command.now
-        (record { ticket = ticket; reply = given_of draft.new.answer }) token.new) }
-    ensures owed { OnOk result (IsDecided S.config token.old.cpu command.now (hold_with journal.old token.old (hold_cells hold.now)) draft.new) }
-    ensures entered { OnOk result (IsEnteredOn draft.new token.old.cpu (hold_cells hold.now)) }
-    ensures told { IfOk result (λ ticket. token.old.seen ≤ ticket) }
-    ensures short { length journal.old.entries < token.old.seen → result ≡ Err Disagrees }
-    ensures cause { IfErr result (λ fault. HasCause fault S.config command.now journal.old token.old (hold_cells hold.now)) }
-    ensures kept_journal { OnErr result (HasGainedNone journal.old journal.new) }
-    ensures kept_token { IfErr result (λ fault. HasFailed token.old fault token.new) }
-    ensures kept_draft { OnErr result (draft.new.entered ≡ None) }
+    ensures { IsEntry S.config command.now journal.old journal.new token.old token.new (hold_cells hold.now) draft.new result }
 {
     if (journal.len() as u64) < token.seen {
         token.fault = Some(CommitFault::Disagrees);
@@ -68,9 +54,64 @@ pub(crate) fn enter<S: Site>(
     }
     // what each `?` answers
     token.fault = Some(CommitFault::NoMemory);
+    make_ready(alloc, journal, token, hold, command, draft)?;
+    list(journal, token, hold, command, draft)
+}
+
+// Decides a draft with the side table, where that doesn't bear it out, and makes room for one commit more.
+fn make_ready<S: Site>(
+    alloc: Global,
+    journal: &mut Journal<S>,
+    token: &mut CpuToken<S>,
+    hold: &Hold,
+    command: &Command,
+    draft: &mut Draft,
+) -> Result<(), AllocError>
+    requires settled { IsTrue (is_settled S.config (call_of command.now) (place_of token.old.place) (hold_cells hold.now)) }
+    requires draft { IsDraft S.config command.now token.old (hold_cells hold.now) draft.old }
+    ensures journal { HasGainedNone journal.old journal.new }
+    ensures token { token.new ≡ record token.old { room = token.new.room } }
+    ensures grows { journal.old.room ≤ journal.new.room }
+    ensures token_grows { token.old.room ≤ token.new.room }
+    ensures room { OnOk result (1 ≤ journal.new.room) }
+    ensures token_room { OnOk result (1 ≤ token.new.room) }
+    ensures decided { OnOk result (IsDecided S.config token.old.cpu command.now (hold_with journal.old token.old (hold_cells hold.now)) draft.new) }
+    ensures fresh { draft.new.entered ≡ None }
+    ensures cause { OnErr result (HasCause NoMemory S.config command.now journal.old token.old (hold_cells hold.now)) }
+{
     decide_draft(alloc, journal, token, hold, command, draft)?;
-    journal.entries.reserve()?;
-    token.mine.reserve()?;
+    journal.reserve()?;
+    token.reserve()
+}
+
+// Offers a decision to the books, and lists it where they give it. It takes memory for the books alone.
+fn list<S: Site>(
+    journal: &mut Journal<S>,
+    token: &mut CpuToken<S>,
+    hold: &Hold,
+    command: &Command,
+    draft: &mut Draft,
+) -> Result<usize, CommitFault>
+    requires decided { IsDecided S.config token.old.cpu command.now (hold_with journal.old token.old (hold_cells hold.now)) draft.old }
+    requires fresh { draft.old.entered ≡ None }
+    requires room { 1 ≤ journal.old.room }
+    requires token_room { 1 ≤ token.old.room }
+    requires told { token.old.seen ≤ length journal.old.entries }
+    requires fault { token.old.fault ≡ Some NoMemory }
+    ensures of_run { IsOfRun S.config journal.old }
+    ensures ticket { IfOk result (λ ticket. ticket ≡ length journal.old.entries) }
+    ensures journal { OnOk result (HasGained token.old.cpu command.now (given_of draft.old.answer) journal.old journal.new) }
+    ensures side { OnOk result
+        (side_of journal.new.side ≡ side_changed (known_cell (hold_cells hold.now)) (side_of journal.old.side) (spec.change_of draft.old.answer)) }
+    ensures token { IfOk result (λ ticket. HasListed token.old command.now
+        (record { ticket = ticket; reply = given_of draft.old.answer }) token.new) }
+    ensures draft { draft.new ≡ record draft.old { entered = draft.new.entered } }
+    ensures entered { OnOk result (IsEnteredOn draft.new token.old.cpu (hold_cells hold.now)) }
+    ensures cause { IfErr result (λ fault. HasCause fault S.config command.now journal.old token.old (hold_cells hold.now)) }
+    ensures kept_journal { OnErr result (HasGainedNone journal.old journal.new) }
+    ensures kept_token { IfErr result (λ fault. HasFailed token.old fault token.new) }
+    ensures kept_draft { OnErr result (draft.new.entered ≡ None) }
+{
     let (view, reply) = (CommandRef::of(command), draft.reply());
     if !journal.books.offer_seen(token.cpu, view, reply)? {
         token.fault = Some(CommitFault::Disagrees);

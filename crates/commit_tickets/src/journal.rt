@@ -1,18 +1,20 @@
 //! The journal.
 
-ghost use Rattle.std.specs.Prelude.{◌≡◌, [], ◌<◌, ◌↔◌, length, map, slice_get, Some, IsTrue};
+ghost use Rattle.std.specs.Prelude.{◌≡◌, [], ◌<◌, ◌≤◌, ◌↔◌, length, map, slice_get, Some, IsTrue, OnOk, OnErr};
 ghost use Rattle.rmm_spec.specs.Run.{IsRun};
 ghost use Rattle.rmm_spec.specs.State.{opening};
 ghost use Rattle.spec_machine.specs.View.{state_of};
 ghost use Rattle.rmi_view.specs.Seen.{HasFewWords, reply_seen};
 ghost use Rattle.command_log.specs.Log.{logged_seen};
 ghost use Rattle.commit_tickets.specs.Entries.{entry_of};
+ghost use Rattle.commit_tickets.specs.Left.{HasGainedNone};
 
 use crate::site::Site;
 use command_core::Side;
 use command_log::{CommandLog, Logged};
 use memory_map::Config;
 use spec_machine::Machine;
+use std::alloc::AllocError;
 use std::marker::Model;
 use std::sync::ledger::Book;
 
@@ -79,6 +81,16 @@ impl<S: Site> Journal<S> {
             unreachable!()
         };
         entry
+    }
+
+    /// Makes room for one commit more, where there is none.
+    pub(crate) fn reserve(&mut self) -> Result<(), AllocError>
+        ensures kept { HasGainedNone self.old self.new }
+        ensures ok { OnOk result (1 ≤ self.new.room) }
+        ensures full { OnErr result (self.old.room ≡ 0) }
+        ensures grows { self.old.room ≤ self.new.room }
+    {
+        self.entries.reserve()
     }
 
     /// The machine in the state to which the commits have led.

@@ -1,6 +1,6 @@
 //! The token of a CPU.
 
-ghost use Rattle.std.specs.Prelude.{◌≡◌, map, true};
+ghost use Rattle.std.specs.Prelude.{◌≡◌, ◌≤◌, map, true, OnOk, OnErr};
 ghost use Rattle.commit_tickets.specs.Entries.{committed_of};
 ghost use Rattle.commit_tickets.specs.Told.{RiseWithin};
 ghost use Rattle.commit_tickets.specs.View.{TokenView};
@@ -9,6 +9,7 @@ use crate::fault::CommitFault;
 use crate::site::Site;
 use command_core::CpuPlace;
 use command_log::CommandLog;
+use std::alloc::AllocError;
 use std::marker::Model;
 use std::sync::ledger::Share;
 
@@ -83,6 +84,16 @@ impl<S: Site> CpuToken<S> {
         ensures { result ≡ self.now.seen }
     {
         self.seen
+    }
+
+    /// Makes room for one commit more in its list, where there is none.
+    pub(crate) fn reserve(&mut self) -> Result<(), AllocError>
+        ensures kept { self.new ≡ record self.old { room = self.new.room } }
+        ensures ok { OnOk result (1 ≤ self.new.room) }
+        ensures full { OnErr result (self.old.room ≡ 0) }
+        ensures grows { self.old.room ≤ self.new.room }
+    {
+        self.mine.reserve()
     }
 
     pub fn is_stopped(&self) -> bool
