@@ -1,6 +1,7 @@
 //! Whether a change can be made of what is held.
 
 ghost use Rattle.std.specs.Prelude.{◌≡◌, ◌-◌, ◌*◌, ◌/◌, ◌^◌, ◌<◌, ◌≤◌, is_some, ◌&&◌, ◌==◌, nat_le, length, option_map, option_copied, unwrap_or, IsTrue};
+ghost use Rattle.rmm_spec.specs.declared.change.Change.TheVariants.{EntriesChanged};
 ghost use Rattle.rmm_spec.specs.Cell as whole;
 ghost use Rattle.rmm_spec.specs.Lookup as lookup;
 ghost use Rattle.rmm_spec.specs.Walk.{table_size};
@@ -196,6 +197,29 @@ fn fits_entries(change: &EntryChange) -> bool
     }
 }
 
+// Whether the table that is held has the entries, and what changes beside them is held too.
+#[tactic(auto, unfolding(world_laws::specs::TableCells::holds_change))]
+fn fits_entry_change(
+    held: &HeldPairs,
+    rd: u64,
+    level: u8,
+    entries: &EntryChange,
+    page: &Option<TagChange>,
+    realm: &Option<RealmChange>,
+    rec: &Option<RecChange>,
+) -> bool
+    ensures { result ≡ spec.fits_cells (pair_cells held.now) (EntriesChanged rd level entries.now page.now realm.now rec.now) }
+{
+    holds_page(held, page)
+        && holds_realm(held, realm)
+        && holds_rec(held, rec)
+        && placed(held, rd, level, number_changed(entries)).is_some()
+        && fits_page(page)
+        && fits_entries(entries)
+        && fits_realm(held, realm)
+        && fits_rec(held, rec)
+}
+
 // Whether the records that are held are what the change updates. What it makes has the shape that its type keeps.
 #[tactic(auto, unfolding(world_laws::specs::TableCells::holds_change))]
 fn fits_cells(held: &HeldPairs, change: &Change) -> bool
@@ -233,16 +257,7 @@ fn fits_cells(held: &HeldPairs, change: &Change) -> bool
             page,
             realm,
             rec,
-        } => {
-            holds_page(held, page)
-                && holds_realm(held, realm)
-                && holds_rec(held, rec)
-                && placed(held, *rd, *level, number_changed(entries)).is_some()
-                && fits_page(page)
-                && fits_entries(entries)
-                && fits_realm(held, realm)
-                && fits_rec(held, rec)
-        }
+        } => fits_entry_change(held, *rd, *level, entries, page, realm, rec),
         Change::Unchanged | Change::RealmDestroyed { .. } | Change::RecDestroyed { .. } => true,
     }
 }

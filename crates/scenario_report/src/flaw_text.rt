@@ -43,15 +43,19 @@ impl fmt::Display for Flaw<'_> {
                 write_wrong_part(f, text.as_bytes())
             }
             Flaw::Turn { index, text, cpus } => {
-                let last = cpus.saturating_sub(1);
                 write!(f, "wrong: turn {index}, \"{}\"\n", Shown(text.as_bytes()))?;
-                write!(
-                    f,
-                    "expected: a CPU from 0 to {last}, alone or with \" giveup\" or \" stop\" after it\n"
-                )
+                write_turns(f, cpus.saturating_sub(1))
             }
         }
     }
+}
+
+// What a turn can be, where so is the last CPU.
+fn write_turns<W: fmt::Write>(f: &mut fmt::Formatter<W>, last: u8) -> fmt::Result {
+    write!(
+        f,
+        "expected: a CPU from 0 to {last}, alone or with \" giveup\" or \" stop\" after it\n"
+    )
 }
 
 // The first wrong part of a command's text.
