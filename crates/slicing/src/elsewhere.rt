@@ -1,8 +1,9 @@
-//! Which calls of CPUs that stand in other RECs, or in none, leave facts.
+//! Which calls leave facts where their CPUs stand: in other RECs, in none, or in one that leaves as the fact says.
 
 ghost use Rattle.std.specs.Prelude.{◌≡◌};
 ghost use Rattle.verdict_laws.specs.Facts as laws;
 
+use crate::making_recs::leaves_with;
 use rmm_spec::Call;
 use verdict_laws::{Fact, Standing};
 
@@ -13,7 +14,7 @@ pub(crate) fn stays_with(fact: Fact, call: &Call, standing: Standing) -> bool
     match fact {
         Fact::Runnable { rec } => turns_off_other(call, standing, rec),
         Fact::RunsOrAsksWithin { rec, .. } | Fact::RunsOrAsksTo { rec, .. } => {
-            exits_other(call, standing, rec)
+            exits_other(call, standing, rec) || leaves_with(fact, call, standing)
         }
         _ => false,
     }

@@ -52,12 +52,20 @@ pub(crate) fn may_make(fact: Fact, function: FunctionId) -> bool {
         Fact::OwnedBy { .. } | Fact::Runnable { .. } => matches!(function, FunctionId::RecCreate),
         Fact::Idle { .. } => matches!(function, FunctionId::RecCreate | FunctionId::Exit),
         Fact::RunsOn { .. } => matches!(function, FunctionId::RecEnter),
-        Fact::AsksFrom { .. } | Fact::RunsOrAsksWithin { .. } => matches!(
-            function,
-            FunctionId::RecCreate | FunctionId::RttSetRipas | FunctionId::Exit
-        ),
-        Fact::RunsOrAsksTo { .. } => matches!(function, FunctionId::Exit),
+        Fact::AsksFrom { .. } => moves_request(function),
+        Fact::RunsOrAsksWithin { .. } => {
+            moves_request(function) || matches!(function, FunctionId::RecEnter)
+        }
+        Fact::RunsOrAsksTo { .. } => matches!(function, FunctionId::RecEnter | FunctionId::Exit),
     }
+}
+
+/// Whether a call of the function may change from where on a REC asks for something.
+fn moves_request(function: FunctionId) -> bool {
+    matches!(
+        function,
+        FunctionId::RecCreate | FunctionId::RttSetRipas | FunctionId::Exit
+    )
 }
 
 /// Whether a call of the function gives a page to an address.

@@ -1,6 +1,8 @@
 //! What calls say of a REC before a place: whose it is, what it asks for, and where it was entered.
 
+use crate::call_at::call_at;
 use crate::done::Done;
+use crate::early::open_from;
 use crate::latest::{done_at, function_at};
 use crate::making_recs::enters;
 use crate::standing::standing_before;
@@ -9,14 +11,19 @@ use rmi_view::ReplyRef;
 use rmm_spec::{Call, FunctionId};
 use verdict_laws::{ExitReason, Fact, Standing};
 
-/// The CPU that entered the REC by the call which is made at one place, if that returned before another.
-pub(crate) fn entered_at(
-    history: &History,
-    count: u32,
-    place: u32,
-    at: u32,
-    rec: u64,
-) -> Option<u8> {
+/// The CPU that entered the REC by the latest call that returned before a place.
+pub(crate) fn entered_before(history: &History, count: u32, place: u32, rec: u64) -> Option<u8> {
+    for back in 1..place.saturating_add(1) {
+        let at = place.saturating_sub(back);
+        if let Some(cpu) = entered_at(history, count, place, at, rec) {
+            return Some(cpu);
+        }
+    }
+    None
+}
+
+/// The CPU that entered it by the call which is made at one place, if that returned before another.
+fn entered_at(history: &History, count: u32, place: u32, at: u32, rec: u64) -> Option<u8> {
     if !matches!(function_at(history, at), Some(FunctionId::RecEnter)) {
         return None;
     }
@@ -62,22 +69,65 @@ pub(crate) fn asked_from(history: &History, count: u32, place: u32, rec: u64) ->
     None
 }
 
-/// Up to where, and for which RIPAS, as the latest exit says.
+/// Up to where, and for which RIPAS, as the latest exit says, or as it leaves where it runs.
 pub(crate) fn asked_to(history: &History, count: u32, place: u32, rec: u64) -> Option<Fact> {
     for back in 1..place.saturating_add(1) {
         let at = place.saturating_sub(back);
         if let Some(done) = of_rec_at(history, count, place, at) {
             if enters(&done.call, rec) {
-                return None;
+                return up_to(rec, asked_leaving(history, count, place, rec, done.cpu)?);
             }
-            if let Some(ExitReason::RipasChange { top, ripas, .. }) = reason_of(
-                history, count, &done, rec,
-            ) {
-                return Some(Fact::RunsOrAsksTo { rec, top, ripas });
+            if let Some(reason) = reason_of(history, count, &done, rec) {
+                return up_to(rec, reason);
             }
         }
     }
     None
+}
+
+/// That the REC asks up to there, where it leaves for that reason.
+fn up_to(rec: u64, reason: ExitReason) -> Option<Fact> {
+    match reason {
+        ExitReason::RipasChange { top, ripas, .. } => Some(Fact::RunsOrAsksTo { rec, top, ripas }),
+        _ => None,
+    }
+}
+
+/// Why the REC leaves that runs on the CPU, where its exit may come after a place.
+pub(crate) fn asked_leaving(
+    history: &History,
+    count: u32,
+    place: u32,
+    rec: u64,
+    cpu: u8,
+) -> Option<ExitReason> {
+    if count as usize > history.len() {
+        return None;
+    }
+    for at in open_from(history, place)..count {
+        if let Some(reason) = reason_at(history, count, at, rec, cpu) {
+            return Some(reason);
+        }
+    }
+    None
+}
+
+/// Why it leaves by the call that is made at a place, if that is its exit.
+fn reason_at(history: &History, count: u32, at: u32, rec: u64, cpu: u8) -> Option<ExitReason> {
+    if !matches!(function_at(history, at), Some(FunctionId::Exit)) {
+        return None;
+    }
+    if at >= count || count as usize > history.len() {
+        return None;
+    }
+    let call = call_at(history, count, at)?;
+    if call.cpu != cpu {
+        return None;
+    }
+    match standing_before(history, count, cpu, call.number)? {
+        Standing::Inside { rec: other, reason } if other == rec => Some(reason),
+        _ => None,
+    }
 }
 
 /// The call that is made at one place, if it is of those that change what a REC asks for and returned before another.

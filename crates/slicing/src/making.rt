@@ -65,9 +65,9 @@ pub(crate) fn makes(fact: Fact, cpu: u8, call: &Call, reply: ReplyRef<'_>) -> bo
         Fact::RunsOn { rec, cpu: at } => at == cpu && enters(call, rec),
         Fact::AsksFrom { rec, base } => moves_request(call, reply, rec, base),
         Fact::RunsOrAsksWithin { rec, least, most } => {
-            moves_request(call, reply, rec, least) && least <= most
+            enters(call, rec) || (moves_request(call, reply, rec, least) && least <= most)
         }
-        Fact::RunsOrAsksTo { .. } => false,
+        Fact::RunsOrAsksTo { rec, .. } => enters(call, rec),
     }
 }
 

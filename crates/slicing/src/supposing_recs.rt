@@ -3,14 +3,14 @@
 use crate::call_at::call_at;
 use crate::early::open_from;
 use crate::last_return::LastReturn;
-use crate::latest_recs::{asked_from, asked_to, entered_at, owner_before};
+use crate::latest_recs::{asked_from, asked_leaving, asked_to, entered_before, owner_before};
 use crate::supposing::{maker_before, wide_before};
 use crate::together::Together;
 use history::History;
 use rmi_view::ReplyRef;
 use rmm_spec::{Call, Tag};
 use std::cmp::max;
-use verdict_laws::Fact;
+use verdict_laws::{ExitReason, Fact};
 
 /// What may deny together a reply about a REC.
 pub(crate) fn supposed_of_rec(history: &History, count: u32, last: &LastReturn<'_>) -> Together {
@@ -136,13 +136,8 @@ pub(crate) fn supposed_running(
     else {
         return None;
     };
-    for back in 1..last.called.saturating_add(1) {
-        let at = last.called.saturating_sub(back);
-        if let Some(cpu) = entered_at(history, count, last.called, at, rec) {
-            return Some(Fact::RunsOn { rec, cpu });
-        }
-    }
-    None
+    let cpu = entered_before(history, count, last.called, rec)?;
+    Some(Fact::RunsOn { rec, cpu })
 }
 
 /// That it runs or asks for something from where calls may have left it, where it is entered or set as if it asked from elsewhere on.
@@ -154,13 +149,27 @@ pub(crate) fn supposed_asking(
     let (Call::RecEnter { rec } | Call::RttSetRipas { rec, .. }) = last.call else {
         return None;
     };
-    let fact = asked_from(history, count, last.called, rec)?;
-    let Fact::AsksFrom { base: least, .. } = fact else {
-        return None;
+    let least = asked_or_leaving(history, count, last.called, rec)?;
+    let supposed = Fact::RunsOrAsksWithin {
+        rec,
+        least,
+        most: least,
     };
-    let maker = maker_before(history, count, last.called, fact)?;
+    let maker = maker_before(history, count, last.called, supposed)?;
     let most = set_up_to(history, count, maker, rec, least);
     Some(Fact::RunsOrAsksWithin { rec, least, most })
+}
+
+/// From where on the REC asks for something, or does as it leaves where it runs.
+fn asked_or_leaving(history: &History, count: u32, place: u32, rec: u64) -> Option<u64> {
+    if let Some(Fact::AsksFrom { base, .. }) = asked_from(history, count, place, rec) {
+        return Some(base);
+    }
+    let cpu = entered_before(history, count, place, rec)?;
+    match asked_leaving(history, count, place, rec, cpu)? {
+        ExitReason::RipasChange { base, .. } => Some(base),
+        _ => None,
+    }
 }
 
 /// Up to where calls may have set what the REC asks for from the address on, that didn't return before one at a place was made.

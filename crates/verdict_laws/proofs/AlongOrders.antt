@@ -1,24 +1,12 @@
 -- Along an order: what holds before any line and stays so with each next one holds where a finished call's line comes.
-use Rattle.std.proofs.Common.{ℕ, List, [], ◌∷◌, ◌++◌, inl, inr, take, sym, subst, arith, append_assoc}
-use Rattle.std.proofs.lemmas.Bool.{cases_lt}
+use Rattle.verdict_laws.proofs.Common.{ℕ, List, [], ◌∷◌, ◌++◌, inl, inr, sym, subst, arith, append_assoc, cases_lt, none-some, Command, Called, Line, Reply, History, IsHistory, IsRun, JournalEntry, AreEntriesOf, IsCalled, IsFinished, IsLinearization, IsNamed, IsReturned, ReturnsBefore, cpu_named, number_named, IsSound, State, opening, Step, HasOnePlaces-from_history, LeadsNowhere, count_of}
+use Rattle.std.proofs.Common.{take}
 use Rattle.std.proofs.lemmas.List.{append-nil}
-use Rattle.std.proofs.lemmas.Option.{none-some}
-use Rattle.rmm_spec.specs.declared.command.Command.{Command}
-use Rattle.rmm_spec.specs.declared.event.Event.TheVariants.{Called}
-use Rattle.rmm_spec.specs.declared.line.Line.{Line}
-use Rattle.rmm_spec.specs.declared.reply.Reply.{Reply}
-use Rattle.rmm_spec.specs.HistoryText.{History, IsHistory}
-use Rattle.rmm_spec.specs.Run.{IsRun, JournalEntry}
-use Rattle.rmm_spec.specs.Linearization.{AreEntriesOf, IsCalled, IsFinished, IsLinearization, IsNamed, IsReturned, ReturnsBefore, cpu_named, number_named}
-use Rattle.rmm_spec.specs.Sound.{IsSound}
-use Rattle.rmm_spec.specs.State.{State, opening}
-use Rattle.rmm_spec.specs.Step.{Step}
 use Rattle.lemmas.proofs.Elements.{slice_get-take}
 use Rattle.spec_lemmas.proofs.Calls.{same_command}
 use Rattle.spec_lemmas.proofs.HistoryGrammar.{IsHistory-take}
-use Rattle.checker.proofs.Judging.{HasOnePlaces-from_history}
 use Rattle.rmm_laws.proofs.Runs.{opened_run_sound}
-use Rattle.verdict_laws.specs.Order.{IsNext, LeadsNowhere, Reaches, count_of}
+use Rattle.verdict_laws.specs.Order.{IsNext, Reaches}
 use Rattle.verdict_laws.specs.Parts.{first_part}
 use Rattle.verdict_laws.proofs.Counts.{IsNamed-push_cases}
 use Rattle.verdict_laws.proofs.Growth.{Reaches-nil}

@@ -1,31 +1,16 @@
--- RECs that run or ask for a RIPAS from one of some addresses on: so it is until they are destroyed or leave, or a part is set past those. A CPU
--- that stands elsewhere ends nothing of them.
-use Rattle.std.proofs.Common.{◌≡◌, ℕ, ◌≤◌, ◌==◌, ◌&&◌, ◌||◌, Bool, true, false, arith, subst, Option, Some, None, IsTrue, is_some, refl, sym, ◌∙◌, ap, eqb-true, eq-eqb, inl, inr}
-use Rattle.std.specs.Prelude.{is_none, nat_le, not, unwrap_or}
-use Rattle.std.proofs.lemmas.Bool.{and_from, and_parts, cases_Bool, le-leb, leb-true, not-true, or_parts, or_right, true_from_ne_false}
-use Rattle.rmm_spec.specs.declared.call.Call.{Call}
+-- RECs that run or ask for a RIPAS from one of some addresses on: so it is until they are destroyed or leave without that, or a part is set past
+-- those. A CPU that stands elsewhere ends nothing of them.
+use Rattle.verdict_laws.proofs.Common.{◌≡◌, ℕ, ◌≤◌, ◌==◌, ◌&&◌, ◌||◌, Bool, true, false, arith, subst, Option, Some, None, IsTrue, is_some, refl, sym, ◌∙◌, ap, eqb-true, eq-eqb, inl, inr, is_none, unwrap_or, and_from, and_parts, cases_Bool, not-true, or_cases, or_left, or_parts, or_right, Call, Command, Reply, call_of, class_of, rec_updated, is_inside, no_rec, rec_at, rec_inside, request_of, runs_on, is_accepted, IsSound, RecRecord, State, Step, is_placed, outcome, reached_change, both_ways, behind, inside_runs, step-refuses, Fact, holds}
+use Rattle.std.specs.Prelude.{nat_le, not}
+use Rattle.std.proofs.lemmas.Bool.{le-leb, leb-true, true_from_ne_false}
 use Rattle.rmm_spec.specs.declared.call.Call.TheVariants as call
-use Rattle.rmm_spec.specs.declared.command.Command.{Command}
-use Rattle.rmm_spec.specs.declared.reply.Reply.{Reply}
-use Rattle.rmm_spec.specs.Call.{call_of, class_of}
-use Rattle.rmm_spec.specs.Change.{rec_updated}
-use Rattle.rmm_spec.specs.Lookup.{is_inside, no_rec, rec_at, rec_inside, request_of, runs_on}
-use Rattle.rmm_spec.specs.Ownership.{is_accepted}
-use Rattle.rmm_spec.specs.Sound.{IsSound}
-use Rattle.rmm_spec.specs.State.{RecRecord, State}
-use Rattle.rmm_spec.specs.Step.{Step, is_placed, outcome}
-use Rattle.rmm_spec.specs.Step.Ripas.{reached_change}
-use Rattle.lemmas.proofs.Tests.{both_ways}
-use Rattle.spec_lemmas.proofs.Behind.{behind}
-use Rattle.rmm_laws.proofs.Searches.{inside_runs}
-use Rattle.rmm_laws.proofs.StepLaws.{step-refuses}
-use Rattle.verdict_laws.specs.declared.facts.Fact.{Fact}
 use Rattle.verdict_laws.specs.declared.facts.Fact.TheVariants.{Runnable, RunsOrAsksTo, RunsOrAsksWithin}
 use Rattle.verdict_laws.specs.declared.placing.Standing.{Standing}
 use Rattle.verdict_laws.specs.Denying.{asks_outside, is_told_within}
-use Rattle.verdict_laws.specs.Facts.{can_run, destroys, exits, exits_other, holds, is_elsewhere, is_within, moves_request, runs_or_asks, runs_or_asks_to, sets_past, stays_with, turns_off_other}
+use Rattle.verdict_laws.specs.Facts.{can_run, destroys, enters, exits, exits_other, is_elsewhere, is_within, leaves_with, moves_request, runs_or_asks, runs_or_asks_to, sets_past, stays_with, turns_off_other}
 use Rattle.verdict_laws.proofs.RecChanges.{StaysDone, met_record, rec-kept}
-use Rattle.verdict_laws.proofs.RecFacts.{apart, made_request, runs_or_asks-asking, to_moved}
+use Rattle.verdict_laws.proofs.RecFacts.{apart, leaves-made, made_request, runs_or_asks-asking, to_moved}
+use Rattle.verdict_laws.proofs.RunningFacts.{running-made, runs-on_some}
 use Rattle.verdict_laws.proofs.Standings.{standing-inside, standing_of}
 use Rattle.verdict_laws.proofs.TagFacts.{IsCarried, carried_by}
 
@@ -137,6 +122,22 @@ keeps_up_to rec top ripas s new cpu given is _ carried keeps = tt
 
 -- ---- steps
 
+-- what runs on a CPU runs or asks
+asking-running : (cpu least most : ℕ) (found : Option RecRecord) → runs_on cpu found ≡ true → runs_or_asks found least most ≡ true
+asking-running cpu least most None runs = both_ways runs refl
+asking-running cpu least most (Some r) runs = or_left (is_some r.cpu) _ (runs-on_some cpu r runs)
+
+to-running : (cpu top ripas : ℕ) (found : Option RecRecord) → runs_on cpu found ≡ true → runs_or_asks_to found top ripas ≡ true
+to-running cpu top ripas None runs = both_ways runs refl
+to-running cpu top ripas (Some r) runs = or_left (is_some r.cpu) _ (runs-on_some cpu r runs)
+
+-- so does one that is entered
+pub to-made : (rec top ripas : ℕ) (s new : State) (cpu : ℕ) (command : Command) (given : Reply) → IsSound s → Step s cpu command given new
+    → is_accepted given ≡ true → enters (call_of command) rec ≡ true → runs_or_asks_to (new.rec rec) top ripas ≡ true
+to-made rec top ripas s new cpu command given sound step accepted made =
+    to-running cpu top ripas (new.rec rec)
+    (running-made rec cpu s new cpu command given sound step accepted (and_from _ _ (eq-eqb cpu cpu refl) made))
+
 -- up to where one asks stays so until it is destroyed or leaves
 pub to-left : (rec top ripas : ℕ) (s new : State) (cpu : ℕ) (command : Command) (given : Reply) → IsSound s → Step s cpu command given new
     → (destroys (call_of command) rec || exits (call_of command)) ≡ false → runs_or_asks_to (s.rec rec) top ripas ≡ true
@@ -161,12 +162,19 @@ module _ (rec least most : ℕ) (s new : State) (cpu : ℕ) (command : Command) 
   carried : is_accepted given ≡ true → IsCarried s cpu c given new
   carried accepted = carried_by s cpu command given new (outcome s cpu c) sound accepted refl step
 
-  -- where a call makes it ask for that, it does
-  pub asking-made : is_accepted given ≡ true → (moves_request c given rec least && nat_le least most) ≡ true
+  -- where it is entered, it runs
+  entered_running : is_accepted given ≡ true → enters c rec ≡ true → runs_on cpu (new.rec rec) ≡ true
+  entered_running accepted made = running-made rec cpu s new cpu command given sound step accepted (and_from _ _ (eq-eqb cpu cpu refl) made)
+
+  -- where a call lets it run, or makes it ask for that, it does
+  pub asking-made : is_accepted given ≡ true → (enters c rec || (moves_request c given rec least && nat_le least most)) ≡ true
       → runs_or_asks (new.rec rec) least most ≡ true
-  asking-made accepted makes =
-      let parts = and_parts (moves_request c given rec least) (nat_le least most) makes in
-      runs_or_asks-asking least most (new.rec rec) (made_request s cpu given new rec least c (carried accepted) parts.0) parts.1
+  asking-made accepted makes = elim (or_cases (enters c rec) (moves_request c given rec least && nat_le least most) makes) [
+    | inl made ↦ asking-running cpu least most (new.rec rec) (entered_running accepted made)
+    | inr asks ↦
+        let parts = and_parts (moves_request c given rec least) (nat_le least most) asks in
+        runs_or_asks-asking least most (new.rec rec) (made_request s cpu given new rec least c (carried accepted) parts.0) parts.1
+  ]
 
   -- until it is destroyed or leaves, or a part is set past that
   pub asking-left : (destroys c rec || exits c || sets_past c rec least most) ≡ false → runs_or_asks (s.rec rec) least most ≡ true
@@ -219,9 +227,26 @@ module _ (s new : State) (cpu : ℕ) (command : Command) (given : Reply) (standi
     off-elsewhere other =
         rec-kept test absent rec s met new cpu command given sound step (λ placed. off (call_of command) standing placed stands other)
 
+  -- or behind an exit of it that makes the fact so
+  leaves-so : (fact : Fact) → leaves_with fact (call_of command) standing ≡ true → holds fact s ≡ true → holds fact new ≡ true
+  leaves-so fact leaves is = elim (cases_Bool (is_accepted given)) [
+    | inl accepted ↦ leaves-made fact s new cpu command given standing sound step accepted stands leaves
+    | inr refused ↦ ap (holds fact) (step-refuses s new cpu command given step refused) ∙ is
+  ]
+
   -- so such a call leaves a fact of it
   pub holds-elsewhere : (fact : Fact) → stays_with fact (call_of command) standing ≡ true → holds fact s ≡ true → holds fact new ≡ true
   holds-elsewhere (Runnable rec) other is = off-elsewhere can_run refl rec is other
-  holds-elsewhere (RunsOrAsksWithin rec least most) other is = exits-elsewhere (λ found. runs_or_asks found least most) refl rec is other
-  holds-elsewhere (RunsOrAsksTo rec top ripas) other is = exits-elsewhere (λ found. runs_or_asks_to found top ripas) refl rec is other
+  holds-elsewhere (RunsOrAsksWithin rec least most) other is =
+      let fact = RunsOrAsksWithin rec least most in
+      elim (or_cases (exits_other (call_of command) standing rec) (leaves_with fact (call_of command) standing) other) [
+        | inl elsewhere ↦ exits-elsewhere (λ found. runs_or_asks found least most) refl rec is elsewhere
+        | inr leaves ↦ leaves-so fact leaves is
+      ]
+  holds-elsewhere (RunsOrAsksTo rec top ripas) other is =
+      let fact = RunsOrAsksTo rec top ripas in
+      elim (or_cases (exits_other (call_of command) standing rec) (leaves_with fact (call_of command) standing) other) [
+        | inl elsewhere ↦ exits-elsewhere (λ found. runs_or_asks_to found top ripas) refl rec is elsewhere
+        | inr leaves ↦ leaves-so fact leaves is
+      ]
   holds-elsewhere _ other is = both_ways other refl

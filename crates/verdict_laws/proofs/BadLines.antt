@@ -1,6 +1,6 @@
 -- A text has one bad line at most, where no text of the grammar has any.
-use Rattle.std.proofs.Common.{◌≡◌, ℕ, zero, suc, ◌-◌, ◌<◌, ◌≤◌, Bool, true, false, List, [], ◌∷◌, if◌then◌else◌, ◌==◌, refl, sym, ap, subst, arith, ⊎_elim}
-use Rattle.std.proofs.lemmas.Bool.{cases_order}
+use Rattle.verdict_laws.proofs.Common.{◌≡◌, ℕ, zero, suc, ◌-◌, ◌<◌, ◌≤◌, Bool, true, false, List, [], ◌∷◌, if◌then◌else◌, ◌==◌, refl, sym, ap, subst, arith, cases_order}
+use Rattle.std.proofs.Common.{⊎_elim}
 use Rattle.rmm_spec.specs.Text.{first_lines, IsBadLine}
 
 -- one byte more, whether or not it ends a line

@@ -1,17 +1,7 @@
 -- The shortest beginning of lines that has each call which returned in the first events, and names no call that was made later.
-use Rattle.std.proofs.Common.{◌≡◌, ℕ, zero, suc, ◌<◌, ◌≤◌, ◌⊎◌, eqb, List, [], ◌∷◌, ◌++◌, inl, inr, Some, refl, ◌∙◌, ap, arith}
-use Rattle.std.specs.List.{slice_get}
-use Rattle.std.proofs.lemmas.Bool.{eqb-true, eq-eqb, cases_Bool, cases_lt}
-use Rattle.std.proofs.lemmas.Option.{none-some}
-use Rattle.lemmas.proofs.Elements.{slice_get-append, slice_get-front, slice_get-take}
-use Rattle.lemmas.proofs.Tests.{both_ways}
-use Rattle.rmm_spec.specs.declared.command.Command.{Command}
-use Rattle.rmm_spec.specs.declared.event.Event.{Event}
-use Rattle.rmm_spec.specs.declared.event.Event.TheVariants.{Called, Returned}
-use Rattle.rmm_spec.specs.declared.line.Line.{Line}
-use Rattle.rmm_spec.specs.declared.reply.Reply.{Reply}
-use Rattle.rmm_spec.specs.HistoryText.{History, IsHistory}
-use Rattle.rmm_spec.specs.Linearization.{IsCalled, IsReturned, IsFinished, NamesCall, cpu_named, number_named}
+use Rattle.verdict_laws.proofs.Common.{◌≡◌, ℕ, zero, suc, ◌<◌, ◌≤◌, ◌⊎◌, eqb, List, [], ◌∷◌, ◌++◌, inl, inr, Some, refl, ◌∙◌, ap, arith, slice_get, cases_Bool, cases_lt, none-some, slice_get-append, both_ways, Command, Event, Called, Returned, Line, Reply, History, IsHistory, IsCalled, IsReturned, IsFinished, NamesCall, cpu_named, number_named}
+use Rattle.std.proofs.lemmas.Bool.{eqb-true, eq-eqb}
+use Rattle.lemmas.proofs.Elements.{slice_get-front, slice_get-take}
 use Rattle.verdict_laws.proofs.CallOrder.{call_before_return}
 use Rattle.verdict_laws.proofs.Moves.{Each, Pairs, Each-at}
 use Rattle.verdict_laws.proofs.Settled.{Apart}

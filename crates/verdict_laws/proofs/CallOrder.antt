@@ -1,15 +1,8 @@
 -- The places of one CPU's events rise with their ranks: its calls and returns come one after the other.
-use Rattle.std.proofs.Common.{◌≡◌, ℕ, ◌<◌, ◌≤◌, Bool, List, inl, inr, ◌==◌, Some, refl, sym, ◌∙◌, ap, arith}
-use Rattle.std.specs.List.{slice_get}
-use Rattle.std.proofs.lemmas.Bool.{cases_order, cases_lt}
+use Rattle.verdict_laws.proofs.Common.{◌≡◌, ℕ, ◌<◌, ◌≤◌, Bool, List, inl, inr, ◌==◌, Some, refl, sym, ◌∙◌, ap, arith, slice_get, cases_order, cases_lt, same_Some, Command, Event, Called, Returned, Reply, History, IsHistory, IsCalled, IsReturned, IsFinished, ReturnsBefore}
 use Rattle.std.proofs.lemmas.List.Sums.{length-filter, count_by-le-length}
-use Rattle.std.proofs.lemmas.Option.{same_Some}
-use Rattle.rmm_spec.specs.declared.command.Command.{Command}
-use Rattle.rmm_spec.specs.declared.event.Event.{Event}
-use Rattle.rmm_spec.specs.declared.event.Event.TheVariants.{Called, Returned}
-use Rattle.rmm_spec.specs.declared.reply.Reply.{Reply}
-use Rattle.rmm_spec.specs.HistoryText.{History, IsHistory, IsRecord, cpu_of, rank, subhistory_of}
-use Rattle.rmm_spec.specs.Linearization.{IsCalled, IsReturned, IsKnown, IsFinished, ReturnsBefore}
+use Rattle.rmm_spec.specs.HistoryText.{IsRecord, cpu_of, rank, subhistory_of}
+use Rattle.rmm_spec.specs.Linearization.{IsKnown}
 use Rattle.spec_lemmas.proofs.Places.{rank-slice_get, length-subhistory_of-lt, IsFinished-below, below-IsKnown, below-IsFinished}
 
 -- of two events of a CPU, the one of the lower rank comes first

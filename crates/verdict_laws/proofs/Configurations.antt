@@ -1,18 +1,9 @@
 -- Two orders of the same calls are continued alike where runs go on alike from their states, as they do where both lead to one.
-use Rattle.std.proofs.Common.{◌≡◌, ℕ, ◌+◌, inl, inr, List, ◌++◌, length, Some, subst, arith}
-use Rattle.std.specs.List.{slice_get}
-use Rattle.std.proofs.lemmas.Option.{slice_get_within}
-use Rattle.rmm_spec.specs.declared.line.Line.{Line}
-use Rattle.rmm_spec.specs.HistoryText.{History, IsHistory}
-use Rattle.rmm_spec.specs.State.{State, opening}
-use Rattle.rmm_spec.specs.Run.{JournalEntry, IsRun}
-use Rattle.rmm_spec.specs.Linearization.{IsFinished, IsNamed, IsLinearization, AreEntriesOf, NamesCall, IsOfItsKind, cpu_named, number_named}
+use Rattle.verdict_laws.proofs.Common.{◌≡◌, ℕ, ◌+◌, inl, inr, List, ◌++◌, length, Some, subst, arith, slice_get, slice_get_within, Line, History, IsHistory, State, opening, JournalEntry, IsRun, IsFinished, IsNamed, IsLinearization, AreEntriesOf, NamesCall, IsOfItsKind, cpu_named, number_named, HasOnePlaces-from_history, count_of, LeadsNowhere, slice_get-append}
 use Rattle.rmm_laws.proofs.RunLaws.{run-append}
-use Rattle.checker.proofs.Judging.{HasOnePlaces-from_history}
-use Rattle.verdict_laws.specs.Order.{count_of, Reaches, LeadsNowhere}
+use Rattle.verdict_laws.specs.Order.{Reaches}
 use Rattle.verdict_laws.proofs.Moves.{Each, Pairs, Each-from_places, Pairs-from_places, Pairs-at, Pairs-append, Pairs-behind}
 use Rattle.verdict_laws.proofs.Settled.{Apart, behind, in_either, claimed-append, same_state, split_run}
-use Rattle.lemmas.proofs.Elements.{slice_get-append}
 
 -- the runs of what lines claim go on from the one state wherever they do from the other
 abbrev pub GoOnAlike : History → State → State → Type 0

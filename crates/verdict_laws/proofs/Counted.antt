@@ -1,11 +1,6 @@
 -- How many calls of a CPU stand in lists of lines, and which calls are open behind one line more.
-use Rattle.std.proofs.Common.{◌≡◌, ℕ, ◌+◌, false, eqb, List, [], ◌∷◌, ◌++◌, inl, inr, sym, ◌∙◌, arith}
-use Rattle.std.proofs.lemmas.Bool.{eqb-true, eq-eqb, cases_Bool}
-use Rattle.lemmas.proofs.Tests.{both_ways}
-use Rattle.rmm_spec.specs.declared.event.Event.{Event}
-use Rattle.rmm_spec.specs.declared.line.Line.{Line}
-use Rattle.rmm_spec.specs.Linearization.{cpu_named}
-use Rattle.verdict_laws.specs.Order.{count_of}
+use Rattle.verdict_laws.proofs.Common.{◌≡◌, ℕ, ◌+◌, false, eqb, List, [], ◌∷◌, ◌++◌, inl, inr, sym, ◌∙◌, arith, cases_Bool, both_ways, Event, Line, cpu_named, count_of}
+use Rattle.std.proofs.lemmas.Bool.{eqb-true, eq-eqb}
 use Rattle.verdict_laws.proofs.Counts.{count_of-nil, count_of-other}
 use Rattle.verdict_laws.specs.Forward.{IsOpen, AreOpen}
 

@@ -1,8 +1,7 @@
 -- What is decided: a statement that holds or doesn't, from its parts.
-use Rattle.std.proofs.Common.{◌≡◌, ℕ, zero, suc, ◌<◌, ◌≤◌, Bool, true, false, ◌⊎◌, inl, inr, List, [], ◌∷◌, Some, refl, sym, ap₂, subst, arith}
-use Rattle.std.specs.List.{AllByRecursion, slice_get}
-use Rattle.std.proofs.lemmas.Bool.{cases_eq, cases_lt, false≢true}
-use Rattle.std.proofs.lemmas.Option.{none-some, same_Some}
+use Rattle.verdict_laws.proofs.Common.{◌≡◌, ℕ, zero, suc, ◌<◌, ◌≤◌, Bool, true, false, ◌⊎◌, inl, inr, List, [], ◌∷◌, Some, refl, sym, subst, arith, AllByRecursion, slice_get, cases_lt, false≢true, none-some, same_Some}
+use Rattle.std.proofs.Common.{ap₂}
+use Rattle.std.proofs.lemmas.Bool.{cases_eq}
 
 -- it holds, or it fails
 abbrev pub Decided : Type 0 → Type 0

@@ -1,35 +1,12 @@
 -- A call that makes something or is local comes before one that ends a REC or a realm, where both are carried out and it names no part of anything.
-use Rattle.std.proofs.Common.{◌≡◌, ℕ, ◌+◌, ◌==◌, true, false, ◌||◌, [], Some, inr, refl, sym, ◌∙◌, ap, subst, arith, eq-eqb}
-use Rattle.std.specs.Prelude.{Result, Ok, Err, slice_index_or}
-use Rattle.std.proofs.lemmas.Bool.{false_from_ne_true, or_left}
-use Rattle.rmm_spec.specs.declared.accepted.Accepted.{Accepted}
-use Rattle.rmm_spec.specs.declared.accepted.Accepted.TheVariants.{Done, Reaches}
-use Rattle.rmm_spec.specs.declared.call.Call.{Call}
+use Rattle.verdict_laws.proofs.Common.{◌≡◌, ℕ, ◌+◌, ◌==◌, true, false, ◌||◌, [], Some, inr, refl, sym, ◌∙◌, ap, subst, arith, eq-eqb, Result, Ok, Err, false_from_ne_true, or_left, Accepted, Done, Reaches, Call, Change, RealmDestroyed, RecDestroyed, Command, Refusal, Reply, Delegated, Rd, Rec, call_of, CanApply, changed, State, IsSound, is_named, is_vmid_used, realm_at, rec_at, is_accepted, reached_change, named, CarriesOut, Step, outcome, both_ways, is_part, is_local}
+use Rattle.std.specs.Prelude.{slice_index_or}
 use Rattle.rmm_spec.specs.declared.call.Call.TheVariants as call
-use Rattle.rmm_spec.specs.declared.change.Change.{Change}
-use Rattle.rmm_spec.specs.declared.change.Change.TheVariants.{RealmDestroyed, RecDestroyed}
-use Rattle.rmm_spec.specs.declared.command.Command.{Command}
-use Rattle.rmm_spec.specs.declared.refusal.Refusal.{Refusal}
-use Rattle.rmm_spec.specs.declared.reply.Reply.{Reply}
 use Rattle.rmm_spec.specs.declared.reply.Reply.TheVariants as reply
-use Rattle.rmm_spec.specs.declared.tag.Tag.TheVariants.{Delegated, Rd, Rec}
-use Rattle.rmm_spec.specs.Call.{call_of}
-use Rattle.rmm_spec.specs.Applicable.{CanApply}
-use Rattle.rmm_spec.specs.Change.{changed}
-use Rattle.rmm_spec.specs.State.{State}
-use Rattle.rmm_spec.specs.Sound.{IsSound}
-use Rattle.rmm_spec.specs.Locks.{is_named}
-use Rattle.rmm_spec.specs.Lookup.{is_vmid_used, realm_at, rec_at}
-use Rattle.rmm_spec.specs.Ownership.{is_accepted}
 use Rattle.rmm_spec.specs.Rows.{done}
-use Rattle.rmm_spec.specs.Step.Ripas.{reached_change}
-use Rattle.rmm_spec.specs.Step.Terms.{named}
-use Rattle.rmm_spec.specs.Step.{CarriesOut, Step, outcome}
-use Rattle.lemmas.proofs.Tests.{both_ways}
-use Rattle.verdict_laws.specs.Apart.{is_part}
 use Rattle.verdict_laws.specs.Ending.{EndsApart, EndsLater, NamesNoPart, frees_vmid, is_ending}
 use Rattle.verdict_laws.specs.Making.{is_making, own_realm, taken_vmid}
-use Rattle.verdict_laws.specs.Separate.{is_local, works_on}
+use Rattle.verdict_laws.specs.Separate.{works_on}
 use Rattle.verdict_laws.proofs.Endings.{AgreeAt, IsEnding, ended, outcome-agree_realm, outcome-agree_rec, realm_ending, realm_ends, rec_ending, rec_ending-vmid, rec_ends}
 use Rattle.verdict_laws.proofs.EndingCalls.{AgreeAt-made, ending_turned, has_rec-made, own_named, unworked, work_of}
 use Rattle.verdict_laws.proofs.Lending.{refused_undone}

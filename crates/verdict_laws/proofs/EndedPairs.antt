@@ -1,31 +1,9 @@
 -- Two calls that end RECs or realms come the other way round, where both are carried out and neither names what the other gives back.
-use Rattle.std.proofs.Common.{◌≡◌, ℕ, Bool, true, false, ◌||◌, List, [], ◌∷◌, inl, inr, refl, sym, ◌∙◌, ap, subst}
-use Rattle.std.specs.Prelude.{Result, Ok, Err}
-use Rattle.std.specs.List.{AllByRecursion}
-use Rattle.std.proofs.lemmas.Bool.{false_from_ne_true, or_cases, or_right, or_left}
-use Rattle.rmm_spec.specs.declared.accepted.Accepted.{Accepted}
-use Rattle.rmm_spec.specs.declared.accepted.Accepted.TheVariants.{Done}
-use Rattle.rmm_spec.specs.declared.change.Change.{Change}
-use Rattle.rmm_spec.specs.declared.change.Change.TheVariants.{Unchanged}
-use Rattle.rmm_spec.specs.declared.command.Command.{Command}
-use Rattle.rmm_spec.specs.declared.refusal.Refusal.{Refusal}
-use Rattle.rmm_spec.specs.declared.reply.Reply.{Reply}
-use Rattle.rmm_spec.specs.Call.{call_of}
-use Rattle.rmm_spec.specs.Change.{changed}
-use Rattle.rmm_spec.specs.State.{State}
-use Rattle.rmm_spec.specs.Sound.{IsSound}
-use Rattle.rmm_spec.specs.Locks.{is_named}
-use Rattle.rmm_spec.specs.Lookup.{has_rec}
-use Rattle.rmm_spec.specs.Ownership.{is_accepted}
+use Rattle.verdict_laws.proofs.Common.{◌≡◌, ℕ, Bool, true, false, ◌||◌, List, [], ◌∷◌, inl, inr, refl, sym, ◌∙◌, ap, subst, Result, Ok, Err, AllByRecursion, false_from_ne_true, or_cases, or_right, or_left, Accepted, Done, Change, Unchanged, Command, Refusal, Reply, call_of, changed, State, IsSound, is_named, has_rec, is_accepted, named, CarriesOut, Step, outcome, both_ways, is_part, is_local}
 use Rattle.rmm_spec.specs.Rows.{done}
-use Rattle.rmm_spec.specs.Step.Terms.{named}
-use Rattle.rmm_spec.specs.Step.{CarriesOut, Step, outcome}
-use Rattle.lemmas.proofs.Tests.{both_ways}
 use Rattle.rmm_laws.proofs.Runs.{step_sound}
-use Rattle.verdict_laws.specs.Apart.{is_part}
 use Rattle.verdict_laws.specs.Ending.{EndsLater, NamesNoPart, frees_vmid, is_ending}
 use Rattle.verdict_laws.specs.Making.{is_making}
-use Rattle.verdict_laws.specs.Separate.{is_local}
 use Rattle.verdict_laws.proofs.Endings.{AgreeAt, EndsAs, IsEnding, ended, ends_as, outcome-agree_end, parts_of}
 use Rattle.verdict_laws.proofs.EndedCalls.{work_first}
 use Rattle.verdict_laws.proofs.Lending.{refused_undone}

@@ -1,45 +1,19 @@
 -- A call that ends a REC or a realm comes before one that makes another, works on tables or lends a granule, where both are carried out.
-use Rattle.std.proofs.Common.{◌≡◌, ℕ, ◌*◌, ◌-◌, ◌==◌, Bool, true, false, ◌||◌, IsTrue, List, [], ◌∷◌, Option, None, Some, refl, sym, ◌∙◌, ap, subst, eqb-true, eq-eqb}
-use Rattle.std.specs.Prelude.{Result, Ok, Err, unwrap_or}
-use Rattle.std.specs.List.{AllByRecursion}
-use Rattle.std.proofs.lemmas.Bool.{false_from_ne_true, ne_eqb, not-true, or_left}
-use Rattle.rmm_spec.specs.declared.accepted.Accepted.{Accepted}
-use Rattle.rmm_spec.specs.declared.accepted.Accepted.TheVariants.{Done, Reaches}
-use Rattle.rmm_spec.specs.declared.call.Call.{Call}
+use Rattle.verdict_laws.proofs.Common.{◌≡◌, ℕ, ◌*◌, ◌-◌, ◌==◌, Bool, true, false, ◌||◌, IsTrue, List, [], ◌∷◌, Option, None, Some, refl, sym, ◌∙◌, ap, subst, eqb-true, eq-eqb, Result, Ok, Err, unwrap_or, AllByRecursion, false_from_ne_true, ne_eqb, not-true, or_left, Accepted, Done, Reaches, Call, Change, RealmDestroyed, RecMade, RecDestroyed, Command, Refusal, Reply, Tag, Undelegated, Delegated, Rd, Rec, RecAux, Rtt, call_of, CanApply, changed, new_rec, State, RealmRecord, RecRecord, IsSound, is_named, is_accepted, has_rec, has_tag, is_vmid_used, no_realm, no_rec, realm_at, rec_at, Needed, ok, named, CarriesOut, Step, outcome, both_ways, behind, tag-has_tag, by_address, outcome-leads, lent, is_local}
 use Rattle.rmm_spec.specs.declared.call.Call.TheVariants as call
-use Rattle.rmm_spec.specs.declared.change.Change.{Change}
-use Rattle.rmm_spec.specs.declared.change.Change.TheVariants.{RealmDestroyed, RecMade, RecDestroyed}
-use Rattle.rmm_spec.specs.declared.command.Command.{Command}
-use Rattle.rmm_spec.specs.declared.refusal.Refusal.{Refusal}
-use Rattle.rmm_spec.specs.declared.reply.Reply.{Reply}
 use Rattle.rmm_spec.specs.declared.reply.Reply.TheVariants as reply
-use Rattle.rmm_spec.specs.declared.tag.Tag.{Tag}
-use Rattle.rmm_spec.specs.declared.tag.Tag.TheVariants.{Undelegated, Delegated, Rd, Rec, RecAux, Rtt}
-use Rattle.rmm_spec.specs.Call.{call_of}
-use Rattle.rmm_spec.specs.Applicable.{CanApply}
-use Rattle.rmm_spec.specs.Change.{changed, new_rec}
-use Rattle.rmm_spec.specs.State.{State, RealmRecord, RecRecord}
-use Rattle.rmm_spec.specs.Sound.{IsSound}
-use Rattle.rmm_spec.specs.Locks.{is_named}
-use Rattle.rmm_spec.specs.Ownership.{is_accepted}
-use Rattle.rmm_spec.specs.Lookup.{any_below, has_rec, has_tag, is_owned_by, is_vmid_used, no_realm, no_rec, realm_at, rec_at}
+use Rattle.rmm_spec.specs.Lookup.{any_below, is_owned_by}
 use Rattle.rmm_spec.specs.Walk.{entry_address, walk}
-use Rattle.rmm_spec.specs.Rows.{Needed, done, ok}
-use Rattle.rmm_spec.specs.Step.Terms.{named}
-use Rattle.rmm_spec.specs.Step.{CarriesOut, Step, outcome}
-use Rattle.lemmas.proofs.Tests.{both_ways}
-use Rattle.spec_lemmas.proofs.Behind.{behind}
-use Rattle.spec_lemmas.proofs.TagLaws.{tag-has_tag}
+use Rattle.rmm_spec.specs.Rows.{done}
 use Rattle.rmm_laws.proofs.ByRows.{AllHold}
-use Rattle.rmm_laws.proofs.Cases.{by_address, none_of}
-use Rattle.rmm_laws.proofs.RowLaws.{front-rest, outcome-leads}
+use Rattle.rmm_laws.proofs.Cases.{none_of}
+use Rattle.rmm_laws.proofs.RowLaws.{front-rest}
 use Rattle.rmm_laws.proofs.Runs.{step_sound}
 use Rattle.rmm_laws.proofs.Searches.{none_has_vmid}
 use Rattle.rmm_laws.proofs.Tags.{has_tag-other}
-use Rattle.verdict_laws.specs.Apart.{lent}
 use Rattle.verdict_laws.specs.Ending.{EndsApart, is_ending}
 use Rattle.verdict_laws.specs.Making.{is_making, made_realm, own_realm, taken_vmid}
-use Rattle.verdict_laws.specs.Separate.{is_freed, is_local, table_realm, works_on}
+use Rattle.verdict_laws.specs.Separate.{is_freed, table_realm, works_on}
 use Rattle.verdict_laws.proofs.Endings.{AgreeAt, IsEnding, ended, outcome-agree_realm, outcome-agree_rec, realm_ending, realm_ends, rec_ending, rec_ends}
 use Rattle.verdict_laws.proofs.Lending.{refused_undone}
 use Rattle.verdict_laws.proofs.MakingCalls.{IsMadeIn, changed-made, made, made-runs, made_patch, made_patch-within, own_made, own_table, put_rec, put_rec-keeps, step_made}

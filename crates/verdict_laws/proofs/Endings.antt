@@ -1,35 +1,16 @@
 -- What a call reads and changes that ends a REC or a realm.
-use Rattle.std.proofs.Common.{◌≡◌, ℕ, ◌*◌, ◌==◌, Bool, true, false, ◌||◌, not, if◌then◌else◌, IsTrue, List, [], ◌∷◌, Option, None, refl, sym, ◌∙◌, ap, subst, eqb-true, eq-eqb}
-use Rattle.std.specs.Prelude.{Ok, Err, is_none, unwrap_or}
-use Rattle.std.specs.List.{AllByRecursion}
-use Rattle.std.proofs.lemmas.Bool.{ne_eqb, not-true, or_left, or_parts}
-use Rattle.rmm_spec.specs.declared.accepted.Accepted.{Accepted}
-use Rattle.rmm_spec.specs.declared.call.Call.{Call}
+use Rattle.verdict_laws.proofs.Common.{◌≡◌, ℕ, ◌*◌, ◌==◌, Bool, true, false, ◌||◌, not, if◌then◌else◌, IsTrue, List, [], ◌∷◌, Option, None, refl, sym, ◌∙◌, ap, subst, eqb-true, eq-eqb, Ok, Err, is_none, unwrap_or, AllByRecursion, ne_eqb, not-true, or_left, or_parts, Accepted, Call, Change, RealmDestroyed, RecDestroyed, Misplaced, Tag, Delegated, Rd, Rec, RecAux, Rtt, changed, State, RealmRecord, RecRecord, IsSound, is_named, has_rec, has_tag, is_inside, is_vmid_used, no_rec, realm_at, rec_at, entry_at, named, words_of, answer_of, outcome, both_ways, behind, tag-has_tag, by_address, outcome-leads, realm_there, rec_there, is_part}
 use Rattle.rmm_spec.specs.declared.call.Call.TheVariants as call
-use Rattle.rmm_spec.specs.declared.change.Change.{Change}
-use Rattle.rmm_spec.specs.declared.change.Change.TheVariants.{RealmDestroyed, RecDestroyed}
 use Rattle.rmm_spec.specs.declared.condition.Condition.TheVariants.{OwnOutside}
-use Rattle.rmm_spec.specs.declared.refusal.Refusal.TheVariants.{Misplaced}
-use Rattle.rmm_spec.specs.declared.tag.Tag.{Tag}
-use Rattle.rmm_spec.specs.declared.tag.Tag.TheVariants.{Delegated, Rd, Rec, RecAux, Rtt}
-use Rattle.rmm_spec.specs.Change.{changed}
-use Rattle.rmm_spec.specs.State.{State, RealmRecord, RecRecord}
-use Rattle.rmm_spec.specs.Sound.{IsSound}
-use Rattle.rmm_spec.specs.Locks.{is_named}
-use Rattle.rmm_spec.specs.Lookup.{any_below, has_rec, has_tag, has_vmid, is_inside, is_owned_by, is_vmid_used, no_rec, realm_at, rec_at}
-use Rattle.rmm_spec.specs.Walk.{entry_at, has_entry}
+use Rattle.rmm_spec.specs.Lookup.{any_below, has_vmid, is_owned_by}
+use Rattle.rmm_spec.specs.Walk.{has_entry}
 use Rattle.rmm_spec.specs.Rows.{done}
 use Rattle.rmm_spec.specs.Step.Realm.{realm_destroy_told}
 use Rattle.rmm_spec.specs.Step.Rec.{rec_destroy}
-use Rattle.rmm_spec.specs.Step.Terms.{class_of, named, words_of}
-use Rattle.rmm_spec.specs.Step.{answer_of, commands, outcome}
-use Rattle.lemmas.proofs.Tests.{both_ways}
-use Rattle.spec_lemmas.proofs.Behind.{behind}
-use Rattle.spec_lemmas.proofs.TagLaws.{tag-has_tag}
-use Rattle.rmm_laws.proofs.Cases.{by_address}
-use Rattle.rmm_laws.proofs.RowLaws.{front-rest, outcome-leads}
-use Rattle.rmm_laws.proofs.Searches.{none_owned, realm_there, rec_there}
-use Rattle.verdict_laws.specs.Apart.{is_part}
+use Rattle.rmm_spec.specs.Step.Terms.{class_of}
+use Rattle.rmm_spec.specs.Step.{commands}
+use Rattle.rmm_laws.proofs.RowLaws.{front-rest}
+use Rattle.rmm_laws.proofs.Searches.{none_owned}
 use Rattle.verdict_laws.specs.Ending.{frees_vmid, is_ending}
 use Rattle.verdict_laws.proofs.Patches.{AreDisjoint, IsWithin, Keeps, Patch, patched}
 use Rattle.verdict_laws.proofs.SeparateLooks.{with_recs}

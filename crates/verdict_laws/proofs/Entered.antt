@@ -1,36 +1,16 @@
 -- A REC that runs is live just where its CPU is inside of a REC in the slice.
-use Rattle.std.proofs.Common.{◌≡◌, ℕ, ◌*◌, ◌==◌, ◌||◌, ◌⊎◌, Bool, true, false, if◌then◌else◌, Option, Some, None, inl, inr, refl, sym, ◌∙◌, ap, subst, eq-eqb, eqb-true}
-use Rattle.std.specs.Prelude.{Ok, is_some}
-use Rattle.std.proofs.lemmas.Bool.{false_from_ne_true, ne_eqb, or_cases}
-use Rattle.std.proofs.lemmas.Option.{same_Some}
-use Rattle.rmm_spec.specs.declared.accepted.Accepted.{Accepted}
-use Rattle.rmm_spec.specs.declared.accepted.Accepted.TheVariants.{Done, Reaches}
-use Rattle.rmm_spec.specs.declared.call.Call.{Call}
+use Rattle.verdict_laws.proofs.Common.{◌≡◌, ℕ, ◌*◌, ◌==◌, ◌||◌, ◌⊎◌, Bool, true, false, if◌then◌else◌, Option, Some, None, inl, inr, refl, sym, ◌∙◌, ap, subst, eq-eqb, eqb-true, Ok, false_from_ne_true, ne_eqb, or_cases, same_Some, Accepted, Done, Reaches, Call, Change, RecMade, RecordsChanged, EntriesChanged, RecChange, Misplaced, Rd, Rec, CanApply, class_of, changed, rec_updated, is_inside, rec_at, rec_inside, runs_on, IsSound, RecRecord, State, answer_of, is_placed, misplacement, outcome, reached_change, both_ways, behind, tag-has_tag, outcome-leads, inside_runs, rec_there, unused_tag}
+use Rattle.std.specs.Prelude.{is_some}
 use Rattle.rmm_spec.specs.declared.call.Call.TheVariants as call
-use Rattle.rmm_spec.specs.declared.change.Change.{Change}
-use Rattle.rmm_spec.specs.declared.change.Change.TheVariants.{RecMade, RecordsChanged, EntriesChanged}
-use Rattle.rmm_spec.specs.declared.change.RecChange.{RecChange}
 use Rattle.rmm_spec.specs.declared.change.RecUpdate.{RecUpdate}
 use Rattle.rmm_spec.specs.declared.change.RecUpdate.TheVariants.{Entered, Exited}
-use Rattle.rmm_spec.specs.declared.refusal.Refusal.TheVariants.{Misplaced}
-use Rattle.rmm_spec.specs.declared.tag.Tag.TheVariants.{Rd, Rec}
-use Rattle.rmm_spec.specs.Applicable.{CanApply, CanChangeRec, CanUpdateRec}
-use Rattle.rmm_spec.specs.Call.{class_of}
-use Rattle.rmm_spec.specs.Change.{changed, rec_updated}
-use Rattle.rmm_spec.specs.Lookup.{is_inside, rec_at, rec_inside, runs_on}
-use Rattle.rmm_spec.specs.Sound.{IsSound}
-use Rattle.rmm_spec.specs.State.{RecRecord, State}
-use Rattle.rmm_spec.specs.Step.{answer_of, is_placed, misplacement, outcome}
-use Rattle.rmm_spec.specs.Step.Ripas.{reached_change}
-use Rattle.lemmas.proofs.Tests.{both_ways, keys_apart}
-use Rattle.spec_lemmas.proofs.Behind.{behind}
+use Rattle.rmm_spec.specs.Applicable.{CanChangeRec, CanUpdateRec}
+use Rattle.lemmas.proofs.Tests.{keys_apart}
 use Rattle.spec_lemmas.proofs.Placed.{passing_below, running, runs_on-running}
-use Rattle.spec_lemmas.proofs.TagLaws.{tag-has_tag}
 use Rattle.rmm_laws.proofs.ByRows.{row_holds}
 use Rattle.rmm_laws.proofs.Cases.{nothing_there}
-use Rattle.rmm_laws.proofs.RowLaws.{outcome-leads}
-use Rattle.rmm_laws.proofs.Searches.{inside_runs, none_runs, rec_at-is, rec_there}
-use Rattle.verdict_laws.specs.Slices.{is_inside_after, unused_tag}
+use Rattle.rmm_laws.proofs.Searches.{none_runs, rec_at-is}
+use Rattle.verdict_laws.specs.Slices.{is_inside_after}
 use Rattle.verdict_laws.proofs.SliceOwners.{EachOther, EachRec-changed, HasPut, HasReplaced, HaveLiveRecs, behind_mask, rec_replaced, rd_used, replaced_can}
 use Rattle.verdict_laws.proofs.SliceTerms.{IsPut, IsRecPut, masked}
 

@@ -1,38 +1,16 @@
 -- A call that changes a REC alone, and a call that works on tables or lends a granule, on two CPUs, come either way round.
-use Rattle.std.proofs.Common.{arith, ◌≡◌, ℕ, suc, ◌==◌, Bool, true, false, not, if◌then◌else◌, [], ◌∷◌, inl, Option, Some, None, refl, sym, ◌∙◌, ap, subst}
-use Rattle.std.specs.Prelude.{Result, Ok, Err, is_none, nat_le, unwrap_or}
-use Rattle.std.proofs.lemmas.Bool.{ne_eqb}
-use Rattle.rmm_spec.specs.declared.accepted.Accepted.{Accepted}
-use Rattle.rmm_spec.specs.declared.accepted.Accepted.TheVariants.{Done, Reaches}
-use Rattle.rmm_spec.specs.declared.call.Call.{Call}
+use Rattle.verdict_laws.proofs.Common.{arith, ◌≡◌, ℕ, suc, ◌==◌, Bool, true, false, not, if◌then◌else◌, [], ◌∷◌, inl, Option, Some, None, refl, sym, ◌∙◌, ap, subst, Result, Ok, Err, is_none, unwrap_or, ne_eqb, Accepted, Done, Reaches, Call, Change, RecordsChanged, RealmChange, RecChange, Command, Refusal, Misplaced, Reply, call_of, changed, realm_updated, rec_updated, State, RealmRecord, RecRecord, IsSound, is_named, has_tag, is_inside, no_realm, no_rec, realm_at, rec_at, rec_inside, decided, with_front, reached_change, named, CarriesOut, Step, answer_of, is_placed, misplacement, outcome, both_ways, behind, outcome-leads, lent, is_local}
+use Rattle.std.specs.Prelude.{nat_le}
 use Rattle.rmm_spec.specs.declared.call.Call.TheVariants as call
-use Rattle.rmm_spec.specs.declared.change.Change.{Change}
-use Rattle.rmm_spec.specs.declared.change.Change.TheVariants.{RecordsChanged}
-use Rattle.rmm_spec.specs.declared.change.RealmChange.{RealmChange}
-use Rattle.rmm_spec.specs.declared.change.RecChange.{RecChange}
-use Rattle.rmm_spec.specs.declared.command.Command.{Command}
 use Rattle.rmm_spec.specs.declared.condition.Condition.TheVariants as condition
-use Rattle.rmm_spec.specs.declared.refusal.Refusal.{Refusal}
-use Rattle.rmm_spec.specs.declared.refusal.Refusal.TheVariants.{Misplaced, Realm}
-use Rattle.rmm_spec.specs.declared.reply.Reply.{Reply}
-use Rattle.rmm_spec.specs.Call.{call_of}
-use Rattle.rmm_spec.specs.Change.{changed, realm_updated, rec_updated}
-use Rattle.rmm_spec.specs.State.{State, RealmRecord, RecRecord}
-use Rattle.rmm_spec.specs.Sound.{IsSound}
-use Rattle.rmm_spec.specs.Locks.{is_named}
-use Rattle.rmm_spec.specs.Lookup.{has_tag, is_inside, is_new_state, is_system_off_state, no_realm, no_rec, realm_at, rec_at, rec_inside}
+use Rattle.rmm_spec.specs.declared.refusal.Refusal.TheVariants.{Realm}
+use Rattle.rmm_spec.specs.Lookup.{is_new_state, is_system_off_state}
 use Rattle.rmm_spec.specs.Walk.{half}
-use Rattle.rmm_spec.specs.Rows.{input, decided, realm_row, rec_row, row}
-use Rattle.rmm_spec.specs.Step.Front.{with_front}
-use Rattle.rmm_spec.specs.Step.Ripas.{reached_change}
-use Rattle.rmm_spec.specs.Step.Terms.{Class, ByHost, ByRealm, ByExit, class_of, named}
-use Rattle.rmm_spec.specs.Step.{CarriesOut, Step, answer_of, is_placed, misplacement, outcome}
-use Rattle.lemmas.proofs.Tests.{both_ways}
-use Rattle.spec_lemmas.proofs.Behind.{behind}
-use Rattle.rmm_laws.proofs.RowLaws.{outcome-leads}
-use Rattle.verdict_laws.specs.Apart.{frees_unnamed, lent}
+use Rattle.rmm_spec.specs.Rows.{input, realm_row, rec_row, row}
+use Rattle.rmm_spec.specs.Step.Terms.{Class, ByHost, ByRealm, ByExit, class_of}
+use Rattle.verdict_laws.specs.Apart.{frees_unnamed}
 use Rattle.verdict_laws.specs.Beside.{AreBeside, entered, is_entry, is_work}
-use Rattle.verdict_laws.specs.Separate.{is_local, table_realm, works_on}
+use Rattle.verdict_laws.specs.Separate.{table_realm, works_on}
 use Rattle.verdict_laws.proofs.Patches.{IsChangeOf, IsWithin, Patch, changed-patched, is_own, patched, put_realm, realm_of_change}
 use Rattle.verdict_laws.proofs.Retags.{AreKeptAt, outcome-tags}
 use Rattle.verdict_laws.proofs.SeparateCalls.{IsAcceptedOf, IsWorkOf, behind_work, step_patching}

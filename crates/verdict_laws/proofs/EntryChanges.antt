@@ -1,46 +1,22 @@
 -- Entries of the last level, by any test: one that meets it does so until a call may replace it, or set a RIPAS with which it doesn't, and a walk for
 -- its address finds it.
-use Rattle.std.proofs.Common.{◌≡◌, ℕ, ◌/◌, ◌≤◌, ◌==◌, ◌&&◌, nat_le, nat_lt, Bool, true, false, IsTrue, List, [], ◌∷◌, Option, Some, None, is_some, inl, inr, refl, sym, ◌∙◌, ap, subst, eqb-true, arith, option_map}
+use Rattle.verdict_laws.proofs.Common.{◌≡◌, ℕ, ◌≤◌, ◌==◌, ◌&&◌, nat_le, nat_lt, Bool, true, false, IsTrue, List, [], ◌∷◌, Option, Some, None, is_some, inl, inr, refl, sym, ◌∙◌, ap, subst, eqb-true, arith, Ok, and_from, and_parts, cases_Bool, false_from_ne_true, not-true, Accepted, Done, Reaches, Call, Change, RealmMade, RealmDestroyed, RecordsChanged, TableMade, TableDestroyed, EntriesChanged, Replaced, RipasSet, RealmChange, RecChange, TagChange, Command, Entry, Reply, CanApply, call_of, changed, rec_at, request_of, is_accepted, ok, IsSound, State, CarriesOut, Step, outcome, IsReached, reached_change, entry_at, entry_number, reach, both_ways, behind, with_records, step-refuses}
+use Rattle.std.proofs.Common.{◌/◌, option_map}
 use Rattle.std.proofs.Math.Bool.{and-true}
-use Rattle.std.specs.Prelude.{Ok}
-use Rattle.std.proofs.lemmas.Bool.{and_from, and_parts, cases_Bool, eq-eqb, false_from_ne_true, lt-ltb, ltb-true, not-true}
-use Rattle.rmm_spec.specs.declared.accepted.Accepted.{Accepted}
-use Rattle.rmm_spec.specs.declared.accepted.Accepted.TheVariants.{Done, Reaches}
-use Rattle.rmm_spec.specs.declared.call.Call.{Call}
+use Rattle.std.proofs.lemmas.Bool.{eq-eqb, lt-ltb, ltb-true}
 use Rattle.rmm_spec.specs.declared.call.Call.TheVariants as call
-use Rattle.rmm_spec.specs.declared.change.Change.{Change}
-use Rattle.rmm_spec.specs.declared.change.Change.TheVariants.{RealmMade, RealmDestroyed, RecordsChanged, TableMade, TableDestroyed, EntriesChanged}
-use Rattle.rmm_spec.specs.declared.change.EntryChange.TheVariants.{Replaced, RipasSet}
-use Rattle.rmm_spec.specs.declared.change.RealmChange.{RealmChange}
-use Rattle.rmm_spec.specs.declared.change.RecChange.{RecChange}
-use Rattle.rmm_spec.specs.declared.change.TagChange.{TagChange}
-use Rattle.rmm_spec.specs.declared.command.Command.{Command}
-use Rattle.rmm_spec.specs.declared.entry.Entry.{Entry}
 use Rattle.rmm_spec.specs.declared.entry.Entry.TheVariants.{Assigned, Unassigned}
-use Rattle.rmm_spec.specs.declared.reply.Reply.{Reply}
 use Rattle.rmm_spec.specs.declared.tag.Ripas.{Ripas}
 use Rattle.rmm_spec.specs.declared.tag.Ripas.TheVariants.{Ram}
-use Rattle.rmm_spec.specs.Applicable.{CanApply}
-use Rattle.rmm_spec.specs.Call.{call_of}
-use Rattle.rmm_spec.specs.Change.{changed}
-use Rattle.rmm_spec.specs.Lookup.{rec_at, request_of, ripas_number}
-use Rattle.rmm_spec.specs.Ownership.{is_accepted}
-use Rattle.rmm_spec.specs.Rows.{ok}
-use Rattle.rmm_spec.specs.Sound.{IsSound}
-use Rattle.rmm_spec.specs.State.{State}
-use Rattle.rmm_spec.specs.Step.{CarriesOut, Step, outcome}
+use Rattle.rmm_spec.specs.Lookup.{ripas_number}
 use Rattle.rmm_spec.specs.Step.Data.{ripas_after_data}
-use Rattle.rmm_spec.specs.Step.Ripas.{IsReached, reached_change}
 use Rattle.rmm_spec.specs.Update.{entry_with_ripas, is_same_entry, is_same_table}
-use Rattle.rmm_spec.specs.Walk.{entry_address, entry_at, entry_number, entry_ripas, entry_size, entry_state, is_table, reach, table_number, walk}
-use Rattle.lemmas.proofs.Tests.{both_ways}
-use Rattle.spec_lemmas.proofs.Behind.{behind}
+use Rattle.rmm_spec.specs.Walk.{entry_address, entry_ripas, entry_size, entry_state, is_table, table_number, walk}
 use Rattle.spec_lemmas.proofs.WalkLaws.{reach-covers, reach-le}
 use Rattle.rmm_laws.proofs.Applies.{Applies}
 use Rattle.rmm_laws.proofs.Cases.{choice, spot_level}
-use Rattle.rmm_laws.proofs.Keeps.{records-leaf, with_records}
+use Rattle.rmm_laws.proofs.Keeps.{records-leaf}
 use Rattle.rmm_laws.proofs.Spaces.{space_cases}
-use Rattle.rmm_laws.proofs.StepLaws.{step-refuses}
 use Rattle.rmm_laws.proofs.Walked.{table_number-entry}
 use Rattle.verdict_laws.specs.Denying.{is_other_entry, is_reported, reads_entry}
 use Rattle.verdict_laws.specs.Facts.{creates_page, creates_unknown, frees_entry, is_one_entry, may_init, may_reshape, may_set_ripas}

@@ -1,29 +1,19 @@
 -- Entries of the last level that are unassigned: one that a call takes a page from, or makes in protected memory, is so behind it, stays so until a
 -- call may replace it, and is found so.
-use Rattle.std.proofs.Common.{◌≡◌, ℕ, ◌-◌, ◌*◌, ◌/◌, ◌^◌, ◌<◌, ◌==◌, ◌&&◌, ◌||◌, nat_lt, Bool, true, false, IsTrue, Option, Some, None, inl, inr, refl, sym, ◌∙◌, ap, subst, eqb-true, eq-eqb, arith, option_map}
+use Rattle.verdict_laws.proofs.Common.{◌≡◌, ℕ, ◌-◌, ◌*◌, ◌<◌, ◌==◌, ◌&&◌, ◌||◌, nat_lt, Bool, true, false, IsTrue, Option, Some, None, inl, inr, refl, sym, ◌∙◌, ap, subst, eqb-true, eq-eqb, arith, and_from, and_parts, or_cases, or_parts, Call, Command, Entry, Reply, call_of, changed, is_accepted, IsSound, RealmRecord, State, Step, outcome, words_of, entry_number, reach, both_ways, behind}
+use Rattle.std.proofs.Common.{◌/◌, ◌^◌, option_map}
 use Rattle.std.proofs.Math.Bool.{or-false}
-use Rattle.std.proofs.lemmas.Bool.{and_from, and_parts, ltb-true, or_cases, or_parts}
-use Rattle.rmm_spec.specs.declared.call.Call.{Call}
+use Rattle.std.proofs.lemmas.Bool.{ltb-true}
 use Rattle.rmm_spec.specs.declared.call.Call.TheVariants as call
-use Rattle.rmm_spec.specs.declared.command.Command.{Command}
-use Rattle.rmm_spec.specs.declared.entry.Entry.{Entry}
 use Rattle.rmm_spec.specs.declared.entry.Entry.TheVariants.{Unassigned, Assigned, Table, UnassignedNs, AssignedNs}
-use Rattle.rmm_spec.specs.declared.reply.Reply.{Reply}
 use Rattle.rmm_spec.specs.declared.tag.Ripas.{Ripas}
 use Rattle.rmm_spec.specs.declared.tag.Ripas.TheVariants.{Ram}
 use Rattle.rmm_spec.specs.Applicable.{CanMakeTable}
-use Rattle.rmm_spec.specs.Call.{call_of}
-use Rattle.rmm_spec.specs.Change.{changed}
-use Rattle.rmm_spec.specs.Ownership.{is_accepted}
 use Rattle.rmm_spec.specs.Rows.{all_allowed}
-use Rattle.rmm_spec.specs.Sound.{IsLeafOf, IsSound}
-use Rattle.rmm_spec.specs.State.{RealmRecord, State}
-use Rattle.rmm_spec.specs.Step.{Step, outcome}
-use Rattle.rmm_spec.specs.Step.Terms.{is_page, words_of}
+use Rattle.rmm_spec.specs.Sound.{IsLeafOf}
+use Rattle.rmm_spec.specs.Step.Terms.{is_page}
 use Rattle.rmm_spec.specs.Update.{entry_with_ripas}
-use Rattle.rmm_spec.specs.Walk.{entry_number, entry_size, half, is_assigned, is_table, is_unassigned, reach, table_number, walk}
-use Rattle.lemmas.proofs.Tests.{both_ways}
-use Rattle.spec_lemmas.proofs.Behind.{behind}
+use Rattle.rmm_spec.specs.Walk.{entry_size, half, is_assigned, is_table, is_unassigned, table_number, walk}
 use Rattle.rmm_laws.proofs.Ends.{table_number-above}
 use Rattle.rmm_laws.proofs.Entries.{leaf_fits, leaf_there}
 use Rattle.rmm_laws.proofs.Walked.{entry_starts, table_number-entry}

@@ -1,20 +1,10 @@
 -- What steps make, leave and deny of a fact, by its kind.
-use Rattle.std.proofs.Common.{◌≡◌, ℕ, true, false, arith, refl}
+use Rattle.verdict_laws.proofs.Common.{◌≡◌, ℕ, true, false, arith, refl, Command, Reply, call_of, Config, is_accepted, IsSound, State, opening, Step, both_ways, Fact, holds}
 use Rattle.std.proofs.lemmas.Bool.{le-leb}
-use Rattle.rmm_spec.specs.declared.command.Command.{Command}
-use Rattle.rmm_spec.specs.declared.reply.Reply.{Reply}
-use Rattle.rmm_spec.specs.Call.{call_of}
-use Rattle.rmm_spec.specs.HistoryText.{Config}
-use Rattle.rmm_spec.specs.Ownership.{is_accepted}
-use Rattle.rmm_spec.specs.Sound.{IsSound}
-use Rattle.rmm_spec.specs.State.{State, opening}
-use Rattle.rmm_spec.specs.Step.{Step}
-use Rattle.lemmas.proofs.Tests.{both_ways}
-use Rattle.verdict_laws.specs.declared.facts.Fact.{Fact}
 use Rattle.verdict_laws.specs.declared.facts.Fact.TheVariants.{NewRealm, Tagged, Covered, Wide, SoleVmid, PartOf, Unassigned, UnassignedRam, Assigned, HasRipas, Activated, OwnedBy, Runnable, Idle, RunsOn, AsksFrom, RunsOrAsksWithin, RunsOrAsksTo}
 use Rattle.verdict_laws.specs.Denying.{denies}
-use Rattle.verdict_laws.specs.Facts.{begins, holds, makes, may_end}
-use Rattle.verdict_laws.proofs.AskingFacts.{asking-denied, asking-left, asking-made, to-left}
+use Rattle.verdict_laws.specs.Facts.{begins, makes, may_end}
+use Rattle.verdict_laws.proofs.AskingFacts.{asking-denied, asking-left, asking-made, to-left, to-made}
 use Rattle.verdict_laws.proofs.EntryFacts.{entry-denied, entry-left, entry-made}
 use Rattle.verdict_laws.proofs.PageFacts.{page-denied, page-left, page-made}
 use Rattle.verdict_laws.proofs.PartFacts.{part-left, part-made}
@@ -71,7 +61,7 @@ holds-made (Idle rec) s new cpu command given sound = λ step. idle-made rec s n
 holds-made (RunsOn rec at) s new cpu command given sound = λ step. running-made rec at s new cpu command given sound step
 holds-made (AsksFrom rec base) s new cpu command given sound = λ step. from-made rec s new cpu command given sound step base
 holds-made (RunsOrAsksWithin rec least most) s new cpu command given sound = λ step. asking-made rec least most s new cpu command given sound step
-holds-made (RunsOrAsksTo rec top ripas) s new cpu command given sound = λ step accepted made. both_ways made refl
+holds-made (RunsOrAsksTo rec top ripas) s new cpu command given sound = λ step. to-made rec top ripas s new cpu command given sound step
 
 -- a call that may not end it leaves it
 pub holds-left : (fact : Fact) (s new : State) (cpu : ℕ) (command : Command) (given : Reply) → IsSound s → Step s cpu command given new

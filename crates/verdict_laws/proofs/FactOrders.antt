@@ -1,28 +1,13 @@
 -- Along an order facts hold where a call comes that was replied as if they didn't: so there is no order.
-use Rattle.std.proofs.Common.{◌≡◌, ℕ, ◌<◌, true, List, [], ◌∷◌, ◌++◌, inl, inr, Some, take, refl, sym, ◌∙◌, ap, subst}
-use Rattle.std.specs.List.{slice_get}
+use Rattle.verdict_laws.proofs.Common.{◌≡◌, ℕ, ◌<◌, true, List, [], ◌∷◌, ◌++◌, inl, inr, Some, refl, sym, ◌∙◌, ap, subst, slice_get, none-some, Command, Event, Called, Line, Reply, call_of, History, IsHistory, IsCalled, IsNamed, IsReturned, cpu_named, number_named, is_accepted, JournalEntry, State, opening, HasOnePlaces-from_history, step-refuses, Fact, holds, LeadsNowhere, count_of}
+use Rattle.std.proofs.Common.{take}
 use Rattle.std.proofs.lemmas.List.Elements.{All-weaker}
-use Rattle.std.proofs.lemmas.Option.{none-some}
-use Rattle.rmm_spec.specs.declared.command.Command.{Command}
-use Rattle.rmm_spec.specs.declared.event.Event.{Event}
-use Rattle.rmm_spec.specs.declared.event.Event.TheVariants.{Called}
-use Rattle.rmm_spec.specs.declared.line.Line.{Line}
-use Rattle.rmm_spec.specs.declared.reply.Reply.{Reply}
-use Rattle.rmm_spec.specs.Call.{call_of}
-use Rattle.rmm_spec.specs.HistoryText.{History, IsHistory}
-use Rattle.rmm_spec.specs.Linearization.{IsCalled, IsNamed, IsReturned, cpu_named, number_named}
-use Rattle.rmm_spec.specs.Ownership.{is_accepted}
-use Rattle.rmm_spec.specs.Run.{JournalEntry}
-use Rattle.rmm_spec.specs.State.{State, opening}
 use Rattle.spec_lemmas.proofs.HistoryGrammar.{IsHistory-take}
-use Rattle.checker.proofs.Judging.{HasOnePlaces-from_history}
-use Rattle.rmm_laws.proofs.StepLaws.{step-keeps, step-refuses}
-use Rattle.verdict_laws.specs.declared.facts.Fact.{Fact}
+use Rattle.rmm_laws.proofs.StepLaws.{step-keeps}
 use Rattle.verdict_laws.specs.declared.placing.Standing.{Standing}
 use Rattle.verdict_laws.specs.Denying.{deny, deny_inside}
-use Rattle.verdict_laws.specs.Facts.{holds, leaves_with, makes, makes_with, may_end}
+use Rattle.verdict_laws.specs.Facts.{leaves_with, makes, makes_with, may_end}
 use Rattle.verdict_laws.specs.HeldFacts.{AreHeldAt, IsDenied, IsHeldAlone, IsHeldAt, IsLeftAt, IsLeftSince, IsMadeBy}
-use Rattle.verdict_laws.specs.Order.{LeadsNowhere, count_of}
 use Rattle.verdict_laws.specs.Parts.{first_part}
 use Rattle.verdict_laws.specs.Placing.{StandsBefore}
 use Rattle.verdict_laws.specs.Slices.{IsDoneBefore}

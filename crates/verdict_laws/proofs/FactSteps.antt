@@ -1,31 +1,11 @@
 -- What holds behind a step, by the change that its call makes, and what a step isn't replied, by the rows of its call.
-use Rattle.std.proofs.Common.{◌≡◌, ℕ, ◌&&◌, Bool, true, false, not, if◌then◌else◌, List, [], ◌∷◌, refl, sym, ◌∙◌, ap, subst}
-use Rattle.std.specs.Prelude.{Result, Ok, Err}
+use Rattle.verdict_laws.proofs.Common.{◌≡◌, ℕ, ◌&&◌, Bool, true, false, not, if◌then◌else◌, List, [], ◌∷◌, refl, sym, ◌∙◌, ap, subst, Result, Ok, Err, and_from, and_parts, false_from_ne_true, or_parts, Accepted, Done, Reaches, Call, Change, Command, Refusal, Misplaced, Reply, call_of, class_of, changed, has_tag, is_inside, is_accepted, Needed, decided, State, CarriesOut, Step, answer_of, is_placed, misplacement, outcome, with_front, reached_change, named, words_of, both_ways, behind, outcome-leads}
 use Rattle.std.specs.List.{list_all, list_any}
 use Rattle.std.proofs.Math.Bool.{and-false}
-use Rattle.std.proofs.lemmas.Bool.{and_from, and_parts, false_from_ne_true, or_parts}
-use Rattle.rmm_spec.specs.declared.accepted.Accepted.{Accepted}
-use Rattle.rmm_spec.specs.declared.accepted.Accepted.TheVariants.{Done, Reaches}
-use Rattle.rmm_spec.specs.declared.call.Call.{Call}
-use Rattle.rmm_spec.specs.declared.change.Change.{Change}
-use Rattle.rmm_spec.specs.declared.command.Command.{Command}
-use Rattle.rmm_spec.specs.declared.refusal.Refusal.{Refusal}
-use Rattle.rmm_spec.specs.declared.refusal.Refusal.TheVariants.{Input, Misplaced}
-use Rattle.rmm_spec.specs.declared.reply.Reply.{Reply}
+use Rattle.rmm_spec.specs.declared.refusal.Refusal.TheVariants.{Input}
 use Rattle.rmm_spec.specs.declared.reply.Reply.TheVariants as reply
-use Rattle.rmm_spec.specs.Call.{call_of, class_of}
-use Rattle.rmm_spec.specs.Change.{changed}
-use Rattle.rmm_spec.specs.Lookup.{has_tag, is_inside}
-use Rattle.rmm_spec.specs.Ownership.{is_accepted}
-use Rattle.rmm_spec.specs.Rows.{Needed, Row, Word, all_allowed, decided, input_error, inputs, reply_of, tagged}
-use Rattle.rmm_spec.specs.State.{State}
-use Rattle.rmm_spec.specs.Step.{CarriesOut, Step, answer_of, is_placed, misplacement, outcome}
-use Rattle.rmm_spec.specs.Step.Front.{with_front}
-use Rattle.rmm_spec.specs.Step.Ripas.{reached_change}
-use Rattle.rmm_spec.specs.Step.Terms.{named, words_of}
-use Rattle.lemmas.proofs.Tests.{both_ways}
-use Rattle.spec_lemmas.proofs.Behind.{behind}
-use Rattle.rmm_laws.proofs.RowLaws.{Leads, outcome-leads}
+use Rattle.rmm_spec.specs.Rows.{Row, Word, all_allowed, input_error, inputs, reply_of, tagged}
+use Rattle.rmm_laws.proofs.RowLaws.{Leads}
 
 -- ---- what holds behind a step
 

@@ -1,15 +1,7 @@
 -- Each first part of a linearization leads to a state.
-use Rattle.std.proofs.Common.{◌≡◌, ℕ, ◌+◌, List, [], ◌∷◌, ◌++◌, length, Some, sym, subst, arith, append_assoc}
-use Rattle.std.specs.List.{slice_get}
-use Rattle.std.proofs.lemmas.Option.{slice_get_within}
+use Rattle.verdict_laws.proofs.Common.{◌≡◌, ℕ, ◌+◌, List, [], ◌∷◌, ◌++◌, length, Some, sym, subst, arith, append_assoc, slice_get, slice_get_within, slice_get-append, Line, History, IsHistory, State, opening, JournalEntry, IsRun, IsLinearization, AreEntriesOf, HasOnePlaces-from_history}
 use Rattle.std.proofs.lemmas.List.{append-nil}
-use Rattle.lemmas.proofs.Elements.{slice_get-append}
-use Rattle.rmm_spec.specs.declared.line.Line.{Line}
-use Rattle.rmm_spec.specs.HistoryText.{History, IsHistory}
-use Rattle.rmm_spec.specs.State.{State, opening}
-use Rattle.rmm_spec.specs.Run.{JournalEntry, IsRun}
-use Rattle.rmm_spec.specs.Linearization.{IsLinearization, AreEntriesOf, NamesSame}
-use Rattle.checker.proofs.Judging.{HasOnePlaces-from_history}
+use Rattle.rmm_spec.specs.Linearization.{NamesSame}
 use Rattle.verdict_laws.specs.Order.{Reaches}
 use Rattle.verdict_laws.proofs.Growth.{Reaches-nil}
 use Rattle.verdict_laws.proofs.Reached.{Reaches-linear}

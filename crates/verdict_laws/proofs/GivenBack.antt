@@ -1,23 +1,13 @@
 -- What a call gives back without naming it is a part of a realm or a REC.
-use Rattle.std.proofs.Common.{◌≡◌, ℕ, ◌+◌, ◌==◌, Bool, true, false, if◌then◌else◌, IsTrue, Option, Some, None, inl, inr, refl, ◌∙◌, ap, subst}
+use Rattle.verdict_laws.proofs.Common.{◌≡◌, ℕ, ◌+◌, ◌==◌, Bool, true, false, if◌then◌else◌, IsTrue, Option, Some, None, inl, inr, refl, ◌∙◌, ap, subst, ne_eqb, Entry, Tag, Rd, Rec, RecAux, Rtt, State, IsSound, has_tag, realm_at, rec_at, entry_at, both_ways, realm_there, rec_there, tag-has_tag, is_part}
 use Rattle.std.specs.Prelude.{nat_lt}
-use Rattle.std.proofs.lemmas.Bool.{ne_eqb}
-use Rattle.rmm_spec.specs.declared.entry.Entry.{Entry}
 use Rattle.rmm_spec.specs.declared.entry.Entry.TheVariants.{Table}
-use Rattle.rmm_spec.specs.declared.tag.Tag.{Tag}
-use Rattle.rmm_spec.specs.declared.tag.Tag.TheVariants.{Rd, Rec, RecAux, Data, Rtt}
-use Rattle.rmm_spec.specs.State.{State}
-use Rattle.rmm_spec.specs.Sound.{IsSound}
+use Rattle.rmm_spec.specs.declared.tag.Tag.TheVariants.{Data}
 use Rattle.rmm_spec.specs.Ownership.{IsTied}
-use Rattle.rmm_spec.specs.Lookup.{has_tag, realm_at, rec_at}
-use Rattle.rmm_spec.specs.Walk.{entry_at, entry_address, is_assigned, is_table, linked_entry}
-use Rattle.lemmas.proofs.Tests.{both_ways}
+use Rattle.rmm_spec.specs.Walk.{entry_address, is_assigned, is_table, linked_entry}
 use Rattle.rmm_laws.proofs.Facts.{entry-page}
-use Rattle.rmm_laws.proofs.Searches.{realm_there, rec_there}
 use Rattle.rmm_laws.proofs.Ties.{tied-tag}
 use Rattle.rmm_laws.proofs.Walked.{assigned_kind}
-use Rattle.spec_lemmas.proofs.TagLaws.{tag-has_tag}
-use Rattle.verdict_laws.specs.Apart.{is_part}
 
 -- what an entry links to, by whether its level is above the last
 linked_table : (above : Bool) (below : Option ℕ) (leaf : Option Entry) → IsTrue (is_table (linked_entry (if above then below else None) leaf))

@@ -1,20 +1,15 @@
 -- Whether a text is in a grammar is decided: by the one history, or the one certificate, that can be read from it.
-use Rattle.std.proofs.Common.{◌≡◌, ℕ, ◌<◌, ◌≤◌, ◌^◌, ◌==◌, inl, inr, List, [], ◌∷◌, ◌++◌, map, length, get_or, drop, false, is_some, refl, sym, ap, ◌∙◌, subst, arith}
-use Rattle.std.specs.List.{AllByRecursion, All, slice_split}
-use Rattle.std.proofs.lemmas.Bool.{cases_eq, cases_lt, ne_eqb}
+use Rattle.verdict_laws.proofs.Common.{◌≡◌, ℕ, ◌<◌, ◌≤◌, ◌==◌, inl, inr, List, [], ◌∷◌, ◌++◌, map, length, false, is_some, refl, sym, ap, ◌∙◌, subst, arith, AllByRecursion, cases_lt, ne_eqb, Command, Event, Called, Returned, Line, Keep, Unfinished, Reply, Config, History, IsHistory}
+use Rattle.std.proofs.Common.{◌^◌, get_or, drop}
+use Rattle.std.specs.List.{All, slice_split}
+use Rattle.std.proofs.lemmas.Bool.{cases_eq}
 use Rattle.std.proofs.lemmas.List.Elements.{All-weaker, All-from_recursion}
 use Rattle.std.proofs.lemmas.List.Splits.{slice_split_at}
-use Rattle.rmm_spec.specs.declared.command.Command.{Command}
-use Rattle.rmm_spec.specs.declared.event.Event.{Event}
-use Rattle.rmm_spec.specs.declared.event.Event.TheVariants.{Called, Returned}
-use Rattle.rmm_spec.specs.declared.line.Line.{Line}
-use Rattle.rmm_spec.specs.declared.line.Line.TheVariants.{Keep, Unfinished}
-use Rattle.rmm_spec.specs.declared.reply.Reply.{Reply}
 use Rattle.rmm_spec.specs.declared.reply.Reply.TheVariants as reply
 use Rattle.rmm_spec.specs.CertificateText.{IsLine, IsCertificate, IsCertificateText, InCertificates, certificate_text, line_parts}
 use Rattle.rmm_spec.specs.CommandText.{AreWords, IsCommand, IsReply}
 use Rattle.rmm_spec.specs.Function.{word_count}
-use Rattle.rmm_spec.specs.HistoryText.{Config, History, IsConfig, IsEvent, IsHistory, IsHistoryText, InHistories, IsRecord, cpu_of, subhistory_of, start, stand_from, event_parts, granule_limit, history_text}
+use Rattle.rmm_spec.specs.HistoryText.{IsConfig, IsEvent, IsHistoryText, InHistories, IsRecord, cpu_of, subhistory_of, start, stand_from, event_parts, granule_limit, history_text}
 use Rattle.rmm_spec.specs.Text.{line_text, lines_text, parts_of, HasNoNewline}
 use Rattle.spec_lemmas.proofs.CertificateLines.{line_parts-one_line}
 use Rattle.spec_lemmas.proofs.HistoryGrammar.{lines_of, lines_of-one_line}

@@ -1,12 +1,5 @@
 -- At a return the calls of a group are enough, where those outside pass those inside.
-use Rattle.std.proofs.Common.{◌≡◌, ℕ, ◌≤◌, Bool, true, false, List, [], ◌∷◌, ◌++◌, subst, append_assoc}
-use Rattle.rmm_spec.specs.declared.line.Line.{Line}
-use Rattle.rmm_spec.specs.declared.line.Line.TheVariants.{Keep}
-use Rattle.rmm_spec.specs.declared.reply.Reply.{Reply}
-use Rattle.rmm_spec.specs.HistoryText.{History, IsHistory}
-use Rattle.rmm_spec.specs.State.{State}
-use Rattle.rmm_spec.specs.Linearization.{IsReturned}
-use Rattle.verdict_laws.specs.Order.{count_of, LeadsNowhere}
+use Rattle.verdict_laws.proofs.Common.{◌≡◌, ℕ, ◌≤◌, Bool, true, false, List, [], ◌∷◌, ◌++◌, subst, append_assoc, Line, Keep, Reply, History, IsHistory, State, IsReturned, count_of, LeadsNowhere}
 use Rattle.verdict_laws.specs.Forward.{IsKept, IsOpen, Gives, IsLook, Passes}
 use Rattle.verdict_laws.proofs.Looks.{Gives-split, nowhere_further, nowhere_unless_looked, stay_inside}
 use Rattle.verdict_laws.proofs.Steps.{nowhere_unless_put}

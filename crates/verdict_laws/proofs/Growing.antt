@@ -1,16 +1,8 @@
 -- A kept order grows by open calls, and stays kept.
-use Rattle.std.proofs.Common.{◌≡◌, ℕ, ◌<◌, eqb, List, [], ◌∷◌, ◌++◌, inl, inr, sym, ◌∙◌, ap, subst, arith, append_assoc}
-use Rattle.std.proofs.lemmas.Bool.{eqb-true, cases_Bool, cases_lt}
+use Rattle.verdict_laws.proofs.Common.{◌≡◌, ℕ, ◌<◌, eqb, List, [], ◌∷◌, ◌++◌, inl, inr, sym, ◌∙◌, ap, subst, arith, append_assoc, cases_Bool, cases_lt, Command, Line, History, IsHistory, State, opening, Step, JournalEntry, IsRun, IsCalled, AreEntriesOf, IsEntryOf, cpu_named, number_named, HasOnePlaces-from_history, count_of}
+use Rattle.std.proofs.lemmas.Bool.{eqb-true}
 use Rattle.std.proofs.lemmas.List.{append-nil}
-use Rattle.rmm_spec.specs.declared.command.Command.{Command}
-use Rattle.rmm_spec.specs.declared.line.Line.{Line}
-use Rattle.rmm_spec.specs.HistoryText.{History, IsHistory}
-use Rattle.rmm_spec.specs.State.{State, opening}
-use Rattle.rmm_spec.specs.Step.{Step}
-use Rattle.rmm_spec.specs.Run.{JournalEntry, IsRun}
-use Rattle.rmm_spec.specs.Linearization.{IsCalled, AreEntriesOf, IsEntryOf, cpu_named, number_named}
-use Rattle.checker.proofs.Judging.{HasOnePlaces-from_history}
-use Rattle.verdict_laws.specs.Order.{count_of, Grows}
+use Rattle.verdict_laws.specs.Order.{Grows}
 use Rattle.verdict_laws.proofs.Counts.{count_of-nil, count_of-le, count_of-same, count_of-other}
 use Rattle.verdict_laws.proofs.Growth.{Reaches-nil, Reaches-push}
 use Rattle.verdict_laws.specs.Forward.{IsKept, IsOpen, AreOpen, Gives}

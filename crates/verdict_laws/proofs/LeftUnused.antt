@@ -1,34 +1,17 @@
 -- Granules that commits leave unused are unused: they stay so while no call changes them, and what a call gives back is so behind it.
-use Rattle.std.proofs.Common.{◌≡◌, ℕ, ◌==◌, ◌&&◌, ◌||◌, Bool, true, false, not, if◌then◌else◌, List, [], ◌∷◌, map, None, inl, inr, refl, sym, ◌∙◌, ap, subst, eq-eqb, eqb-true}
-use Rattle.std.specs.Prelude.{◌⊎◌, Ok, unwrap_or}
-use Rattle.std.proofs.lemmas.Bool.{and_parts, ne_eqb, not-true, or_cases}
-use Rattle.rmm_spec.specs.declared.call.Call.{Call}
+use Rattle.verdict_laws.proofs.Common.{◌≡◌, ℕ, ◌==◌, ◌&&◌, ◌||◌, Bool, true, false, not, if◌then◌else◌, List, [], ◌∷◌, map, None, inl, inr, refl, sym, ◌∙◌, ap, subst, eq-eqb, eqb-true, Ok, unwrap_or, and_parts, ne_eqb, not-true, or_cases, Call, Command, Reply, Tag, Undelegated, Delegated, Rd, Rec, RecAux, Rtt, call_of, changed, Config, realm_at, rec_at, is_accepted, IsSound, State, opening, CarriesOut, Step, with_front, named, words_of, both_ways, behind, by_address, outcome-leads, realm_there, rec_there, unused_tag}
+use Rattle.std.specs.Prelude.{◌⊎◌}
 use Rattle.rmm_spec.specs.declared.call.Call.TheVariants as call
-use Rattle.rmm_spec.specs.declared.command.Command.{Command}
-use Rattle.rmm_spec.specs.declared.reply.Reply.{Reply}
-use Rattle.rmm_spec.specs.declared.tag.Tag.{Tag}
-use Rattle.rmm_spec.specs.declared.tag.Tag.TheVariants.{Undelegated, Delegated, Rd, Rec, RecAux, Data, Rtt}
-use Rattle.rmm_spec.specs.Call.{call_of}
-use Rattle.rmm_spec.specs.Change.{changed}
-use Rattle.rmm_spec.specs.HistoryText.{Config}
-use Rattle.rmm_spec.specs.Lookup.{realm_at, rec_at}
-use Rattle.rmm_spec.specs.Ownership.{IsTied, RecParts, is_accepted, latest_rec, latest_root, rec_made, root_made}
-use Rattle.rmm_spec.specs.Sound.{IsSound}
-use Rattle.rmm_spec.specs.State.{State, opening}
-use Rattle.rmm_spec.specs.Step.{CarriesOut, Step}
-use Rattle.rmm_spec.specs.Step.Front.{with_front}
-use Rattle.rmm_spec.specs.Step.Terms.{named, words_of}
-use Rattle.lemmas.proofs.Tests.{both_ways}
-use Rattle.spec_lemmas.proofs.Behind.{behind}
+use Rattle.rmm_spec.specs.declared.tag.Tag.TheVariants.{Data}
+use Rattle.rmm_spec.specs.Ownership.{IsTied, RecParts, latest_rec, latest_root, rec_made, root_made}
 use Rattle.rmm_laws.proofs.ByRows.{AllHold}
-use Rattle.rmm_laws.proofs.Cases.{at_itself, by_address, nothing_there}
+use Rattle.rmm_laws.proofs.Cases.{at_itself, nothing_there}
 use Rattle.rmm_laws.proofs.Recorded.{IsRecorded, parts_in, recs-after, root_in, roots-after}
-use Rattle.rmm_laws.proofs.RowLaws.{outcome-leads, refusal-refuses}
-use Rattle.rmm_laws.proofs.Searches.{realm_there, rec_there}
+use Rattle.rmm_laws.proofs.RowLaws.{refusal-refuses}
 use Rattle.rmm_laws.proofs.Ties.{IsUnused, tied-used}
 use Rattle.verdict_laws.specs.Looking.{is_looking}
 use Rattle.verdict_laws.specs.Separate.{is_freed, tells_granule}
-use Rattle.verdict_laws.specs.Slices.{is_of_ended, leaves_unused, makes_part, may_change, unused_tag}
+use Rattle.verdict_laws.specs.Slices.{is_of_ended, leaves_unused, makes_part, may_change}
 use Rattle.verdict_laws.proofs.SliceSteps.{step_cases, unseen_left}
 use Rattle.verdict_laws.proofs.SliceTerms.{Commit, HasMade, IsLeftUnused, entry_of}
 

@@ -1,35 +1,16 @@
 -- A call that lends a granule or takes it back, and a call that neither names the granule nor gives it back, come either way round.
-use Rattle.std.proofs.Common.{◌≡◌, ℕ, ◌==◌, Bool, true, false, not, ◌&&◌, if◌then◌else◌, [], inl, inr, Some, None, refl, sym, ◌∙◌, ap, subst}
-use Rattle.std.specs.Prelude.{Result, Ok, Err}
-use Rattle.std.proofs.lemmas.Bool.{and_parts, not-true}
-use Rattle.std.proofs.lemmas.Option.{same_Some}
-use Rattle.rmm_spec.specs.declared.accepted.Accepted.{Accepted}
-use Rattle.rmm_spec.specs.declared.call.Call.{Call}
+use Rattle.verdict_laws.proofs.Common.{◌≡◌, ℕ, ◌==◌, Bool, true, false, not, ◌&&◌, if◌then◌else◌, [], inl, inr, Some, None, refl, sym, ◌∙◌, ap, subst, Result, Ok, Err, and_parts, not-true, same_Some, Accepted, Call, Retagged, Command, Refusal, Misplaced, Reply, Tag, Undelegated, Delegated, call_of, changed, State, IsSound, is_named, is_accepted, has_tag, is_inside, CarriesOut, Step, outcome, answer_of, named, words_of, both_ways, tag-has_tag, lent}
 use Rattle.rmm_spec.specs.declared.call.Call.TheVariants as call
-use Rattle.rmm_spec.specs.declared.change.Change.TheVariants.{Retagged}
-use Rattle.rmm_spec.specs.declared.command.Command.{Command}
 use Rattle.rmm_spec.specs.declared.condition.Condition.TheVariants.{GranState, OwnOutside}
-use Rattle.rmm_spec.specs.declared.refusal.Refusal.{Refusal}
-use Rattle.rmm_spec.specs.declared.refusal.Refusal.TheVariants.{Misplaced, Input}
-use Rattle.rmm_spec.specs.declared.reply.Reply.{Reply}
-use Rattle.rmm_spec.specs.declared.tag.Tag.{Tag}
-use Rattle.rmm_spec.specs.declared.tag.Tag.TheVariants.{Undelegated, Delegated}
-use Rattle.rmm_spec.specs.Call.{call_of}
-use Rattle.rmm_spec.specs.Change.{changed}
-use Rattle.rmm_spec.specs.State.{State}
+use Rattle.rmm_spec.specs.declared.refusal.Refusal.TheVariants.{Input}
 use Rattle.rmm_spec.specs.Update.{with_tag}
-use Rattle.rmm_spec.specs.Sound.{IsSound}
-use Rattle.rmm_spec.specs.Locks.{is_named}
-use Rattle.rmm_spec.specs.Ownership.{is_accepted}
-use Rattle.rmm_spec.specs.Lookup.{has_tag, tag_number, is_granule, is_inside}
+use Rattle.rmm_spec.specs.Lookup.{tag_number, is_granule}
 use Rattle.rmm_spec.specs.Rows.{done}
-use Rattle.rmm_spec.specs.Step.{CarriesOut, Step, outcome, answer_of, commands}
-use Rattle.rmm_spec.specs.Step.Terms.{class_of, named, words_of}
-use Rattle.lemmas.proofs.Tests.{both_ways}
-use Rattle.spec_lemmas.proofs.TagLaws.{tag-has_tag}
+use Rattle.rmm_spec.specs.Step.{commands}
+use Rattle.rmm_spec.specs.Step.Terms.{class_of}
 use Rattle.rmm_laws.proofs.RowLaws.{refusal-refuses}
 use Rattle.rmm_laws.proofs.Ties.{IsUnused}
-use Rattle.verdict_laws.specs.Apart.{frees_unnamed, is_apart_from, is_delegation, lent}
+use Rattle.verdict_laws.specs.Apart.{frees_unnamed, is_apart_from, is_delegation}
 use Rattle.verdict_laws.proofs.SparedCalls.{FreesOthers, Leaves, step_leaves, step_swapped, unused-is_part}
 
 -- what a lending leads to, by whether the CPU is inside of a REC, and whether the granule has the tag that is needed

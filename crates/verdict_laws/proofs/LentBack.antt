@@ -1,38 +1,16 @@
 -- A lending that is carried out behind a call which may as well come behind it: both come the other way round.
-use Rattle.std.proofs.Common.{◌≡◌, ℕ, Bool, true, false, not, ◌||◌, IsTrue, [], Option, Some, None, inl, inr, refl, sym, ◌∙◌, ap, subst}
-use Rattle.std.specs.Prelude.{Result, Ok, Err}
-use Rattle.std.proofs.lemmas.Bool.{and_parts, not-true}
-use Rattle.rmm_spec.specs.declared.accepted.Accepted.{Accepted}
-use Rattle.rmm_spec.specs.declared.accepted.Accepted.TheVariants.{Done, Reaches}
-use Rattle.rmm_spec.specs.declared.change.Change.{Change}
-use Rattle.rmm_spec.specs.declared.change.Change.TheVariants.{Unchanged, Retagged, RealmMade, RealmDestroyed, RecMade, RecDestroyed, RecordsChanged, TableMade, TableDestroyed, EntriesChanged}
+use Rattle.verdict_laws.proofs.Common.{◌≡◌, ℕ, Bool, true, false, not, ◌||◌, IsTrue, [], Option, Some, None, inl, inr, refl, sym, ◌∙◌, ap, subst, Result, Ok, Err, and_parts, not-true, Accepted, Done, Reaches, Change, Unchanged, Retagged, RealmMade, RealmDestroyed, RecMade, RecDestroyed, RecordsChanged, TableMade, TableDestroyed, EntriesChanged, Replaced, RipasSet, TagChange, Command, Refusal, Reply, Tag, Undelegated, Delegated, Rd, Rec, RecAux, Rtt, CanApply, call_of, changed, with_tag_change, State, IsSound, is_named, is_accepted, CarriesOut, Step, outcome, reached_change, named, tag-has_tag, by_address, lent}
 use Rattle.rmm_spec.specs.declared.change.EntryChange.{EntryChange}
-use Rattle.rmm_spec.specs.declared.change.EntryChange.TheVariants.{Replaced, RipasSet}
-use Rattle.rmm_spec.specs.declared.change.TagChange.{TagChange}
-use Rattle.rmm_spec.specs.declared.command.Command.{Command}
-use Rattle.rmm_spec.specs.declared.refusal.Refusal.{Refusal}
-use Rattle.rmm_spec.specs.declared.reply.Reply.{Reply}
-use Rattle.rmm_spec.specs.declared.tag.Tag.{Tag}
-use Rattle.rmm_spec.specs.declared.tag.Tag.TheVariants.{Undelegated, Delegated, Rd, Rec, RecAux, Rtt}
-use Rattle.rmm_spec.specs.Applicable.{CanApply, CanChangeEntries, CanRetag}
-use Rattle.rmm_spec.specs.Call.{call_of}
-use Rattle.rmm_spec.specs.Change.{changed, with_tag_change}
-use Rattle.rmm_spec.specs.State.{State}
+use Rattle.rmm_spec.specs.Applicable.{CanChangeEntries, CanRetag}
 use Rattle.rmm_spec.specs.Update.{with_tag}
-use Rattle.rmm_spec.specs.Sound.{IsSound}
-use Rattle.rmm_spec.specs.Locks.{is_named}
-use Rattle.rmm_spec.specs.Ownership.{is_accepted}
 use Rattle.rmm_spec.specs.Rows.{done}
-use Rattle.rmm_spec.specs.Step.{CarriesOut, Step, outcome}
-use Rattle.rmm_spec.specs.Step.Ripas.{reached_change}
-use Rattle.rmm_spec.specs.Step.Terms.{named}
-use Rattle.spec_lemmas.proofs.TagLaws.{tag-has_tag, with_tag-restored}
-use Rattle.rmm_laws.proofs.Cases.{at_itself, by_address}
+use Rattle.spec_lemmas.proofs.TagLaws.{with_tag-restored}
+use Rattle.rmm_laws.proofs.Cases.{at_itself}
 use Rattle.rmm_laws.proofs.Commands.{accepted_applies, whole_command}
 use Rattle.rmm_laws.proofs.Keeps.{records-tag}
 use Rattle.rmm_laws.proofs.Runs.{step_sound}
 use Rattle.rmm_laws.proofs.Ties.{IsUnused}
-use Rattle.verdict_laws.specs.Apart.{frees_unnamed, is_delegation, lent, lets_lend}
+use Rattle.verdict_laws.specs.Apart.{frees_unnamed, is_delegation, lets_lend}
 use Rattle.verdict_laws.proofs.Lending.{IsLending, IsLending-from_lent, lending_same, lent_done}
 use Rattle.verdict_laws.proofs.SparedCalls.{FreesOthers, step_leaves, step_swapped, unused-is_part}
 

@@ -1,3 +1,4 @@
+pub mod Common
 pub mod Decisions
 pub mod BadLines
 pub mod OneFault

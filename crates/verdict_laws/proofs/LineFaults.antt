@@ -1,24 +1,15 @@
 -- A line after lines that pass either passes too or fails by a reason.
-use Rattle.std.proofs.Common.{◌≡◌, ℕ, ◌+◌, ◌⊎◌, inl, inr, List, [], ◌∷◌, ◌++◌, length, is_some, refl, arith}
-use Rattle.std.proofs.lemmas.Bool.{cases_eq, cases_lt, cases_Bool}
-use Rattle.rmm_spec.specs.declared.command.Command.{Command}
-use Rattle.rmm_spec.specs.declared.event.Event.{Event}
-use Rattle.rmm_spec.specs.declared.line.Line.{Line}
-use Rattle.rmm_spec.specs.declared.line.Line.TheVariants.{Keep, Unfinished}
-use Rattle.rmm_spec.specs.declared.reply.Reply.{Reply}
+use Rattle.verdict_laws.proofs.Common.{◌≡◌, ℕ, ◌+◌, ◌⊎◌, inl, inr, List, [], ◌∷◌, ◌++◌, length, is_some, refl, arith, cases_lt, cases_Bool, Command, Event, Line, Keep, Unfinished, Reply, History, IsHistory, State, Step, JournalEntry, IsFinished, ReturnsBefore, cpu_named, number_named, NamesCall, IsOfItsKind, IsNamed, HasOnePlaces-from_history}
+use Rattle.std.proofs.lemmas.Bool.{cases_eq}
 use Rattle.rmm_spec.specs.declared.verdict.Reason.{Reason}
 use Rattle.rmm_spec.specs.declared.verdict.Reason.TheVariants as reason
-use Rattle.rmm_spec.specs.HistoryText.{History, IsHistory, subhistory_of}
-use Rattle.rmm_spec.specs.State.{State}
-use Rattle.rmm_spec.specs.Step.{Step}
-use Rattle.rmm_spec.specs.Run.{JournalEntry}
+use Rattle.rmm_spec.specs.HistoryText.{subhistory_of}
 use Rattle.rmm_spec.specs.Script.{replay}
-use Rattle.rmm_spec.specs.Linearization.{IsKnown, IsFinished, ReturnsBefore, cpu_named, number_named, NamesCall, IsOfItsKind, IsNamed, IsTooLate, IsReplyOf}
+use Rattle.rmm_spec.specs.Linearization.{IsKnown, IsTooLate, IsReplyOf}
 use Rattle.rmm_spec.specs.FirstFault.{Passes, FailsBy}
 use Rattle.spec_lemmas.proofs.Places.{IsKnown-below, below-IsKnown, IsFinished-below, below-IsFinished}
 use Rattle.rmm_laws.proofs.Replays.{replayed-run, no_replay-no_run}
 use Rattle.checker.proofs.Faults.{IsRefused-from_step}
-use Rattle.checker.proofs.Judging.{HasOnePlaces-from_history}
 use Rattle.checker.proofs.Progress.{Passes-push}
 use Rattle.verdict_laws.proofs.Decisions.{Decided, decided_as, decided_not, decided_both, decided_one}
 

@@ -1,20 +1,12 @@
 -- A call that only looks at the state, and is given its reply where an order has come to, may come next at once.
-use Rattle.std.proofs.Common.{◌≡◌, ℕ, true, false, List, [], ◌∷◌, ◌++◌, refl, sym, subst}
-use Rattle.rmm_spec.specs.declared.command.Command.{Command}
+use Rattle.verdict_laws.proofs.Common.{◌≡◌, ℕ, true, false, List, [], ◌∷◌, ◌++◌, refl, sym, subst, Command, Line, Keep, Reply, History, IsHistory, State, Step, HasOnePlaces-from_history, LeadsNowhere}
 use Rattle.rmm_spec.specs.declared.function_id.FunctionId.{FunctionId}
 use Rattle.rmm_spec.specs.declared.function_id.FunctionId.TheVariants as function
-use Rattle.rmm_spec.specs.declared.line.Line.{Line}
-use Rattle.rmm_spec.specs.declared.line.Line.TheVariants.{Keep}
-use Rattle.rmm_spec.specs.declared.reply.Reply.{Reply}
 use Rattle.rmm_spec.specs.Footprint.{KeepsOthers, changed_parts}
-use Rattle.rmm_spec.specs.HistoryText.{History, IsHistory}
-use Rattle.rmm_spec.specs.State.{State}
-use Rattle.rmm_spec.specs.Step.{Step}
 use Rattle.rmm_laws.proofs.StepLaws.{step-keeps}
 use Rattle.spec_lemmas.proofs.Calls.{same_entry}
-use Rattle.checker.proofs.Judging.{HasOnePlaces-from_history}
 use Rattle.verdict_laws.specs.Looking.{is_looking, is_looking_function}
-use Rattle.verdict_laws.specs.Order.{Reaches, LeadsNowhere, Grows}
+use Rattle.verdict_laws.specs.Order.{Reaches, Grows}
 use Rattle.verdict_laws.proofs.Settled.{GoesOnWithout, nowhere_first, run-without}
 
 -- where every map is kept, the state is

@@ -1,15 +1,7 @@
 -- Open calls that may as well come behind the returning one needn't be put before it.
-use Rattle.std.proofs.Common.{◌≡◌, ℕ, zero, suc, ◌+◌, ◌<◌, ◌⊎◌, Bool, true, false, inl, inr, List, [], ◌∷◌, ◌++◌, length, Some, refl, sym, ◌∙◌, ap, subst, arith, append_assoc}
-use Rattle.std.specs.List.{slice_get}
-use Rattle.std.proofs.lemmas.Bool.{cases_Bool}
+use Rattle.verdict_laws.proofs.Common.{◌≡◌, ℕ, zero, suc, ◌+◌, ◌<◌, ◌⊎◌, Bool, true, false, inl, inr, List, [], ◌∷◌, ◌++◌, length, Some, refl, sym, ◌∙◌, ap, subst, arith, append_assoc, slice_get, cases_Bool, Event, Line, History, IsHistory, State, IsLinearization, LeadsNowhere}
 use Rattle.std.proofs.lemmas.List.{length-append}
-use Rattle.rmm_spec.specs.declared.event.Event.{Event}
-use Rattle.rmm_spec.specs.declared.line.Line.{Line}
-use Rattle.rmm_spec.specs.HistoryText.{History, IsHistory}
-use Rattle.rmm_spec.specs.State.{State}
-use Rattle.rmm_spec.specs.Linearization.{IsLinearization}
 use Rattle.rmm_laws.proofs.RunLaws.{run-append}
-use Rattle.verdict_laws.specs.Order.{LeadsNowhere}
 use Rattle.verdict_laws.proofs.Configurations.{nowhere_alike}
 use Rattle.verdict_laws.proofs.Moves.{Each, Each-append, Each-at}
 use Rattle.verdict_laws.proofs.Settled.{claimed-append, split_run}

@@ -1,45 +1,21 @@
 -- Two calls, each of which makes a realm or a REC or is local, of other realms, VMIDs and granules, come either way round.
-use Rattle.std.proofs.Common.{◌≡◌, ℕ, ◌*◌, ◌/◌, ◌==◌, Bool, true, false, ◌&&◌, ◌||◌, if◌then◌else◌, IsTrue, List, [], ◌∷◌, inl, inr, Option, Some, None, refl, sym, ◌∙◌, ap, subst, eq-eqb}
+use Rattle.verdict_laws.proofs.Common.{◌≡◌, ℕ, ◌*◌, ◌==◌, Bool, true, false, ◌&&◌, ◌||◌, if◌then◌else◌, IsTrue, List, [], ◌∷◌, inl, inr, Option, Some, None, refl, sym, ◌∙◌, ap, subst, eq-eqb, AllByRecursion, ne_eqb, or_cases, or_left, Accepted, Done, Reaches, Call, Change, RealmMade, RecMade, RecordsChanged, TableMade, EntriesChanged, RealmChange, TagChange, Command, Reply, Tag, Delegated, Rd, Rec, RecAux, Rtt, call_of, State, RecRecord, CanApply, changed, new_rec, IsSound, is_named, has_tag, is_vmid_used, realm_at, ok, reached_change, named, Step, both_ways, behind, by_address, realm_there, lent, is_local}
+use Rattle.std.proofs.Common.{◌/◌}
 use Rattle.std.specs.Prelude.{nat_lt}
-use Rattle.std.specs.List.{AllByRecursion}
-use Rattle.std.proofs.lemmas.Bool.{ne_eqb, or_cases, or_left}
-use Rattle.rmm_spec.specs.declared.accepted.Accepted.{Accepted}
-use Rattle.rmm_spec.specs.declared.accepted.Accepted.TheVariants.{Done, Reaches}
-use Rattle.rmm_spec.specs.declared.call.Call.{Call}
 use Rattle.rmm_spec.specs.declared.call.Call.TheVariants as call
-use Rattle.rmm_spec.specs.declared.change.Change.{Change}
-use Rattle.rmm_spec.specs.declared.change.Change.TheVariants.{RealmMade, RecMade, RecordsChanged, TableMade, EntriesChanged}
-use Rattle.rmm_spec.specs.declared.change.RealmChange.{RealmChange}
 use Rattle.rmm_spec.specs.declared.change.RealmUpdate.TheVariants.{RecCounted}
-use Rattle.rmm_spec.specs.declared.change.TagChange.{TagChange}
-use Rattle.rmm_spec.specs.declared.command.Command.{Command}
 use Rattle.rmm_spec.specs.declared.entry.Entry.TheVariants.{Unassigned, UnassignedNs}
-use Rattle.rmm_spec.specs.declared.reply.Reply.{Reply}
 use Rattle.rmm_spec.specs.declared.reply.Reply.TheVariants as reply
 use Rattle.rmm_spec.specs.declared.tag.Ripas.TheVariants.{Empty}
-use Rattle.rmm_spec.specs.declared.tag.Tag.{Tag}
-use Rattle.rmm_spec.specs.declared.tag.Tag.TheVariants.{Delegated, Rd, Rec, RecAux, Rtt}
-use Rattle.rmm_spec.specs.Call.{call_of}
-use Rattle.rmm_spec.specs.State.{State, RecRecord}
 use Rattle.rmm_spec.specs.Update.{is_same_table}
-use Rattle.rmm_spec.specs.Applicable.{CanApply, CanChangeRealm}
-use Rattle.rmm_spec.specs.Change.{changed, new_realm, new_rec}
-use Rattle.rmm_spec.specs.Sound.{IsSound}
-use Rattle.rmm_spec.specs.Locks.{is_named}
-use Rattle.rmm_spec.specs.Lookup.{any_below, has_tag, has_vmid, is_vmid_used, realm_at}
-use Rattle.rmm_spec.specs.Rows.{ok}
-use Rattle.rmm_spec.specs.Step.Ripas.{reached_change}
-use Rattle.rmm_spec.specs.Step.Terms.{named}
-use Rattle.rmm_spec.specs.Step.{Step}
-use Rattle.lemmas.proofs.Tests.{both_ways}
-use Rattle.spec_lemmas.proofs.Behind.{behind}
-use Rattle.rmm_laws.proofs.Cases.{by_address, none_of}
+use Rattle.rmm_spec.specs.Applicable.{CanChangeRealm}
+use Rattle.rmm_spec.specs.Change.{new_realm}
+use Rattle.rmm_spec.specs.Lookup.{any_below, has_vmid}
+use Rattle.rmm_laws.proofs.Cases.{none_of}
 use Rattle.rmm_laws.proofs.Records.{updated_like}
-use Rattle.rmm_laws.proofs.Searches.{realm_there}
 use Rattle.rmm_laws.proofs.Tags.{has_tag-other}
-use Rattle.verdict_laws.specs.Apart.{lent}
 use Rattle.verdict_laws.specs.Making.{AreMadeApart, is_making, made_realm, own_realm, taken_vmid}
-use Rattle.verdict_laws.specs.Separate.{is_freed, is_local, table_realm, works_on}
+use Rattle.verdict_laws.specs.Separate.{is_freed, table_realm, works_on}
 use Rattle.verdict_laws.proofs.MakingLooks.{AgreeOnMade, AgreeOnMade-sym, outcome-made}
 use Rattle.verdict_laws.proofs.Patches.{AreDisjoint, IsChangeOf, IsTagOf, IsWithin, Keeps, Patch, changed-patched, is_own, other_realm, patch_of, patch_of-within, patched, patched-swapped, put-swapped, put_realm, put_realm-keeps, put_table, put_table-keeps, put_tag, put_tag-keeps, realm_change-patched, tag_of_change}
 use Rattle.verdict_laws.proofs.SeparateCalls.{AgreeOn-patched, IsAcceptedOf, IsChanging, IsWorkOf, behind_work, disjoint-sym, realms_apart, step_changing}

@@ -1,20 +1,12 @@
 -- What a call leads to that makes a realm or a REC reads the tags of what it names, its realm's record, and whether the VMID is used.
-use Rattle.std.proofs.Common.{◌≡◌, ℕ, true, ◌||◌, not, if◌then◌else◌, inl, inr, Some, refl, sym, ◌∙◌}
-use Rattle.std.specs.Prelude.{Err}
-use Rattle.std.proofs.lemmas.Bool.{or_cases}
-use Rattle.rmm_spec.specs.declared.call.Call.{Call}
+use Rattle.verdict_laws.proofs.Common.{◌≡◌, ℕ, true, ◌||◌, not, if◌then◌else◌, inl, inr, Some, refl, sym, ◌∙◌, Err, or_cases, Call, Misplaced, State, has_tag, is_inside, is_vmid_used, realm_at, answer_of, outcome, named, words_of, both_ways, is_local}
 use Rattle.rmm_spec.specs.declared.call.Call.TheVariants as call
 use Rattle.rmm_spec.specs.declared.condition.Condition.TheVariants.{OwnOutside}
-use Rattle.rmm_spec.specs.declared.refusal.Refusal.TheVariants.{Misplaced}
-use Rattle.rmm_spec.specs.State.{State}
-use Rattle.rmm_spec.specs.Lookup.{has_tag, is_inside, is_vmid_used, realm_at}
 use Rattle.rmm_spec.specs.Step.Realm.{realm_create_told}
 use Rattle.rmm_spec.specs.Step.Rec.{rec_create}
-use Rattle.rmm_spec.specs.Step.{answer_of, commands, outcome}
-use Rattle.rmm_spec.specs.Step.Terms.{class_of, named, words_of}
-use Rattle.lemmas.proofs.Tests.{both_ways}
+use Rattle.rmm_spec.specs.Step.{commands}
+use Rattle.rmm_spec.specs.Step.Terms.{class_of}
 use Rattle.verdict_laws.specs.Making.{is_making, made_realm, taken_vmid}
-use Rattle.verdict_laws.specs.Separate.{is_local}
 use Rattle.verdict_laws.proofs.Retags.{with_tags, outcome-tags}
 use Rattle.verdict_laws.proofs.SeparateLooks.{AgreeOn, AgreeOn-sym, named_kept, outcome-agree}
 

@@ -1,41 +1,29 @@
 -- Where all facts of a list hold, no call is given a reply that they deny, one by itself or all together.
-use Rattle.std.proofs.Common.{◌≡◌, ℕ, ◌-◌, ◌^◌, ◌≤◌, ◌==◌, ◌&&◌, ◌||◌, nat_le, nat_lt, Bool, true, false, IsTrue, All, List, is_some, inl, inr, refl, sym, ◌∙◌, ap, eq-eqb, eqb-true, arith}
-use Rattle.std.specs.Prelude.{Err, if◌then◌else◌, is_none, not, unwrap_or}
+use Rattle.verdict_laws.proofs.Common.{◌≡◌, ℕ, ◌-◌, ◌≤◌, ◌==◌, ◌&&◌, ◌||◌, nat_le, nat_lt, Bool, true, false, IsTrue, List, is_some, inl, inr, refl, sym, ◌∙◌, ap, eq-eqb, eqb-true, arith, Err, is_none, unwrap_or, and_from, and_parts, cases_Bool, not-true, or_cases, Call, Command, Reply, Delegated, Rd, Rec, call_of, class_of, has_tag, is_inside, is_vmid_used, no_rec, realm_at, rec_at, rec_inside, request_of, Needed, decided, IsSound, RealmRecord, State, Step, outcome, is_accepted, named, words_of, both_ways, behind, realm_there, Fact, holds}
+use Rattle.std.proofs.Common.{◌^◌, All}
+use Rattle.std.specs.Prelude.{if◌then◌else◌, not}
 use Rattle.std.specs.List.{list_all, list_any}
-use Rattle.std.proofs.lemmas.Bool.{and_from, and_parts, cases_Bool, le-leb, leb-true, lt-ltb, not-true, or_cases}
+use Rattle.std.proofs.lemmas.Bool.{le-leb, leb-true, lt-ltb}
 use Rattle.std.proofs.lemmas.Bool.Decides.{nat_tests}
 use Rattle.std.proofs.lemmas.List.Elements.{All-contains, All-weaker}
 use Rattle.std.proofs.lemmas.List.Sums.{AllPass-from_list_all, list_all-from_AllPass}
-use Rattle.rmm_spec.specs.declared.call.Call.{Call}
 use Rattle.rmm_spec.specs.declared.call.Call.TheVariants as call
-use Rattle.rmm_spec.specs.declared.command.Command.{Command}
 use Rattle.rmm_spec.specs.declared.condition.Condition.TheVariants as condition
 use Rattle.rmm_spec.specs.declared.refusal.Refusal.TheVariants as refusal
-use Rattle.rmm_spec.specs.declared.reply.Reply.{Reply}
-use Rattle.rmm_spec.specs.declared.tag.Tag.TheVariants.{Delegated, Rd, Rec}
 use Rattle.rmm_spec.specs.declared.version.Version.{Version}
 use Rattle.rmm_spec.specs.declared.version.Version.TheVariants.{One, Two, Large}
-use Rattle.rmm_spec.specs.Call.{call_of, class_of}
-use Rattle.rmm_spec.specs.Lookup.{allows_hash, has_tag, is_granule, is_inside, is_new, is_vmid_used, no_rec, realm_at, rec_at, rec_inside, request_of}
-use Rattle.rmm_spec.specs.Rows.{Needed, all_allowed, decided}
-use Rattle.rmm_spec.specs.Sound.{IsSound}
-use Rattle.rmm_spec.specs.State.{RealmRecord, State}
-use Rattle.rmm_spec.specs.Step.{Step, outcome}
-use Rattle.rmm_spec.specs.Ownership.{is_accepted}
-use Rattle.rmm_spec.specs.Step.Terms.{is_page, is_space, named, words_of}
+use Rattle.rmm_spec.specs.Lookup.{allows_hash, is_granule, is_new}
+use Rattle.rmm_spec.specs.Rows.{all_allowed}
+use Rattle.rmm_spec.specs.Step.Terms.{is_page, is_space}
 use Rattle.rmm_spec.specs.Walk.{full, half}
-use Rattle.lemmas.proofs.Tests.{both_ways}
-use Rattle.spec_lemmas.proofs.Behind.{behind}
 use Rattle.spec_lemmas.proofs.Members.{Contains-from_slice_get, passing_member}
-use Rattle.rmm_laws.proofs.Searches.{realm_there}
 use Rattle.rmm_laws.proofs.Spaces.{space_cases}
-use Rattle.verdict_laws.specs.declared.facts.Fact.{Fact}
 use Rattle.verdict_laws.specs.declared.facts.Fact.TheVariants.{Activated, AsksFrom, RunsOrAsksTo, HasRipas, Idle, OwnedBy, PartOf, Runnable, RunsOn, RunsOrAsksWithin, SoleVmid, Tagged, Wide}
 use Rattle.verdict_laws.specs.declared.placing.ExitReason.{ExitReason}
 use Rattle.verdict_laws.specs.declared.placing.Standing.{Standing}
 use Rattle.verdict_laws.specs.declared.placing.Standing.TheVariants.{Inside, Outside}
 use Rattle.verdict_laws.specs.Denying.{are_ready, are_within, asks_pages, denies, deny, deny_input, deny_inside, deny_new, deny_rec, enters_run, give_half, give_pages, give_tag, give_vmid, gives_base, gives_half, gives_idle, gives_no_owner, gives_none, gives_other_ripas, gives_owner, gives_realm, gives_run, gives_runnable, gives_running, gives_tag, gives_top, gives_vmid, is_refused_new, is_refused_with}
-use Rattle.verdict_laws.specs.Facts.{holds, is_one_entry, is_tag, is_told, runs_or_asks}
+use Rattle.verdict_laws.specs.Facts.{is_one_entry, is_tag, is_told, runs_or_asks}
 use Rattle.verdict_laws.proofs.AskingFacts.{asking_there, asks-idle}
 use Rattle.verdict_laws.proofs.FactKinds.{held-denies}
 use Rattle.verdict_laws.proofs.FactSteps.{IsUntold, IsUntold-decided, are_tagged, are_told, step-untold, step-untold_behind}

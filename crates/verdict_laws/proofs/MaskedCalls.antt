@@ -1,42 +1,27 @@
 -- A call leads to the same behind a mask, where it knows what it names, and the REC in which its CPU is.
-use Rattle.std.proofs.Common.{◌≡◌, ℕ, ◌*◌, ◌||◌, ◌==◌, ◌&&◌, Bool, true, false, not, if◌then◌else◌, IsTrue, List, [], ◌∷◌, inl, inr, Some, None, refl, sym, ◌∙◌, ap, subst, eqb-true, eq-eqb}
-use Rattle.std.specs.Prelude.{◌⊎◌, Contains, Result, Ok, Err, is_none, unwrap_or}
-use Rattle.std.proofs.lemmas.Bool.{and_parts, false_from_ne_true, not-true, or_left, or_right}
+use Rattle.verdict_laws.proofs.Common.{◌≡◌, ℕ, ◌*◌, ◌||◌, ◌==◌, ◌&&◌, Bool, true, false, not, if◌then◌else◌, IsTrue, List, [], ◌∷◌, inl, inr, Some, None, refl, sym, ◌∙◌, ap, subst, eqb-true, eq-eqb, Result, Ok, Err, is_none, unwrap_or, and_parts, false_from_ne_true, not-true, or_left, or_right, AllByRecursion, Accepted, Call, Refusal, Misplaced, Tag, Undelegated, Delegated, Rd, Rec, is_named, has_rec, has_tag, is_inside, is_vmid_used, no_rec, realm_at, rec_at, rec_inside, runs_on, Needed, decided, IsSound, State, entry_at, reach, answer_of, is_placed, misplacement, outcome, named, words_of, both_ways, behind, tag-has_tag, outcome-leads, inside_runs, rec_there, lent, is_local, unused_tag}
+use Rattle.std.specs.Prelude.{◌⊎◌, Contains}
 use Rattle.std.proofs.lemmas.List.Elements.{All-contains, All-from_recursion}
-use Rattle.std.specs.List.{AllByRecursion}
-use Rattle.rmm_spec.specs.declared.accepted.Accepted.{Accepted}
-use Rattle.rmm_spec.specs.declared.call.Call.{Call}
 use Rattle.rmm_spec.specs.declared.call.Call.TheVariants as call
 use Rattle.rmm_spec.specs.declared.condition.Condition.{Condition}
 use Rattle.rmm_spec.specs.declared.condition.Condition.TheVariants.{GranState, OwnOutside}
-use Rattle.rmm_spec.specs.declared.refusal.Refusal.{Refusal}
-use Rattle.rmm_spec.specs.declared.refusal.Refusal.TheVariants.{Input, Misplaced}
+use Rattle.rmm_spec.specs.declared.refusal.Refusal.TheVariants.{Input}
 use Rattle.rmm_spec.specs.declared.reply.Reply.TheVariants as reply
-use Rattle.rmm_spec.specs.declared.tag.Tag.{Tag}
-use Rattle.rmm_spec.specs.declared.tag.Tag.TheVariants.{Undelegated, Delegated, Rd, Rec}
-use Rattle.rmm_spec.specs.Locks.{is_named}
-use Rattle.rmm_spec.specs.Lookup.{greatest_below, has_rec, has_tag, is_inside, is_vmid_used, no_rec, realm_at, rec_at, rec_inside, runs_on}
-use Rattle.rmm_spec.specs.Rows.{Needed, Row, Word, decided, input_error, inputs, reply_of, tagged}
-use Rattle.rmm_spec.specs.Sound.{IsSound}
-use Rattle.rmm_spec.specs.State.{State}
-use Rattle.rmm_spec.specs.Walk.{entry_at, reach}
-use Rattle.rmm_spec.specs.Step.{answer_by, answer_of, commands, is_placed, misplacement, outcome}
+use Rattle.rmm_spec.specs.Lookup.{greatest_below}
+use Rattle.rmm_spec.specs.Rows.{Row, Word, input_error, inputs, reply_of, tagged}
+use Rattle.rmm_spec.specs.Step.{answer_by, commands}
 use Rattle.rmm_spec.specs.Step.RealmCall.{answer_to_realm, realm_calls, rec_exit}
 use Rattle.rmm_spec.specs.Step.Rec.{rec_enter}
 use Rattle.rmm_spec.specs.Step.Ripas.{rtt_set_ripas}
-use Rattle.rmm_spec.specs.Step.Terms.{Class, ByHost, ByRealm, ByExit, class_of, named, words_of}
-use Rattle.lemmas.proofs.Tests.{both_ways}
-use Rattle.spec_lemmas.proofs.Behind.{behind}
+use Rattle.rmm_spec.specs.Step.Terms.{Class, ByHost, ByRealm, ByExit, class_of}
 use Rattle.spec_lemmas.proofs.Members.{Contains-from_slice_get, passing_member}
-use Rattle.spec_lemmas.proofs.TagLaws.{tag-has_tag}
 use Rattle.rmm_laws.proofs.Applies.{inside_running}
-use Rattle.rmm_laws.proofs.RowLaws.{front-rest, outcome-leads}
-use Rattle.rmm_laws.proofs.Searches.{inside_runs, none_runs, rec_there}
-use Rattle.verdict_laws.specs.Apart.{lent}
+use Rattle.rmm_laws.proofs.RowLaws.{front-rest}
+use Rattle.rmm_laws.proofs.Searches.{none_runs}
 use Rattle.verdict_laws.specs.Ending.{is_ending}
 use Rattle.verdict_laws.specs.Making.{is_making, own_realm, taken_vmid}
-use Rattle.verdict_laws.specs.Separate.{is_local, table_realm}
-use Rattle.verdict_laws.specs.Slices.{changeable, is_by_host, is_hosts, may_change, unused_tag}
+use Rattle.verdict_laws.specs.Separate.{table_realm}
+use Rattle.verdict_laws.specs.Slices.{changeable, is_by_host, is_hosts, may_change}
 use Rattle.verdict_laws.proofs.EndingCalls.{IsFree, own_named, taken_free}
 use Rattle.verdict_laws.proofs.Endings.{AgreeAt, outcome-agree_end}
 use Rattle.verdict_laws.proofs.MakingCalls.{own_made, own_table}

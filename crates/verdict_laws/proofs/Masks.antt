@@ -1,26 +1,13 @@
 -- A change may be made before or after the granules that aren't live are masked.
-use Rattle.std.proofs.Common.{◌≡◌, ℕ, ◌*◌, ◌/◌, ◌==◌, ◌||◌, Bool, true, false, if◌then◌else◌, Option, Some, None, inl, inr, refl, sym, ◌∙◌, ap, eq-eqb, eqb-true}
-use Rattle.std.proofs.lemmas.Bool.{false_from_ne_true, ne_eqb}
-use Rattle.rmm_spec.specs.declared.change.Change.{Change}
-use Rattle.rmm_spec.specs.declared.change.Change.TheVariants.{Unchanged, Retagged, RealmMade, RealmDestroyed, RecMade, RecDestroyed, RecordsChanged, TableMade, TableDestroyed, EntriesChanged}
+use Rattle.verdict_laws.proofs.Common.{◌≡◌, ℕ, ◌*◌, ◌==◌, ◌||◌, Bool, true, false, if◌then◌else◌, Option, Some, None, inl, inr, refl, sym, ◌∙◌, ap, eq-eqb, eqb-true, false_from_ne_true, ne_eqb, Change, Unchanged, Retagged, RealmMade, RealmDestroyed, RecMade, RecDestroyed, RecordsChanged, TableMade, TableDestroyed, EntriesChanged, Replaced, RipasSet, RealmChange, RecChange, TagChange, Entry, Tag, Delegated, Rd, Rec, changed, with_realm_change, with_rec_change, with_tag_change, Config, has_rec, is_vmid_used, realm_at, rec_at, IsSound, RealmRecord, RecRecord, State, opening, both_ways, unused_tag}
+use Rattle.std.proofs.Common.{◌/◌}
 use Rattle.rmm_spec.specs.declared.change.EntryChange.{EntryChange}
-use Rattle.rmm_spec.specs.declared.change.EntryChange.TheVariants.{Replaced, RipasSet}
-use Rattle.rmm_spec.specs.declared.change.RealmChange.{RealmChange}
-use Rattle.rmm_spec.specs.declared.change.RecChange.{RecChange}
-use Rattle.rmm_spec.specs.declared.change.TagChange.{TagChange}
-use Rattle.rmm_spec.specs.declared.entry.Entry.{Entry}
-use Rattle.rmm_spec.specs.declared.tag.Tag.{Tag}
-use Rattle.rmm_spec.specs.declared.tag.Tag.TheVariants.{Delegated, Rd, Rec}
-use Rattle.rmm_spec.specs.Change.{changed, with_entry_change, with_realm_change, with_rec_change, with_tag_change}
-use Rattle.rmm_spec.specs.HistoryText.{Config}
-use Rattle.rmm_spec.specs.Lookup.{any_below, has_rec, has_vmid, is_owned_by, is_vmid_used, realm_at, rec_at}
-use Rattle.rmm_spec.specs.Sound.{IsSound}
-use Rattle.rmm_spec.specs.State.{RealmRecord, RecRecord, State, opening}
-use Rattle.lemmas.proofs.Tests.{both_ways, either, keys_apart}
+use Rattle.rmm_spec.specs.Change.{with_entry_change}
+use Rattle.rmm_spec.specs.Lookup.{any_below, has_vmid, is_owned_by}
+use Rattle.lemmas.proofs.Tests.{either, keys_apart}
 use Rattle.rmm_laws.proofs.Searches.{none_has_vmid}
 use Rattle.rmm_laws.proofs.Tests.{some_value, there}
 use Rattle.rmm_laws.proofs.Ties.{IsUnused, tied-used}
-use Rattle.verdict_laws.specs.Slices.{unused_tag}
 use Rattle.verdict_laws.proofs.SliceTerms.{IsPut, IsRealmPut, IsRecPut, IsTagPut, masked}
 
 -- ---- granules one by one

@@ -1,7 +1,5 @@
 -- One element of a list moved towards its front, and what is said of each element and of each two.
-use Rattle.std.proofs.Common.{◌≡◌, ℕ, zero, suc, ◌<◌, List, [], ◌∷◌, ◌++◌, Some, refl, ap, subst, arith}
-use Rattle.std.specs.List.{slice_get}
-use Rattle.std.proofs.lemmas.Option.{none-some, same_Some}
+use Rattle.verdict_laws.proofs.Common.{◌≡◌, ℕ, zero, suc, ◌<◌, List, [], ◌∷◌, ◌++◌, Some, refl, ap, subst, arith, slice_get, none-some, same_Some}
 
 -- each element
 abbrev pub Each : {X : Type 0} → (X → Type 0) → List X → Type 0

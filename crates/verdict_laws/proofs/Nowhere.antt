@@ -1,18 +1,11 @@
 -- Which lines lead nowhere, and when all that can come next does.
-use Rattle.std.proofs.Common.{◌≡◌, ℕ, ◌+◌, ◌<◌, List, [], ◌∷◌, ◌++◌, inl, inr, length, take, Some, sym, ◌∙◌, ap, subst, arith, append_assoc}
-use Rattle.std.specs.List.{slice_get}
+use Rattle.verdict_laws.proofs.Common.{◌≡◌, ℕ, ◌+◌, ◌<◌, List, [], ◌∷◌, ◌++◌, inl, inr, length, Some, sym, ◌∙◌, ap, subst, arith, append_assoc, slice_get, cases_order, slice_get_within, Line, History, IsHistory, State, opening, IsFinished, IsLinearization, ReturnsBefore, AreEntriesOf, NamesCall, IsOfItsKind, cpu_named, number_named, slice_get-append, HasOnePlaces-from_history, count_of, LeadsNowhere}
+use Rattle.std.proofs.Common.{take}
 use Rattle.std.proofs.Math.Seq.{take-append_seam}
-use Rattle.std.proofs.lemmas.Bool.{cases_order}
-use Rattle.std.proofs.lemmas.Option.{slice_get_within}
 use Rattle.std.proofs.lemmas.List.{append-nil, length-append}
-use Rattle.rmm_spec.specs.declared.line.Line.{Line}
-use Rattle.rmm_spec.specs.HistoryText.{History, IsHistory}
-use Rattle.rmm_spec.specs.State.{State, opening}
-use Rattle.rmm_spec.specs.Linearization.{IsFinished, IsLinearization, ReturnsBefore, AreEntriesOf, NamesCall, IsOfItsKind, cpu_named, number_named}
-use Rattle.lemmas.proofs.Elements.{slice_get_push_cases, slice_get-append, slice_get-push}
-use Rattle.checker.proofs.Judging.{HasOnePlaces-from_history}
+use Rattle.lemmas.proofs.Elements.{slice_get_push_cases, slice_get-push}
 use Rattle.rmm_laws.proofs.EntryRuns.{not-IsRefused}
-use Rattle.verdict_laws.specs.Order.{count_of, Reaches, LeadsNowhere, IsNext, HasOpen, GivesNowhere}
+use Rattle.verdict_laws.specs.Order.{Reaches, IsNext, HasOpen, GivesNowhere}
 use Rattle.verdict_laws.proofs.CallOrder.{call_before_return, finished_before_call, returns_before_later}
 use Rattle.verdict_laws.proofs.Counts.{slice_get-append_cases}
 

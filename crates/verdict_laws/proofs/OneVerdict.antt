@@ -1,16 +1,14 @@
 -- Two texts have one right verdict at most.
-use Rattle.std.proofs.Common.{◌≡◌, ℕ, List, sym, ◌∙◌, ap, subst}
-use Rattle.rmm_spec.specs.declared.line.Line.{Line}
+use Rattle.verdict_laws.proofs.Common.{◌≡◌, ℕ, List, sym, ◌∙◌, ap, subst, Line, History, HasOnePlaces-from_history}
 use Rattle.rmm_spec.specs.declared.verdict.Reason.{Reason}
 use Rattle.rmm_spec.specs.declared.verdict.Verdict.{Verdict}
 use Rattle.rmm_spec.specs.declared.verdict.Verdict.TheVariants as verdict
-use Rattle.rmm_spec.specs.HistoryText.{History, InHistories}
+use Rattle.rmm_spec.specs.HistoryText.{InHistories}
 use Rattle.rmm_spec.specs.CertificateText.{InCertificates}
 use Rattle.rmm_spec.specs.FirstFault.{FirstFault}
 use Rattle.rmm_spec.specs.Judgement.{Judges, JudgesTexts}
 use Rattle.spec_lemmas.proofs.HistoryGrammar.{same_history, not-IsBadLine-history}
 use Rattle.spec_lemmas.proofs.CertificateLines.{same_certificate, not-IsBadLine-certificate}
-use Rattle.checker.proofs.Judging.{HasOnePlaces-from_history}
 use Rattle.checker.proofs.Verdicts.{Judges-valid}
 use Rattle.verdict_laws.proofs.BadLines.{one_bad_line}
 use Rattle.verdict_laws.proofs.OneFault.{SameFaults, one_fault}

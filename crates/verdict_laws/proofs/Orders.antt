@@ -1,24 +1,15 @@
 -- Of each history and order some verdict is right.
-use Rattle.std.proofs.Common.{◌≡◌, ℕ, zero, suc, ◌+◌, ◌<◌, ◌≤◌, ◌⊎◌, inl, inr, List, [], ◌∷◌, ◌++◌, length, take, Option, Some, None, refl, sym, ◌∙◌, ap, subst, arith}
-use Rattle.std.specs.List.{slice_get}
+use Rattle.verdict_laws.proofs.Common.{◌≡◌, ℕ, zero, suc, ◌+◌, ◌<◌, ◌≤◌, ◌⊎◌, inl, inr, List, [], ◌∷◌, ◌++◌, length, Option, Some, None, refl, sym, ◌∙◌, ap, subst, arith, slice_get, none-some, Command, Event, Called, Returned, Line, History, IsHistory, State, opening, IsCalled, IsFinished, IsNamed, HasOnePlaces-from_history}
+use Rattle.std.proofs.Common.{take}
 use Rattle.std.proofs.lemmas.List.{take_all}
-use Rattle.std.proofs.lemmas.Option.{none-some}
-use Rattle.rmm_spec.specs.declared.command.Command.{Command}
-use Rattle.rmm_spec.specs.declared.event.Event.{Event}
-use Rattle.rmm_spec.specs.declared.event.Event.TheVariants.{Called, Returned}
-use Rattle.rmm_spec.specs.declared.line.Line.{Line}
 use Rattle.rmm_spec.specs.declared.verdict.Reason.{Reason}
 use Rattle.rmm_spec.specs.declared.verdict.Reason.TheVariants as reason
 use Rattle.rmm_spec.specs.declared.verdict.Verdict.{Verdict}
 use Rattle.rmm_spec.specs.declared.verdict.Verdict.TheVariants as verdict
-use Rattle.rmm_spec.specs.HistoryText.{History, IsHistory}
-use Rattle.rmm_spec.specs.State.{State, opening}
-use Rattle.rmm_spec.specs.Linearization.{IsCalled, IsFinished, IsNamed}
 use Rattle.rmm_spec.specs.FirstFault.{Passes, FirstFault}
 use Rattle.rmm_spec.specs.Judgement.{JudgesOrder}
 use Rattle.lemmas.proofs.Elements.{take-next_at}
 use Rattle.checker.proofs.Faults.{FirstFault-from_FailsBy, FirstFault-missing, Accepts-from_Passes}
-use Rattle.checker.proofs.Judging.{HasOnePlaces-from_history}
 use Rattle.checker.proofs.Progress.{Passes-nil}
 use Rattle.verdict_laws.proofs.Decisions.{Decided, decided_as, decided_not, decided_both, holds_surely, first_below}
 use Rattle.verdict_laws.proofs.LineFaults.{decided_named, decided_finished, IsJudged, judged_line}

@@ -1,30 +1,15 @@
 -- Pages at entries of the last level: one that a call gives an address is there behind it, stays until a call may replace it or take it back, and is
 -- what is then given back.
-use Rattle.std.proofs.Common.{◌≡◌, ℕ, ◌==◌, ◌&&◌, ◌||◌, Bool, true, false, not, Option, Some, inl, inr, refl, sym, ◌∙◌, ap, eqb-true, eq-eqb, option_map}
+use Rattle.verdict_laws.proofs.Common.{◌≡◌, ℕ, ◌==◌, ◌&&◌, ◌||◌, Bool, true, false, not, Option, Some, inl, inr, refl, sym, ◌∙◌, ap, eqb-true, eq-eqb, and_from, and_parts, cases_Bool, not-true, or_cases, or_left, or_parts, or_right, Call, Command, Entry, Reply, call_of, changed, is_accepted, IsSound, State, Step, outcome, named, entry_number, both_ways, behind, tag-has_tag, step-refuses}
+use Rattle.std.proofs.Common.{option_map}
 use Rattle.std.proofs.Math.Bool.{or-false}
-use Rattle.std.proofs.lemmas.Bool.{and_from, and_parts, cases_Bool, not-true, or_cases, or_left, or_parts, or_right}
-use Rattle.rmm_spec.specs.declared.call.Call.{Call}
 use Rattle.rmm_spec.specs.declared.call.Call.TheVariants as call
-use Rattle.rmm_spec.specs.declared.command.Command.{Command}
-use Rattle.rmm_spec.specs.declared.entry.Entry.{Entry}
 use Rattle.rmm_spec.specs.declared.entry.Entry.TheVariants.{Assigned}
-use Rattle.rmm_spec.specs.declared.reply.Reply.{Reply}
 use Rattle.rmm_spec.specs.declared.tag.Ripas.{Ripas}
 use Rattle.rmm_spec.specs.declared.tag.Ripas.TheVariants.{Ram}
 use Rattle.rmm_spec.specs.declared.tag.Tag.TheVariants.{Data}
-use Rattle.rmm_spec.specs.Call.{call_of}
-use Rattle.rmm_spec.specs.Change.{changed}
-use Rattle.rmm_spec.specs.Ownership.{is_accepted}
-use Rattle.rmm_spec.specs.Sound.{IsSound}
-use Rattle.rmm_spec.specs.State.{State}
-use Rattle.rmm_spec.specs.Step.{Step, outcome}
-use Rattle.rmm_spec.specs.Step.Terms.{named}
 use Rattle.rmm_spec.specs.Update.{entry_with_ripas}
-use Rattle.rmm_spec.specs.Walk.{entry_number, is_unassigned}
-use Rattle.lemmas.proofs.Tests.{both_ways}
-use Rattle.spec_lemmas.proofs.Behind.{behind}
-use Rattle.spec_lemmas.proofs.TagLaws.{tag-has_tag}
-use Rattle.rmm_laws.proofs.StepLaws.{step-refuses}
+use Rattle.rmm_spec.specs.Walk.{is_unassigned}
 use Rattle.verdict_laws.specs.declared.facts.Fact.TheVariants as fact
 use Rattle.verdict_laws.specs.Denying.{denies, is_other_entry, is_refused_with, needs_free, needs_other, reads_entry}
 use Rattle.verdict_laws.specs.Facts.{creates_page, creates_unknown, frees_entry, gives_entry, has_page, is_one_entry, is_tag, may_reshape}

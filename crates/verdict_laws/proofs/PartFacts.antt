@@ -1,44 +1,16 @@
 -- Granules of a realm or of a REC: one that a call takes for it is its part behind that, and is so or Delegated until a call needs it Delegated.
-use Rattle.std.proofs.Common.{◌≡◌, ℕ, ◌==◌, ◌&&◌, ◌||◌, Bool, true, false, not, if◌then◌else◌, IsTrue, Option, Some, None, unwrap_or, inl, inr, refl, sym, ◌∙◌, ap, eqb-true, eq-eqb}
-use Rattle.std.specs.Prelude.{Ok}
-use Rattle.std.proofs.lemmas.Bool.{and_parts, cases_Bool, false_from_ne_true, ne_eqb, not-true, or_cases, or_left, or_right}
-use Rattle.rmm_spec.specs.declared.accepted.Accepted.{Accepted}
-use Rattle.rmm_spec.specs.declared.accepted.Accepted.TheVariants.{Done, Reaches}
-use Rattle.rmm_spec.specs.declared.call.Call.{Call}
+use Rattle.verdict_laws.proofs.Common.{◌≡◌, ℕ, ◌==◌, ◌&&◌, ◌||◌, Bool, true, false, not, if◌then◌else◌, IsTrue, Option, Some, None, inl, inr, refl, sym, ◌∙◌, ap, eqb-true, eq-eqb, Ok, and_parts, cases_Bool, false_from_ne_true, ne_eqb, not-true, or_cases, or_left, or_right, Accepted, Done, Reaches, Call, Change, RealmMade, RealmDestroyed, RecMade, RecDestroyed, RecordsChanged, EntriesChanged, Replaced, RipasSet, RealmChange, RecChange, TagChange, Command, Reply, Tag, Delegated, Rd, Rec, CanApply, call_of, changed, realm_updated, rec_updated, with_realm_change, with_rec_change, has_tag, no_realm, no_rec, realm_at, rec_at, is_accepted, IsSound, RecRecord, State, CarriesOut, Step, outcome, reached_change, both_ways, behind, tag-has_tag, by_address, with_records, step-refuses, Fact, holds}
+use Rattle.std.proofs.Common.{unwrap_or}
 use Rattle.rmm_spec.specs.declared.call.Call.TheVariants as call
-use Rattle.rmm_spec.specs.declared.change.Change.{Change}
-use Rattle.rmm_spec.specs.declared.change.Change.TheVariants.{RealmMade, RealmDestroyed, RecMade, RecDestroyed, RecordsChanged, EntriesChanged}
-use Rattle.rmm_spec.specs.declared.change.EntryChange.TheVariants.{Replaced, RipasSet}
-use Rattle.rmm_spec.specs.declared.change.RealmChange.{RealmChange}
 use Rattle.rmm_spec.specs.declared.change.RealmUpdate.TheVariants.{RecCounted}
-use Rattle.rmm_spec.specs.declared.change.RecChange.{RecChange}
-use Rattle.rmm_spec.specs.declared.change.TagChange.{TagChange}
-use Rattle.rmm_spec.specs.declared.command.Command.{Command}
-use Rattle.rmm_spec.specs.declared.reply.Reply.{Reply}
-use Rattle.rmm_spec.specs.declared.tag.Tag.{Tag}
-use Rattle.rmm_spec.specs.declared.tag.Tag.TheVariants.{Delegated, Rd, Rec}
-use Rattle.rmm_spec.specs.Applicable.{CanApply}
-use Rattle.rmm_spec.specs.Call.{call_of}
-use Rattle.rmm_spec.specs.Change.{changed, realm_updated, rec_updated, with_realm_change, with_rec_change}
-use Rattle.rmm_spec.specs.Lookup.{has_tag, no_realm, no_rec, realm_at, rec_at}
-use Rattle.rmm_spec.specs.Ownership.{is_accepted}
-use Rattle.rmm_spec.specs.Sound.{IsSound}
-use Rattle.rmm_spec.specs.State.{RecRecord, State}
-use Rattle.rmm_spec.specs.Step.{CarriesOut, Step, outcome}
-use Rattle.rmm_spec.specs.Step.Ripas.{reached_change}
 use Rattle.rmm_spec.specs.Update.{with_tag}
-use Rattle.lemmas.proofs.Tests.{both_ways}
-use Rattle.spec_lemmas.proofs.Behind.{behind}
-use Rattle.spec_lemmas.proofs.TagLaws.{tag-has_tag}
 use Rattle.rmm_laws.proofs.Applies.{Applies}
-use Rattle.rmm_laws.proofs.Cases.{by_address, none_of}
-use Rattle.rmm_laws.proofs.Keeps.{IsRecLike, rec_updated-like, with_records}
+use Rattle.rmm_laws.proofs.Cases.{none_of}
+use Rattle.rmm_laws.proofs.Keeps.{IsRecLike, rec_updated-like}
 use Rattle.rmm_laws.proofs.Records.{updated_like}
-use Rattle.rmm_laws.proofs.StepLaws.{step-refuses}
-use Rattle.verdict_laws.specs.declared.facts.Fact.{Fact}
 use Rattle.verdict_laws.specs.declared.facts.Fact.TheVariants.{Tagged, PartOf}
 use Rattle.verdict_laws.specs.Denying.{gives_no_owner}
-use Rattle.verdict_laws.specs.Facts.{has_aux, has_root, holds, is_part, is_tag, needs, takes_part}
+use Rattle.verdict_laws.specs.Facts.{has_aux, has_root, is_part, is_tag, needs, takes_part}
 use Rattle.verdict_laws.specs.Slices.{changeable}
 use Rattle.verdict_laws.proofs.FactSteps.{IsDoneSo, step-has}
 use Rattle.verdict_laws.proofs.TagFacts.{carried_by, tag-from_is_tag, tag-is_tag, tag-left}

@@ -1,19 +1,8 @@
 -- A history with a linearization has one of each first part of its events.
-use Rattle.std.proofs.Common.{◌≡◌, ℕ, zero, suc, List, [], ◌∷◌, ◌++◌, inl, inr, Some, refl, sym, ◌∙◌, ap, subst}
-use Rattle.std.specs.List.{slice_get}
-use Rattle.std.proofs.lemmas.Option.{none-some, same_Some}
-use Rattle.lemmas.proofs.Elements.{slice_get-append, slice_get-take}
-use Rattle.rmm_spec.specs.declared.command.Command.{Command}
-use Rattle.rmm_spec.specs.declared.event.Event.TheVariants.{Called, Returned}
-use Rattle.rmm_spec.specs.declared.line.Line.{Line}
-use Rattle.rmm_spec.specs.declared.line.Line.TheVariants.{Keep, Unfinished}
-use Rattle.rmm_spec.specs.declared.reply.Reply.{Reply}
-use Rattle.rmm_spec.specs.HistoryText.{History, IsHistory}
-use Rattle.rmm_spec.specs.State.{opening}
-use Rattle.rmm_spec.specs.Run.{JournalEntry}
-use Rattle.rmm_spec.specs.Linearization.{IsCalled, IsReturned, IsFinished, IsNamed, IsOfItsKind, NamesCall, NamesSame, ReturnsBefore, IsReplyOf, IsEntryOf, AreEntriesOf, IsLinearization, cpu_named, number_named}
+use Rattle.verdict_laws.proofs.Common.{◌≡◌, ℕ, zero, suc, List, [], ◌∷◌, ◌++◌, inl, inr, Some, refl, sym, ◌∙◌, ap, subst, slice_get, none-some, same_Some, slice_get-append, Command, Called, Returned, Line, Keep, Unfinished, Reply, History, IsHistory, opening, JournalEntry, IsCalled, IsReturned, IsFinished, IsNamed, IsOfItsKind, NamesCall, ReturnsBefore, IsEntryOf, AreEntriesOf, IsLinearization, cpu_named, number_named, HasOnePlaces-from_history}
+use Rattle.lemmas.proofs.Elements.{slice_get-take}
+use Rattle.rmm_spec.specs.Linearization.{NamesSame, IsReplyOf}
 use Rattle.spec_lemmas.proofs.Calls.{same_command, same_given}
-use Rattle.checker.proofs.Judging.{HasOnePlaces-from_history}
 use Rattle.verdict_laws.proofs.Moves.{Each, Pairs, Each-from_places, Pairs-from_places, Each-at, Pairs-at}
 use Rattle.verdict_laws.proofs.Settled.{Apart, Split, in_either, split_run}
 use Rattle.verdict_laws.specs.Parts.{first_part}

@@ -1,22 +1,9 @@
 -- Lines pass each other whose calls have nothing to do with each other.
-use Rattle.std.proofs.Common.{◌≡◌, ℕ, ◌+◌, true, false, List, [], ◌∷◌, ◌++◌, inr, refl, sym, ◌∙◌, ap, subst, arith}
+use Rattle.verdict_laws.proofs.Common.{◌≡◌, ℕ, ◌+◌, true, false, List, [], ◌∷◌, ◌++◌, inr, refl, sym, ◌∙◌, ap, subst, arith, Command, Event, Line, call_of, History, State, opening, IsSound, is_named, named, Step, JournalEntry, IsRun, AreEntriesOf, IsCalled, IsEntryOf, cpu_named, number_named, count_of, is_part}
 use Rattle.lemmas.proofs.Tests.{keys_apart}
-use Rattle.rmm_spec.specs.declared.command.Command.{Command}
-use Rattle.rmm_spec.specs.declared.event.Event.{Event}
-use Rattle.rmm_spec.specs.declared.line.Line.{Line}
-use Rattle.rmm_spec.specs.Call.{call_of}
-use Rattle.rmm_spec.specs.HistoryText.{History}
-use Rattle.rmm_spec.specs.State.{State, opening}
-use Rattle.rmm_spec.specs.Sound.{IsSound}
-use Rattle.rmm_spec.specs.Locks.{is_named}
-use Rattle.rmm_spec.specs.Step.Terms.{named}
-use Rattle.rmm_spec.specs.Step.{Step}
-use Rattle.rmm_spec.specs.Run.{JournalEntry, IsRun}
-use Rattle.rmm_spec.specs.Linearization.{AreEntriesOf, IsCalled, IsEntryOf, cpu_named, number_named}
 use Rattle.rmm_laws.proofs.RunLaws.{run-append}
 use Rattle.rmm_laws.proofs.Runs.{opened_run_sound, step_sound}
-use Rattle.verdict_laws.specs.Order.{count_of}
-use Rattle.verdict_laws.specs.Apart.{is_part, Lends, IsApart, IsCarriedOut, LetsLend, NamesOthers}
+use Rattle.verdict_laws.specs.Apart.{Lends, IsApart, IsCarriedOut, LetsLend, NamesOthers}
 use Rattle.verdict_laws.specs.Beside.{AreBesideLines}
 use Rattle.verdict_laws.specs.Ending.{EndsApartLines, EndsLaterLines, IsLeftAlone}
 use Rattle.verdict_laws.specs.Forward.{AreOpen, Gives, IsKept, Passes}

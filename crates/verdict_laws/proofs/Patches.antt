@@ -1,20 +1,10 @@
 -- Changes of one realm's record, tables and leaves, and of one tag, as functions of each alone. Two that have nothing in common exchange.
-use Rattle.std.proofs.Common.{◌≡◌, ℕ, ◌+◌, ◌/◌, ◌==◌, Bool, true, false, ◌&&◌, if◌then◌else◌, Option, Some, None, refl, sym, ◌∙◌, ap, eqb-true}
-use Rattle.std.specs.Prelude.{nat_le, nat_lt, option_map, unwrap_or}
-use Rattle.rmm_spec.specs.declared.change.Change.{Change}
-use Rattle.rmm_spec.specs.declared.change.Change.TheVariants.{Unchanged, Retagged, RecordsChanged, TableMade, TableDestroyed, EntriesChanged}
+use Rattle.verdict_laws.proofs.Common.{◌≡◌, ℕ, ◌+◌, ◌==◌, Bool, true, false, ◌&&◌, if◌then◌else◌, Option, Some, None, refl, sym, ◌∙◌, ap, eqb-true, unwrap_or, Change, Unchanged, Retagged, RecordsChanged, TableMade, TableDestroyed, EntriesChanged, Replaced, RipasSet, RealmChange, TagChange, Entry, Tag, Delegated, Rtt, State, RealmRecord, changed, realm_updated, with_tag_change, with_realm_change, no_realm, realm_at, both_ways}
+use Rattle.std.proofs.Common.{◌/◌}
+use Rattle.std.specs.Prelude.{nat_le, nat_lt, option_map}
 use Rattle.rmm_spec.specs.declared.change.EntryChange.{EntryChange}
-use Rattle.rmm_spec.specs.declared.change.EntryChange.TheVariants.{Replaced, RipasSet}
-use Rattle.rmm_spec.specs.declared.change.RealmChange.{RealmChange}
-use Rattle.rmm_spec.specs.declared.change.TagChange.{TagChange}
-use Rattle.rmm_spec.specs.declared.entry.Entry.{Entry}
-use Rattle.rmm_spec.specs.declared.tag.Tag.{Tag}
-use Rattle.rmm_spec.specs.declared.tag.Tag.TheVariants.{Delegated, Rtt}
-use Rattle.rmm_spec.specs.State.{State, RealmRecord}
 use Rattle.rmm_spec.specs.Update.{is_same_entry, is_same_table, entry_with_ripas}
-use Rattle.rmm_spec.specs.Change.{changed, realm_updated, with_tag_change, with_realm_change, with_entry_change}
-use Rattle.rmm_spec.specs.Lookup.{no_realm, realm_at}
-use Rattle.lemmas.proofs.Tests.{both_ways}
+use Rattle.rmm_spec.specs.Change.{with_entry_change}
 
 -- ---- patches
 

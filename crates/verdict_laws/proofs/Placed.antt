@@ -1,27 +1,14 @@
 -- What a call is replied is given where its CPU is, and an exit says why its REC leaves.
-use Rattle.std.proofs.Common.{◌≡◌, ℕ, Bool, true, false, not, if◌then◌else◌, List, [], ◌∷◌, Option, Some, None, take, refl, sym, ◌∙◌, ap, subst, eq-eqb}
-use Rattle.std.specs.Prelude.{Err}
-use Rattle.std.proofs.lemmas.Bool.{and_from}
-use Rattle.rmm_spec.specs.declared.call.Call.{Call}
+use Rattle.verdict_laws.proofs.Common.{◌≡◌, ℕ, Bool, true, false, not, if◌then◌else◌, List, [], ◌∷◌, Option, Some, None, refl, sym, ◌∙◌, ap, subst, eq-eqb, Err, and_from, Call, Command, Line, Misplaced, Reply, call_of, class_of, History, IsHistory, is_inside, rec_at, rec_inside, request_of, IsCalled, IsReturned, IsSound, State, CarriesOut, Step, answer_of, is_placed, misplacement, outcome, named, words_of, both_ways, LeadsNowhere, count_of}
+use Rattle.std.proofs.Common.{take}
 use Rattle.rmm_spec.specs.declared.call.Call.TheVariants as call
-use Rattle.rmm_spec.specs.declared.command.Command.{Command}
-use Rattle.rmm_spec.specs.declared.line.Line.{Line}
-use Rattle.rmm_spec.specs.declared.refusal.Refusal.TheVariants.{Misplaced}
-use Rattle.rmm_spec.specs.declared.reply.Reply.{Reply}
 use Rattle.rmm_spec.specs.declared.reply.Reply.TheVariants as reply
-use Rattle.rmm_spec.specs.Call.{Class, call_of, class_of}
-use Rattle.rmm_spec.specs.HistoryText.{History, IsHistory}
-use Rattle.rmm_spec.specs.Lookup.{is_inside, rec_at, rec_inside, request_of, ripas_number}
-use Rattle.rmm_spec.specs.Linearization.{IsCalled, IsReturned}
-use Rattle.rmm_spec.specs.Sound.{IsSound}
-use Rattle.rmm_spec.specs.State.{HostCall, Pending, Psci, Request, RipasChange, State}
-use Rattle.rmm_spec.specs.Step.{CarriesOut, Step, answer_of, is_placed, misplacement, outcome}
+use Rattle.rmm_spec.specs.Call.{Class}
+use Rattle.rmm_spec.specs.Lookup.{ripas_number}
+use Rattle.rmm_spec.specs.State.{HostCall, Pending, Psci, Request, RipasChange}
 use Rattle.rmm_spec.specs.Step.RealmCall.{exit_words, rec_exit}
-use Rattle.rmm_spec.specs.Step.Terms.{named, words_of}
-use Rattle.lemmas.proofs.Tests.{both_ways}
 use Rattle.spec_lemmas.proofs.HistoryGrammar.{IsHistory-take}
 use Rattle.rmm_laws.proofs.Runs.{step_sound}
-use Rattle.verdict_laws.specs.Order.{LeadsNowhere, count_of}
 use Rattle.verdict_laws.specs.Parts.{first_part}
 use Rattle.verdict_laws.specs.Placing.{StandsBefore, are_words, is_given, may_be_replied, reports, says_why}
 use Rattle.verdict_laws.specs.Replying.{may_answer}

@@ -1,33 +1,20 @@
 -- Entries of the last level that are unassigned RAM: one that RTT_INIT_RIPAS makes so is so behind it, stays so until a call may replace it or set
 -- its RIPAS, and isn't refused to be given a page.
-use Rattle.std.proofs.Common.{◌≡◌, ℕ, ◌+◌, ◌-◌, ◌*◌, ◌/◌, ◌%◌, ◌<◌, ◌≤◌, ◌==◌, ◌&&◌, ◌||◌, nat_le, nat_lt, suc, true, false, not, IsTrue, Option, Some, is_some, refl, sym, ◌∙◌, ap, subst, eqb-true, eq-eqb, arith, option_map}
-use Rattle.std.proofs.lemmas.Bool.{and_parts, le-leb, leb-true, lt-ltb, ltb-true, not-true, or_parts}
+use Rattle.verdict_laws.proofs.Common.{◌≡◌, ℕ, ◌+◌, ◌-◌, ◌*◌, ◌<◌, ◌≤◌, ◌==◌, ◌&&◌, ◌||◌, nat_le, nat_lt, suc, true, false, not, IsTrue, Option, Some, is_some, refl, sym, ◌∙◌, ap, subst, eqb-true, eq-eqb, arith, and_parts, not-true, or_parts, Call, Command, Entry, Reply, Rd, call_of, changed, has_tag, realm_at, is_accepted, IsSound, State, Step, outcome, IsReached, reached_change, entry_at, entry_number, reach, both_ways, behind, realm_there}
+use Rattle.std.proofs.Common.{◌/◌, ◌%◌, option_map}
+use Rattle.std.proofs.lemmas.Bool.{le-leb, leb-true, lt-ltb, ltb-true}
 use Rattle.rmm_spec.specs.declared.accepted.StretchUse.{StretchUse}
 use Rattle.rmm_spec.specs.declared.accepted.StretchUse.TheVariants.{Init}
-use Rattle.rmm_spec.specs.declared.call.Call.{Call}
 use Rattle.rmm_spec.specs.declared.call.Call.TheVariants as call
-use Rattle.rmm_spec.specs.declared.command.Command.{Command}
-use Rattle.rmm_spec.specs.declared.entry.Entry.{Entry}
 use Rattle.rmm_spec.specs.declared.entry.Entry.TheVariants.{Unassigned}
-use Rattle.rmm_spec.specs.declared.reply.Reply.{Reply}
 use Rattle.rmm_spec.specs.declared.tag.Ripas.TheVariants.{Ram}
-use Rattle.rmm_spec.specs.declared.tag.Tag.TheVariants.{Rd}
 use Rattle.rmm_spec.specs.Applicable.{CanSetRipas}
-use Rattle.rmm_spec.specs.Call.{call_of}
-use Rattle.rmm_spec.specs.Change.{changed}
-use Rattle.rmm_spec.specs.Lookup.{has_tag, realm_at}
-use Rattle.rmm_spec.specs.Ownership.{is_accepted}
-use Rattle.rmm_spec.specs.Sound.{IsLeafOf, IsSound}
-use Rattle.rmm_spec.specs.State.{State}
-use Rattle.rmm_spec.specs.Step.{Step, outcome}
-use Rattle.rmm_spec.specs.Step.Ripas.{IsReached, can_be_set, reached_change}
+use Rattle.rmm_spec.specs.Sound.{IsLeafOf}
+use Rattle.rmm_spec.specs.Step.Ripas.{can_be_set}
 use Rattle.rmm_spec.specs.Update.{entry_with_ripas}
-use Rattle.rmm_spec.specs.Walk.{entry_at, entry_number, entry_size, half, is_assigned, is_multiple, is_table, reach, table_size}
-use Rattle.lemmas.proofs.Tests.{both_ways}
-use Rattle.spec_lemmas.proofs.Behind.{behind}
+use Rattle.rmm_spec.specs.Walk.{entry_size, half, is_assigned, is_multiple, is_table, table_size}
 use Rattle.spec_lemmas.proofs.WalkLaws.{reach-le}
 use Rattle.rmm_laws.proofs.Entries.{leaf_there}
-use Rattle.rmm_laws.proofs.Searches.{realm_there}
 use Rattle.verdict_laws.specs.Denying.{is_refused_with}
 use Rattle.verdict_laws.specs.Facts.{creates_page, creates_unknown, frees_entry, is_free, is_free_ram, is_told_past, may_assign, may_reshape, may_set_ripas, sets_ram}
 use Rattle.verdict_laws.proofs.EntryChanges.{leaf-left, leaf_found, leaf_reached}

@@ -1,14 +1,6 @@
 -- The next line of a linearization names the next call of its CPU, so that each first part of the lines reaches its state.
-use Rattle.std.proofs.Common.{◌≡◌, ℕ, List, [], ◌∷◌, ◌++◌, inl, inr, length, sym, subst, arith}
-use Rattle.std.proofs.lemmas.Bool.{cases_order}
-use Rattle.rmm_spec.specs.declared.command.Command.{Command}
-use Rattle.rmm_spec.specs.declared.line.Line.{Line}
-use Rattle.rmm_spec.specs.HistoryText.{History, IsHistory}
-use Rattle.rmm_spec.specs.State.{State}
-use Rattle.rmm_spec.specs.Step.{Step}
-use Rattle.rmm_spec.specs.Run.{JournalEntry}
-use Rattle.rmm_spec.specs.Linearization.{IsCalled, IsReturned, IsEntryOf, IsLinearization, cpu_named, number_named}
-use Rattle.verdict_laws.specs.Order.{count_of, IsNext, Reaches, ReturnBehind}
+use Rattle.verdict_laws.proofs.Common.{◌≡◌, ℕ, List, [], ◌∷◌, ◌++◌, inl, inr, length, sym, subst, arith, cases_order, Command, Line, History, IsHistory, State, Step, JournalEntry, IsCalled, IsReturned, IsEntryOf, IsLinearization, cpu_named, number_named, count_of}
+use Rattle.verdict_laws.specs.Order.{IsNext, Reaches, ReturnBehind}
 use Rattle.verdict_laws.proofs.Steps.{apart_places}
 use Rattle.verdict_laws.proofs.Growth.{Reaches-push}
 use Rattle.verdict_laws.proofs.Nowhere.{line_stands, nowhere_past, nowhere_unless}

@@ -1,23 +1,18 @@
 -- What parts can spell is read back from them, so that a text stands for nothing but what is read from it.
-use Rattle.std.proofs.Common.{◌≡◌, ℕ, zero, suc, ◌+◌, ◌-◌, ◌*◌, ◌≤◌, ◌==◌, if◌then◌else◌, nat_lt, List, [], ◌∷◌, map, get_or, drop, refl, ap, ◌∙◌, arith, lit≤}
+use Rattle.verdict_laws.proofs.Common.{◌≡◌, ℕ, zero, suc, ◌+◌, ◌-◌, ◌*◌, ◌≤◌, ◌==◌, if◌then◌else◌, nat_lt, List, [], ◌∷◌, map, refl, ap, ◌∙◌, arith, Command, Event, Called, Returned, Line, Keep, Unfinished, Reply, Config}
+use Rattle.std.proofs.Common.{get_or, drop, lit≤}
 use Rattle.std.specs.Int.Digits.{number_from_digits, digits_of}
 use Rattle.std.proofs.lemmas.Bool.Decides.{nat_tests}
 use Rattle.std.proofs.lemmas.Int.Digits.{number_digits_of, number_push}
-use Rattle.rmm_spec.specs.declared.command.Command.{Command}
-use Rattle.rmm_spec.specs.declared.event.Event.{Event}
-use Rattle.rmm_spec.specs.declared.event.Event.TheVariants.{Called, Returned}
 use Rattle.rmm_spec.specs.declared.function_id.FunctionId.{FunctionId}
 use Rattle.rmm_spec.specs.declared.function_id.FunctionId.TheVariants.{GranuleDelegate}
-use Rattle.rmm_spec.specs.declared.line.Line.{Line}
-use Rattle.rmm_spec.specs.declared.line.Line.TheVariants.{Keep, Unfinished}
-use Rattle.rmm_spec.specs.declared.reply.Reply.{Reply}
 use Rattle.rmm_spec.specs.declared.reply.Reply.TheVariants as reply
 use Rattle.rmm_spec.specs.CertificateText.{line_parts}
 use Rattle.rmm_spec.specs.CommandText.{command_parts, reply_parts}
 use Rattle.rmm_spec.specs.Function.{number_of}
 use Rattle.rmm_spec.specs.declared.version.Version.{Version}
 use Rattle.rmm_spec.specs.declared.version.Version.TheVariants.{One, Two, Large}
-use Rattle.rmm_spec.specs.HistoryText.{Config, mark, config_parts, event_parts}
+use Rattle.rmm_spec.specs.HistoryText.{mark, config_parts, event_parts}
 use Rattle.rmm_spec.specs.Text.{glyph, numeral, decimal, word, fixed_hex}
 use Rattle.spec_lemmas.proofs.Texts.{numeral_some, numeral-zero, function_numbered}
 

@@ -1,27 +1,9 @@
 -- Realms, by any test of their record that no update of it changes: one that meets it does so until the realm is made or destroyed.
-use Rattle.std.proofs.Common.{◌≡◌, ℕ, ◌==◌, if◌then◌else◌, Bool, true, false, Option, Some, None, refl, sym, ◌∙◌, ap}
-use Rattle.std.specs.Prelude.{unwrap_or}
-use Rattle.rmm_spec.specs.declared.call.Call.{Call}
+use Rattle.verdict_laws.proofs.Common.{◌≡◌, ℕ, ◌==◌, if◌then◌else◌, Bool, true, false, Option, Some, None, refl, sym, ◌∙◌, ap, unwrap_or, Call, Change, RealmMade, RealmDestroyed, RecMade, RecordsChanged, EntriesChanged, Replaced, RipasSet, RealmChange, RecChange, TagChange, Command, Reply, call_of, changed, realm_updated, with_realm_change, with_tag_change, no_realm, realm_at, RealmRecord, State, Step, reached_change, behind, by_address, with_records}
 use Rattle.rmm_spec.specs.declared.call.Call.TheVariants as call
-use Rattle.rmm_spec.specs.declared.change.Change.{Change}
-use Rattle.rmm_spec.specs.declared.change.Change.TheVariants.{RealmMade, RealmDestroyed, RecMade, RecordsChanged, EntriesChanged}
-use Rattle.rmm_spec.specs.declared.change.EntryChange.TheVariants.{Replaced, RipasSet}
-use Rattle.rmm_spec.specs.declared.change.RealmChange.{RealmChange}
 use Rattle.rmm_spec.specs.declared.change.RealmUpdate.{RealmUpdate}
 use Rattle.rmm_spec.specs.declared.change.RealmUpdate.TheVariants as realm_update
-use Rattle.rmm_spec.specs.declared.change.RecChange.{RecChange}
-use Rattle.rmm_spec.specs.declared.change.TagChange.{TagChange}
-use Rattle.rmm_spec.specs.declared.command.Command.{Command}
-use Rattle.rmm_spec.specs.declared.reply.Reply.{Reply}
-use Rattle.rmm_spec.specs.Call.{call_of}
-use Rattle.rmm_spec.specs.Change.{changed, realm_updated, with_realm_change, with_tag_change}
-use Rattle.rmm_spec.specs.Lookup.{no_realm, realm_at}
-use Rattle.rmm_spec.specs.State.{RealmRecord, State}
-use Rattle.rmm_spec.specs.Step.{Step}
-use Rattle.rmm_spec.specs.Step.Ripas.{reached_change}
-use Rattle.spec_lemmas.proofs.Behind.{behind}
-use Rattle.rmm_laws.proofs.Cases.{by_address}
-use Rattle.rmm_laws.proofs.Keeps.{rec_change-rest, tag_change-rest, with_records}
+use Rattle.rmm_laws.proofs.Keeps.{rec_change-rest, tag_change-rest}
 use Rattle.verdict_laws.specs.Facts.{may_narrow}
 use Rattle.verdict_laws.proofs.FactSteps.{IsDoneSo, step-has}
 

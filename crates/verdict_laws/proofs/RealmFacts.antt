@@ -1,30 +1,12 @@
 -- Realms that aren't activated: what a call makes so is so behind it, stays so but by its activation, and refuses no call that needs it.
-use Rattle.std.proofs.Common.{◌≡◌, ℕ, ◌==◌, ◌&&◌, if◌then◌else◌, Bool, true, false, not, Option, Some, None, refl, sym, ◌∙◌, ap, eqb-true}
-use Rattle.std.specs.Prelude.{unwrap_or}
-use Rattle.std.proofs.lemmas.Bool.{and_from, eq-eqb, false_from_ne_true}
-use Rattle.rmm_spec.specs.declared.call.Call.{Call}
+use Rattle.verdict_laws.proofs.Common.{◌≡◌, ℕ, ◌==◌, ◌&&◌, if◌then◌else◌, Bool, true, false, not, Option, Some, None, refl, sym, ◌∙◌, ap, eqb-true, unwrap_or, and_from, false_from_ne_true, Call, Change, RealmMade, RealmDestroyed, RecMade, RecordsChanged, EntriesChanged, Replaced, RipasSet, RealmChange, RecChange, TagChange, Command, Reply, call_of, changed, realm_updated, with_realm_change, with_tag_change, no_realm, realm_at, is_accepted, RealmRecord, State, Step, reached_change, both_ways, behind, by_address, with_records}
+use Rattle.std.proofs.lemmas.Bool.{eq-eqb}
 use Rattle.rmm_spec.specs.declared.call.Call.TheVariants as call
-use Rattle.rmm_spec.specs.declared.change.Change.{Change}
-use Rattle.rmm_spec.specs.declared.change.Change.TheVariants.{RealmMade, RealmDestroyed, RecMade, RecordsChanged, EntriesChanged}
-use Rattle.rmm_spec.specs.declared.change.EntryChange.TheVariants.{Replaced, RipasSet}
-use Rattle.rmm_spec.specs.declared.change.RealmChange.{RealmChange}
 use Rattle.rmm_spec.specs.declared.change.RealmUpdate.{RealmUpdate}
 use Rattle.rmm_spec.specs.declared.change.RealmUpdate.TheVariants as realm_update
-use Rattle.rmm_spec.specs.declared.change.RecChange.{RecChange}
-use Rattle.rmm_spec.specs.declared.change.TagChange.{TagChange}
-use Rattle.rmm_spec.specs.declared.command.Command.{Command}
-use Rattle.rmm_spec.specs.declared.reply.Reply.{Reply}
-use Rattle.rmm_spec.specs.Call.{call_of}
-use Rattle.rmm_spec.specs.Change.{changed, new_realm, realm_updated, with_realm_change, with_tag_change}
-use Rattle.rmm_spec.specs.Lookup.{is_new, no_realm, realm_at}
-use Rattle.rmm_spec.specs.Ownership.{is_accepted}
-use Rattle.rmm_spec.specs.State.{RealmRecord, State}
-use Rattle.rmm_spec.specs.Step.{Step}
-use Rattle.rmm_spec.specs.Step.Ripas.{reached_change}
-use Rattle.lemmas.proofs.Tests.{both_ways}
-use Rattle.spec_lemmas.proofs.Behind.{behind}
-use Rattle.rmm_laws.proofs.Cases.{by_address}
-use Rattle.rmm_laws.proofs.Keeps.{rec_change-rest, tag_change-rest, with_records}
+use Rattle.rmm_spec.specs.Change.{new_realm}
+use Rattle.rmm_spec.specs.Lookup.{is_new}
+use Rattle.rmm_laws.proofs.Keeps.{rec_change-rest, tag_change-rest}
 use Rattle.verdict_laws.specs.Denying.{is_refused_with, needs_new}
 use Rattle.verdict_laws.specs.Facts.{is_still_new, makes_realm, may_activate}
 use Rattle.verdict_laws.proofs.FactSteps.{IsDoneSo, are_told, step-has, step-untold}

@@ -1,34 +1,8 @@
 -- RECs, by any test of their record that none meets where none is: one that meets it does so until it is destroyed, or its record is updated so that
 -- it doesn't.
-use Rattle.std.proofs.Common.{◌≡◌, ℕ, ◌==◌, true, false, Bool, Option, Some, None, IsTrue, if◌then◌else◌, is_some, refl, sym, ◌∙◌, ap, inl, inr}
-use Rattle.std.specs.Prelude.{Ok, unwrap_or}
-use Rattle.std.proofs.lemmas.Bool.{cases_Bool}
-use Rattle.rmm_spec.specs.declared.accepted.Accepted.{Accepted}
-use Rattle.rmm_spec.specs.declared.accepted.Accepted.TheVariants.{Done, Reaches}
-use Rattle.rmm_spec.specs.declared.change.Change.{Change}
-use Rattle.rmm_spec.specs.declared.change.Change.TheVariants.{RecMade, RecDestroyed, RecordsChanged, EntriesChanged}
-use Rattle.rmm_spec.specs.declared.change.EntryChange.TheVariants.{Replaced, RipasSet}
-use Rattle.rmm_spec.specs.declared.change.RealmChange.{RealmChange}
-use Rattle.rmm_spec.specs.declared.change.RecChange.{RecChange}
-use Rattle.rmm_spec.specs.declared.change.TagChange.{TagChange}
-use Rattle.rmm_spec.specs.declared.command.Command.{Command}
-use Rattle.rmm_spec.specs.declared.reply.Reply.{Reply}
-use Rattle.rmm_spec.specs.declared.tag.Tag.TheVariants.{Delegated, Rec}
-use Rattle.rmm_spec.specs.Applicable.{CanApply}
-use Rattle.rmm_spec.specs.Call.{call_of, class_of}
-use Rattle.rmm_spec.specs.Change.{changed, new_rec, rec_updated, with_realm_change, with_rec_change, with_tag_change}
-use Rattle.rmm_spec.specs.Lookup.{has_tag, no_rec, rec_at}
-use Rattle.rmm_spec.specs.Ownership.{is_accepted}
-use Rattle.rmm_spec.specs.Sound.{IsSound}
-use Rattle.rmm_spec.specs.State.{RecRecord, State}
-use Rattle.rmm_spec.specs.Step.{CarriesOut, Step, is_placed, outcome}
-use Rattle.rmm_spec.specs.Step.Ripas.{IsReached, reached_change}
-use Rattle.lemmas.proofs.Tests.{both_ways}
-use Rattle.spec_lemmas.proofs.Behind.{behind}
+use Rattle.verdict_laws.proofs.Common.{◌≡◌, ℕ, ◌==◌, true, false, Bool, Option, Some, None, IsTrue, if◌then◌else◌, is_some, refl, sym, ◌∙◌, ap, inl, inr, Ok, unwrap_or, cases_Bool, Accepted, Done, Reaches, Change, RecMade, RecDestroyed, RecordsChanged, EntriesChanged, Replaced, RipasSet, RealmChange, RecChange, TagChange, Command, Reply, Delegated, Rec, CanApply, call_of, class_of, changed, new_rec, rec_updated, with_realm_change, with_rec_change, with_tag_change, has_tag, no_rec, rec_at, is_accepted, IsSound, RecRecord, State, CarriesOut, Step, is_placed, outcome, IsReached, reached_change, both_ways, behind, by_address, with_records, step-refuses}
 use Rattle.rmm_laws.proofs.Applies.{Applies}
-use Rattle.rmm_laws.proofs.Cases.{by_address}
-use Rattle.rmm_laws.proofs.Keeps.{realm_change-rest, tag_change-rest, with_records}
-use Rattle.rmm_laws.proofs.StepLaws.{step-refuses}
+use Rattle.rmm_laws.proofs.Keeps.{realm_change-rest, tag_change-rest}
 use Rattle.rmm_laws.proofs.Tags.{has_tag-other}
 use Rattle.verdict_laws.proofs.SliceOwners.{rec_replaced}
 use Rattle.verdict_laws.proofs.TagFacts.{carried_by}

@@ -1,34 +1,20 @@
 -- RECs: whose one is, whether it can run, and what it asks for while it runs on no CPU. What a call makes so stays so until another may end it, and
 -- isn't denied.
-use Rattle.std.proofs.Common.{◌≡◌, ℕ, ◌==◌, ◌&&◌, ◌||◌, true, false, Bool, Option, Some, None, IsTrue, is_some, refl, sym, ◌∙◌, ap, eqb-true, eq-eqb, arith, inl, inr}
-use Rattle.std.specs.Prelude.{is_none, nat_le, nat_lt, unwrap_or}
-use Rattle.std.proofs.lemmas.Bool.{and_from, and_parts, cases_Bool, false_from_ne_true, le-leb, ltb-true, or_cases, or_parts, or_right}
-use Rattle.rmm_spec.specs.declared.call.Call.{Call}
+use Rattle.verdict_laws.proofs.Common.{◌≡◌, ℕ, ◌==◌, ◌&&◌, ◌||◌, true, false, Bool, Option, Some, None, IsTrue, is_some, refl, sym, ◌∙◌, ap, eqb-true, eq-eqb, arith, inl, inr, is_none, unwrap_or, and_from, and_parts, cases_Bool, false_from_ne_true, or_cases, or_parts, or_right, Call, Command, Reply, call_of, class_of, changed, rec_updated, is_inside, no_rec, rec_at, rec_inside, request_of, runs_on, is_accepted, IsSound, RecRecord, State, Step, is_placed, outcome, reached_change, both_ways, behind, inside_runs, step-refuses, Fact, holds}
+use Rattle.std.specs.Prelude.{nat_le, nat_lt}
+use Rattle.std.proofs.lemmas.Bool.{le-leb, ltb-true}
 use Rattle.rmm_spec.specs.declared.call.Call.TheVariants as call
 use Rattle.rmm_spec.specs.declared.change.RecUpdate.{RecUpdate}
 use Rattle.rmm_spec.specs.declared.change.RecUpdate.TheVariants.{Entered, Exited, HostCalled, RequestMoved, RipasRequested, SystemTurnedOff, TurnedOff}
-use Rattle.rmm_spec.specs.declared.command.Command.{Command}
-use Rattle.rmm_spec.specs.declared.reply.Reply.{Reply}
-use Rattle.rmm_spec.specs.Call.{call_of, class_of}
-use Rattle.rmm_spec.specs.Change.{changed, rec_updated}
-use Rattle.rmm_spec.specs.Lookup.{is_inside, no_rec, no_request, rec_at, rec_inside, request_of, ripas_number, runs_on}
-use Rattle.rmm_spec.specs.Ownership.{is_accepted}
-use Rattle.rmm_spec.specs.Sound.{IsSound}
-use Rattle.rmm_spec.specs.State.{HostCall, Pending, Psci, RecRecord, Request, RipasChange, State}
-use Rattle.rmm_spec.specs.Step.{Step, is_placed, outcome}
+use Rattle.rmm_spec.specs.Lookup.{no_request, ripas_number}
+use Rattle.rmm_spec.specs.State.{HostCall, Pending, Psci, Request, RipasChange}
 use Rattle.rmm_spec.specs.Step.RealmCall.{ripas_asked}
-use Rattle.rmm_spec.specs.Step.Ripas.{reached_change}
-use Rattle.lemmas.proofs.Tests.{both_ways}
-use Rattle.spec_lemmas.proofs.Behind.{behind}
-use Rattle.rmm_laws.proofs.Searches.{inside_runs}
-use Rattle.rmm_laws.proofs.StepLaws.{step-refuses}
-use Rattle.verdict_laws.specs.declared.facts.Fact.{Fact}
 use Rattle.verdict_laws.specs.declared.facts.Fact.TheVariants.{AsksFrom, RunsOrAsksTo, Idle, RunsOrAsksWithin}
 use Rattle.verdict_laws.specs.declared.placing.ExitReason.{ExitReason}
 use Rattle.verdict_laws.specs.declared.placing.ExitReason.TheVariants as exit_reason
 use Rattle.verdict_laws.specs.declared.placing.Standing.{Standing}
 use Rattle.verdict_laws.specs.declared.placing.Standing.TheVariants.{Inside}
-use Rattle.verdict_laws.specs.Facts.{asks_from, can_run, destroys, enters, has_owner, holds, is_idle, is_left_with, is_told, is_up_to, is_within, leaves_with, makes_owned, makes_rec, makes_runnable, moves_request, runs_or_asks, runs_or_asks_to, sets_from, turns_off}
+use Rattle.verdict_laws.specs.Facts.{asks_from, can_run, destroys, enters, has_owner, is_idle, is_left_with, is_told, is_up_to, is_within, leaves_with, makes_owned, makes_rec, makes_runnable, moves_request, runs_or_asks, runs_or_asks_to, sets_from, turns_off}
 use Rattle.verdict_laws.proofs.RecChanges.{StaysDone, met_record, rec-kept}
 use Rattle.verdict_laws.proofs.Spared.{runs_on-read}
 use Rattle.verdict_laws.proofs.SparedCalls.{idle_elsewhere}

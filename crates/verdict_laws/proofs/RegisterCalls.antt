@@ -1,18 +1,8 @@
 -- A CPU has one open call, what a line's call does to a register is determined, and so is what lines come to from a value.
-use Rattle.std.proofs.Common.{◌≡◌, ℕ, zero, suc, ◌<◌, Bool, inl, inr, List, [], ◌∷◌, ◌++◌, Option, sym, ◌∙◌, ap, subst, arith}
-use Rattle.std.proofs.lemmas.Bool.{cases_order}
-use Rattle.rmm_spec.specs.declared.command.Command.{Command}
-use Rattle.rmm_spec.specs.declared.event.Event.{Event}
-use Rattle.rmm_spec.specs.declared.line.Line.{Line}
-use Rattle.rmm_spec.specs.declared.measurement.Measurement.{Measurement}
-use Rattle.rmm_spec.specs.declared.reply.Reply.{Reply}
-use Rattle.rmm_spec.specs.Call.{call_of}
-use Rattle.rmm_spec.specs.HistoryText.{History, IsHistory}
-use Rattle.rmm_spec.specs.Linearization.{IsCalled, IsReturned, cpu_named, number_named}
+use Rattle.verdict_laws.proofs.Common.{◌≡◌, ℕ, zero, suc, ◌<◌, Bool, inl, inr, List, [], ◌∷◌, ◌++◌, Option, sym, ◌∙◌, ap, subst, arith, cases_order, Command, Event, Line, Measurement, Reply, call_of, History, IsHistory, IsCalled, IsReturned, cpu_named, number_named, HasOnePlaces-from_history, Register}
 use Rattle.spec_lemmas.proofs.Calls.{same_command, same_given, same_reply}
 use Rattle.spec_lemmas.proofs.Places.{call_is_event}
-use Rattle.checker.proofs.Judging.{HasOnePlaces-from_history}
-use Rattle.verdict_laws.specs.Registers.{Does, IsDone, IsEntered, IsOpenCall, IsRegisterRun, Register, RegisterCall, done_call, entered_after, value_after}
+use Rattle.verdict_laws.specs.Registers.{Does, IsDone, IsEntered, IsOpenCall, IsRegisterRun, RegisterCall, done_call, entered_after, value_after}
 use Rattle.verdict_laws.proofs.CallOrder.{call_before_return, returns_before_later}
 
 -- one run behind another

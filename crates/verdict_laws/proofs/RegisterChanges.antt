@@ -1,33 +1,21 @@
 -- What each kind of change leaves of what is known of a register: of the RECs, and of its realm.
-use Rattle.std.proofs.Common.{◌≡◌, ℕ, ◌-◌, ◌≤◌, ◌==◌, ◌&&◌, if◌then◌else◌, Bool, true, false, IsTrue, List, [], Option, Some, None, length, refl, sym, ◌∙◌, ap, arith, inl, inr}
+use Rattle.verdict_laws.proofs.Common.{◌≡◌, ℕ, ◌-◌, ◌≤◌, ◌==◌, ◌&&◌, if◌then◌else◌, Bool, true, false, IsTrue, List, [], Option, Some, None, length, refl, sym, ◌∙◌, ap, arith, inl, inr, ne_eqb, both_ways, Change, RealmMade, RealmDestroyed, RecMade, RecDestroyed, RecordsChanged, EntriesChanged, Replaced, RipasSet, RealmChange, RecChange, TagChange, Measurement, Rd, CanApply, changed, realm_updated, rec_updated, with_tag_change, with_realm_change, with_rec_change, has_tag, realm_at, rec_at, IsSound, RealmRecord, RecRecord, State, with_records, realm_there, rec_there, Register}
 use Rattle.std.specs.Prelude.{option_map, slice_index_or, slice_set, take}
-use Rattle.std.proofs.lemmas.Bool.{eq-eqb, eqb-true, ne_eqb}
+use Rattle.std.proofs.lemmas.Bool.{eq-eqb, eqb-true}
 use Rattle.std.proofs.lemmas.List.{get_or-replicate, get_or-set_same, get_or-set_other}
-use Rattle.lemmas.proofs.Tests.{both_ways}
-use Rattle.rmm_spec.specs.declared.change.Change.{Change}
-use Rattle.rmm_spec.specs.declared.change.Change.TheVariants.{RealmMade, RealmDestroyed, RecMade, RecDestroyed, RecordsChanged, EntriesChanged}
-use Rattle.rmm_spec.specs.declared.change.EntryChange.TheVariants.{Replaced, RipasSet}
-use Rattle.rmm_spec.specs.declared.change.RealmChange.{RealmChange}
 use Rattle.rmm_spec.specs.declared.change.RealmUpdate.{RealmUpdate}
 use Rattle.rmm_spec.specs.declared.change.RealmUpdate.TheVariants as realm_update
-use Rattle.rmm_spec.specs.declared.change.RecChange.{RecChange}
 use Rattle.rmm_spec.specs.declared.change.RecUpdate.{RecUpdate}
 use Rattle.rmm_spec.specs.declared.change.RecUpdate.TheVariants as rec_update
-use Rattle.rmm_spec.specs.declared.change.TagChange.{TagChange}
-use Rattle.rmm_spec.specs.declared.measurement.Measurement.{Measurement}
 use Rattle.rmm_spec.specs.declared.measurement.Measurement.TheVariants.{Sha256}
-use Rattle.rmm_spec.specs.declared.tag.Tag.TheVariants.{Rd}
-use Rattle.rmm_spec.specs.Applicable.{CanApply, CanChangeRealm, CanChangeRec}
-use Rattle.rmm_spec.specs.Change.{changed, measurement_at, new_realm, realm_updated, rec_updated, with_tag_change, with_realm_change, with_rec_change}
-use Rattle.rmm_spec.specs.Lookup.{has_tag, realm_at, rec_at}
+use Rattle.rmm_spec.specs.Applicable.{CanChangeRealm, CanChangeRec}
+use Rattle.rmm_spec.specs.Change.{measurement_at, new_realm}
 use Rattle.rmm_spec.specs.Measure.{rem_extended, rem_start, words_bytes}
-use Rattle.rmm_spec.specs.Sound.{IsSound}
-use Rattle.rmm_spec.specs.State.{RealmRecord, RecRecord, State}
 use Rattle.rmm_laws.proofs.Cases.{nothing_there, left_of}
-use Rattle.rmm_laws.proofs.Keeps.{with_records, tag_change-rest, realm_change-rest, rec_change-rest}
-use Rattle.rmm_laws.proofs.Searches.{realm_there, rec_there, realm_at-is, rec_at-is}
+use Rattle.rmm_laws.proofs.Keeps.{tag_change-rest, realm_change-rest, rec_change-rest}
+use Rattle.rmm_laws.proofs.Searches.{realm_at-is, rec_at-is}
 use Rattle.rmm_laws.proofs.Tests.{chosen}
-use Rattle.verdict_laws.specs.Registers.{Begins, Extends, IsRegister, Register, value_after}
+use Rattle.verdict_laws.specs.Registers.{Begins, Extends, IsRegister, value_after}
 
 -- ---- RECs
 

@@ -1,15 +1,7 @@
 -- First parts of orders and a register: behind the return of a call that does something to it.
-use Rattle.std.proofs.Common.{◌≡◌, ℕ, ◌+◌, Bool, true, false, inl, inr, List, [], ◌∷◌, ◌++◌, Option, Some, None, refl, sym, ◌∙◌, ap, subst, append_assoc}
-use Rattle.std.proofs.lemmas.Bool.{false≢true, cases_Bool}
-use Rattle.rmm_spec.specs.declared.line.Line.{Line}
-use Rattle.rmm_spec.specs.declared.line.Line.TheVariants.{Keep}
-use Rattle.rmm_spec.specs.declared.measurement.Measurement.{Measurement}
-use Rattle.rmm_spec.specs.declared.reply.Reply.{Reply}
-use Rattle.rmm_spec.specs.HistoryText.{History, IsHistory}
-use Rattle.rmm_spec.specs.Linearization.{IsReturned, IsFinished, IsLinearization}
+use Rattle.verdict_laws.proofs.Common.{◌≡◌, ℕ, ◌+◌, Bool, true, false, inl, inr, List, [], ◌∷◌, ◌++◌, Option, Some, None, refl, sym, ◌∙◌, ap, subst, append_assoc, false≢true, cases_Bool, Line, Keep, Measurement, Reply, History, IsHistory, IsReturned, IsFinished, IsLinearization, HasOnePlaces-from_history, Register}
 use Rattle.spec_lemmas.proofs.Calls.{same_reply}
-use Rattle.checker.proofs.Judging.{HasOnePlaces-from_history}
-use Rattle.verdict_laws.specs.Registers.{AreMine, AreNext, FitsValue, HaveParts, IsDone, IsPart, IsRegister, IsRegisterRun, Possibility, Register, RegisterCall, Stands, is_placed, value_after, with_placed}
+use Rattle.verdict_laws.specs.Registers.{AreMine, AreNext, FitsValue, HaveParts, IsDone, IsPart, IsRegister, IsRegisterRun, Possibility, RegisterCall, Stands, is_placed, value_after, with_placed}
 use Rattle.verdict_laws.proofs.Moves.{Around, around_place}
 use Rattle.verdict_laws.proofs.RegisterCalls.{IsRegisterRun-append, IsRegisterRun-behind, one_open_call, returning_is_open, same_done}
 use Rattle.verdict_laws.proofs.RegisterPlaces.{HasReturned, HasReturned-append, MadeBefore-next, Stands-append, Stands-last, Stands-push_cases}

@@ -1,17 +1,9 @@
 -- First parts of orders and a register: before any event, and behind an event that does nothing to it.
-use Rattle.std.proofs.Common.{◌≡◌, ℕ, ◌+◌, Bool, false, inl, inr, List, [], ◌∷◌, ◌++◌, replicate, slice_index_or, Some, None, refl, sym, ◌∙◌, subst, arith}
-use Rattle.std.proofs.lemmas.Bool.{false≢true, cases_lt}
+use Rattle.verdict_laws.proofs.Common.{◌≡◌, ℕ, ◌+◌, Bool, false, inl, inr, List, [], ◌∷◌, ◌++◌, Some, None, refl, sym, ◌∙◌, subst, arith, false≢true, cases_lt, none-some, slice_get-append, Line, Keep, Reply, History, IsHistory, IsReturned, IsLinearization, LeadsNowhere, Register}
+use Rattle.std.proofs.Common.{replicate, slice_index_or}
 use Rattle.std.proofs.lemmas.List.{get_or-replicate, get_or_past}
-use Rattle.std.proofs.lemmas.Option.{none-some}
-use Rattle.lemmas.proofs.Elements.{slice_get-append}
-use Rattle.rmm_spec.specs.declared.line.Line.{Line}
-use Rattle.rmm_spec.specs.declared.line.Line.TheVariants.{Keep}
-use Rattle.rmm_spec.specs.declared.reply.Reply.{Reply}
-use Rattle.rmm_spec.specs.HistoryText.{History, IsHistory}
-use Rattle.rmm_spec.specs.Linearization.{IsReturned, IsLinearization}
 use Rattle.verdict_laws.specs.Forward.{MadeBefore}
-use Rattle.verdict_laws.specs.Order.{LeadsNowhere}
-use Rattle.verdict_laws.specs.Registers.{HaveParts, IsDone, IsOpenCall, IsPart, Possibility, Register, RegisterCall, Stands, at_first}
+use Rattle.verdict_laws.specs.Registers.{HaveParts, IsDone, IsOpenCall, IsPart, Possibility, RegisterCall, Stands, at_first}
 use Rattle.verdict_laws.proofs.Counts.{count_of-nil}
 use Rattle.verdict_laws.proofs.FirstParts.{Reaches-first}
 use Rattle.verdict_laws.proofs.RegisterCalls.{same_done}

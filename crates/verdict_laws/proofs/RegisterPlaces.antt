@@ -1,14 +1,8 @@
 -- Calls that stand in lines, and what is made, returned and open at the next place.
-use Rattle.std.proofs.Common.{◌≡◌, ℕ, ◌+◌, ◌<◌, ◌⊎◌, Bool, inl, inr, List, [], ◌∷◌, ◌++◌, length, Some, refl, sym, subst, arith}
-use Rattle.std.proofs.lemmas.Bool.{cases_lt, cases_order}
-use Rattle.lemmas.proofs.Elements.{slice_get-append, slice_get-push, slice_get_push_cases}
-use Rattle.rmm_spec.specs.declared.event.Event.{Event}
-use Rattle.rmm_spec.specs.declared.line.Line.{Line}
-use Rattle.rmm_spec.specs.declared.line.Line.TheVariants.{Keep}
-use Rattle.rmm_spec.specs.declared.reply.Reply.{Reply}
-use Rattle.rmm_spec.specs.Linearization.{IsReturned, cpu_named, number_named}
+use Rattle.verdict_laws.proofs.Common.{◌≡◌, ℕ, ◌+◌, ◌<◌, ◌⊎◌, Bool, inl, inr, List, [], ◌∷◌, ◌++◌, length, Some, refl, sym, subst, arith, cases_lt, cases_order, slice_get-append, Event, Line, Keep, Reply, IsReturned, cpu_named, number_named, Register}
+use Rattle.lemmas.proofs.Elements.{slice_get-push, slice_get_push_cases}
 use Rattle.verdict_laws.specs.Forward.{MadeBefore}
-use Rattle.verdict_laws.specs.Registers.{IsDone, IsOpenCall, Register, RegisterCall, Stands}
+use Rattle.verdict_laws.specs.Registers.{IsDone, IsOpenCall, RegisterCall, Stands}
 
 -- ---- calls that stand
 

@@ -1,20 +1,11 @@
 -- The return of a call, and what is open and stands behind it.
-use Rattle.std.proofs.Common.{◌≡◌, ◌≢◌, ℕ, ◌+◌, ◌<◌, Bool, true, false, inl, inr, List, [], ◌∷◌, ◌++◌, length, Option, Some, None, sym, ◌∙◌, ap, subst, arith}
-use Rattle.std.specs.List.{slice_get}
-use Rattle.std.proofs.lemmas.Bool.{false≢true, cases_lt}
+use Rattle.verdict_laws.proofs.Common.{◌≡◌, ℕ, ◌+◌, ◌<◌, Bool, true, false, inl, inr, List, [], ◌∷◌, ◌++◌, length, Option, Some, None, sym, ◌∙◌, ap, subst, arith, slice_get, false≢true, cases_lt, slice_get_within, slice_get-append, Command, Returned, Line, Keep, Reply, History, IsHistory, IsCalled, IsReturned, IsLinearization, cpu_named, number_named, Register}
+use Rattle.std.proofs.Common.{◌≢◌}
 use Rattle.std.proofs.lemmas.Bool.Decides.{eqb_tells}
 use Rattle.std.proofs.lemmas.List.{get_or-set_same, get_or-set_other, length-set}
-use Rattle.std.proofs.lemmas.Option.{slice_get_within}
-use Rattle.lemmas.proofs.Elements.{slice_get-append, slice_get-push, slice_get_push_cases}
-use Rattle.rmm_spec.specs.declared.command.Command.{Command}
-use Rattle.rmm_spec.specs.declared.event.Event.TheVariants.{Returned}
-use Rattle.rmm_spec.specs.declared.line.Line.{Line}
-use Rattle.rmm_spec.specs.declared.line.Line.TheVariants.{Keep}
-use Rattle.rmm_spec.specs.declared.reply.Reply.{Reply}
-use Rattle.rmm_spec.specs.HistoryText.{History, IsHistory}
-use Rattle.rmm_spec.specs.Linearization.{IsCalled, IsReturned, IsLinearization, cpu_named, number_named}
+use Rattle.lemmas.proofs.Elements.{slice_get-push, slice_get_push_cases}
 use Rattle.verdict_laws.specs.Forward.{MadeBefore}
-use Rattle.verdict_laws.specs.Registers.{IsOpenCall, IsRegisterRun, Possibility, Register, RegisterCall, Represents, Stands, is_placed, value_after, with_placed}
+use Rattle.verdict_laws.specs.Registers.{IsOpenCall, IsRegisterRun, Possibility, RegisterCall, Represents, Stands, is_placed, value_after, with_placed}
 use Rattle.verdict_laws.proofs.CallOrder.{call_before_return}
 use Rattle.verdict_laws.proofs.FirstParts.{Reaches-first}
 use Rattle.verdict_laws.proofs.RegisterCalls.{few_cpus, one_open_call, returning_is_open}

@@ -1,22 +1,12 @@
 -- The first lines of a linearization are a run of each register.
-use Rattle.std.proofs.Common.{◌≡◌, ℕ, suc, ◌+◌, eqb, Bool, List, [], ◌∷◌, ◌++◌, Option, None, inl, inr, refl, sym, ◌∙◌, ap, subst, arith, append_assoc}
-use Rattle.std.proofs.lemmas.Bool.{eqb-true, cases_Bool}
-use Rattle.rmm_spec.specs.declared.event.Event.{Event}
-use Rattle.rmm_spec.specs.declared.line.Line.{Line}
-use Rattle.rmm_spec.specs.declared.line.Line.TheVariants.{Keep, Unfinished}
-use Rattle.rmm_spec.specs.declared.measurement.Measurement.{Measurement}
-use Rattle.rmm_spec.specs.declared.reply.Reply.{Reply}
-use Rattle.rmm_spec.specs.Call.{call_of}
-use Rattle.rmm_spec.specs.HistoryText.{Config, History, IsHistory}
-use Rattle.rmm_spec.specs.State.{State, opening}
-use Rattle.rmm_spec.specs.Step.{Step}
-use Rattle.rmm_spec.specs.Run.{JournalEntry, IsRun}
-use Rattle.rmm_spec.specs.Linearization.{IsReturned, IsKnown, IsFinished, IsOfItsKind, IsReplyOf, IsEntryOf, AreEntriesOf, IsLinearization, cpu_named, number_named}
+use Rattle.verdict_laws.proofs.Common.{◌≡◌, ℕ, suc, ◌+◌, eqb, Bool, List, [], ◌∷◌, ◌++◌, Option, None, inl, inr, refl, sym, ◌∙◌, ap, subst, arith, append_assoc, cases_Bool, Event, Line, Keep, Unfinished, Measurement, Reply, call_of, Config, History, IsHistory, State, opening, Step, JournalEntry, IsRun, IsReturned, IsFinished, IsOfItsKind, IsEntryOf, AreEntriesOf, IsLinearization, cpu_named, number_named, count_of, Register}
+use Rattle.std.proofs.lemmas.Bool.{eqb-true}
+use Rattle.rmm_spec.specs.Linearization.{IsKnown, IsReplyOf}
 use Rattle.rmm_laws.proofs.Cases.{nothing_there}
 use Rattle.rmm_laws.proofs.Runs.{opened_run_sound}
-use Rattle.verdict_laws.specs.Order.{count_of, IsNext, Reaches}
+use Rattle.verdict_laws.specs.Order.{IsNext, Reaches}
 use Rattle.verdict_laws.specs.Forward.{MadeBefore}
-use Rattle.verdict_laws.specs.Registers.{AreMine, Does, IsEntered, IsRegister, IsRegisterRun, Register, done_call, entered_after, value_after}
+use Rattle.verdict_laws.specs.Registers.{AreMine, Does, IsEntered, IsRegister, IsRegisterRun, done_call, entered_after, value_after}
 use Rattle.verdict_laws.proofs.CallOrder.{finished_before_call}
 use Rattle.verdict_laws.proofs.Counts.{count_of-nil, count_of-other, count_of-same}
 use Rattle.verdict_laws.proofs.Counted.{count_of-append, count_of-cons_same, other_way}

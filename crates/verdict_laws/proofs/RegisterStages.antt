@@ -1,20 +1,10 @@
 -- Open calls that are put in before a call returns, one after the other.
-use Rattle.std.proofs.Common.{◌≡◌, ◌≢◌, ℕ, suc, ◌+◌, Bool, true, false, inl, inr, List, [], ◌∷◌, ◌++◌, length, Option, Some, None, refl, sym, ◌∙◌, subst, arith, append_assoc}
-use Rattle.std.specs.List.{slice_get}
-use Rattle.std.proofs.lemmas.Bool.{cases_Bool, cases_lt}
+use Rattle.verdict_laws.proofs.Common.{◌≡◌, ℕ, suc, ◌+◌, Bool, true, false, inl, inr, List, [], ◌∷◌, ◌++◌, length, Option, Some, None, refl, sym, ◌∙◌, subst, arith, append_assoc, slice_get, cases_Bool, cases_lt, none-some, Event, Line, Keep, Measurement, Reply, History, IsHistory, IsReturned, IsLinearization, cpu_named, number_named, HasOnePlaces-from_history, Register}
+use Rattle.std.proofs.Common.{◌≢◌}
 use Rattle.std.proofs.lemmas.Bool.Decides.{eqb_tells}
 use Rattle.std.proofs.lemmas.List.{append-nil, get_or-set_same, get_or-set_other, length-set}
-use Rattle.std.proofs.lemmas.Option.{none-some}
-use Rattle.rmm_spec.specs.declared.event.Event.{Event}
-use Rattle.rmm_spec.specs.declared.line.Line.{Line}
-use Rattle.rmm_spec.specs.declared.line.Line.TheVariants.{Keep}
-use Rattle.rmm_spec.specs.declared.measurement.Measurement.{Measurement}
-use Rattle.rmm_spec.specs.declared.reply.Reply.{Reply}
-use Rattle.rmm_spec.specs.HistoryText.{History, IsHistory}
-use Rattle.rmm_spec.specs.Linearization.{IsReturned, IsLinearization, cpu_named, number_named}
 use Rattle.spec_lemmas.proofs.Calls.{same_reply}
-use Rattle.checker.proofs.Judging.{HasOnePlaces-from_history}
-use Rattle.verdict_laws.specs.Registers.{AreNext, FitsValue, IsAmong, IsDone, IsOpenCall, IsRegisterRun, Possibility, Register, RegisterCall, Represents, Stands, is_placed, value_after, with_placed}
+use Rattle.verdict_laws.specs.Registers.{AreNext, FitsValue, IsAmong, IsDone, IsOpenCall, IsRegisterRun, Possibility, RegisterCall, Represents, Stands, is_placed, value_after, with_placed}
 use Rattle.verdict_laws.proofs.FirstParts.{apart_parts}
 use Rattle.verdict_laws.proofs.RegisterCalls.{IsRegisterRun-append, few_cpus, one_open_call, returning_is_open, same_done}
 use Rattle.verdict_laws.proofs.RegisterPlaces.{HasReturned, HasReturned-append, Stands-append, Stands-last, Stands-push_cases}

@@ -1,9 +1,7 @@
 -- What a state knows of a register: the REC that each CPU runs is the one that it entered last, and the register's value is the realm's.
+use Rattle.verdict_laws.proofs.Common.{Measurement, RealmRecord, RecRecord, State, Register}
 use Rattle.std.specs.Prelude.{◌≡◌, ℕ, ◌==◌, Bool, Option, Some}
-use Rattle.rmm_spec.specs.declared.measurement.Measurement.{Measurement}
 use Rattle.rmm_spec.specs.Change.{measurement_at}
-use Rattle.rmm_spec.specs.State.{RealmRecord, RecRecord, State}
-use Rattle.verdict_laws.specs.Registers.{Register}
 
 -- what is known after a run, where each CPU entered that REC last, and the register has that value
 pub record Knows (s : State) (register : Register) (mine : ℕ → Bool) (entered : ℕ → Option ℕ) (value : Option Measurement) : Type 0 where

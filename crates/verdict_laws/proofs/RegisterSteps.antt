@@ -1,41 +1,22 @@
 -- A step keeps what is known of a register.
-use Rattle.std.specs.Prelude.{Result, Ok, Err, is_none}
-use Rattle.std.proofs.Common.{◌≡◌, ℕ, ◌==◌, ◌&&◌, if◌then◌else◌, Bool, false, IsTrue, List, [], ◌∷◌, Option, Some, None, refl, sym, ◌∙◌, ap, subst}
-use Rattle.std.proofs.lemmas.Bool.{and_parts, eq-eqb, eqb-true}
-use Rattle.lemmas.proofs.Tests.{both_ways}
-use Rattle.rmm_spec.specs.declared.accepted.Accepted.{Accepted}
-use Rattle.rmm_spec.specs.declared.accepted.Accepted.TheVariants.{Done, Reaches}
-use Rattle.rmm_spec.specs.declared.call.Call.{Call}
+use Rattle.verdict_laws.proofs.Common.{Result, Ok, Err, is_none, ◌≡◌, ℕ, ◌==◌, ◌&&◌, if◌then◌else◌, Bool, false, IsTrue, List, [], ◌∷◌, Option, Some, None, refl, sym, ◌∙◌, ap, subst, and_parts, both_ways, Accepted, Done, Reaches, Call, Change, RealmMade, RecMade, Unchanged, Command, Measurement, Refusal, Reply, CanApply, call_of, class_of, changed, new_rec, rec_updated, is_inside, rec_inside, realm_at, rec_at, runs_on, ok, IsSound, State, CarriesOut, Step, answer_of, is_placed, misplacement, outcome, with_front, IsReached, reached_change, behind, by_address, inside_runs, realm_there, rec_there, Register}
+use Rattle.std.proofs.lemmas.Bool.{eq-eqb, eqb-true}
 use Rattle.rmm_spec.specs.declared.call.Call.TheVariants as call
-use Rattle.rmm_spec.specs.declared.change.Change.{Change}
-use Rattle.rmm_spec.specs.declared.change.Change.TheVariants.{RealmMade, RecMade, Unchanged}
 use Rattle.rmm_spec.specs.declared.change.RealmUpdate.TheVariants as realm_update
 use Rattle.rmm_spec.specs.declared.change.RecUpdate.TheVariants as rec_update
-use Rattle.rmm_spec.specs.declared.command.Command.{Command}
-use Rattle.rmm_spec.specs.declared.measurement.Measurement.{Measurement}
-use Rattle.rmm_spec.specs.declared.refusal.Refusal.{Refusal}
 use Rattle.rmm_spec.specs.declared.refusal.Refusal.TheVariants as refusal
-use Rattle.rmm_spec.specs.declared.reply.Reply.{Reply}
 use Rattle.rmm_spec.specs.declared.reply.Reply.TheVariants as reply
-use Rattle.rmm_spec.specs.Applicable.{CanApply}
-use Rattle.rmm_spec.specs.Call.{call_of, class_of}
-use Rattle.rmm_spec.specs.Change.{changed, measurement_at, new_rec, rec_updated}
-use Rattle.rmm_spec.specs.Lookup.{is_cpu, is_inside, rec_inside, realm_at, rec_at, runs_on}
+use Rattle.rmm_spec.specs.Change.{measurement_at}
+use Rattle.rmm_spec.specs.Lookup.{is_cpu}
 use Rattle.rmm_spec.specs.Measure.{measurement_words}
-use Rattle.rmm_spec.specs.Rows.{ok, reply_of}
-use Rattle.rmm_spec.specs.Sound.{IsSound}
-use Rattle.rmm_spec.specs.State.{State}
-use Rattle.rmm_spec.specs.Step.{CarriesOut, Step, answer_of, is_placed, misplacement, outcome}
-use Rattle.rmm_spec.specs.Step.Front.{with_front}
+use Rattle.rmm_spec.specs.Rows.{reply_of}
 use Rattle.rmm_spec.specs.Step.RealmCall.{realm_change, rec_change}
-use Rattle.rmm_spec.specs.Step.Ripas.{IsReached, reached_change}
-use Rattle.spec_lemmas.proofs.Behind.{behind}
 use Rattle.rmm_laws.proofs.Applies.{Applies, inside_running}
 use Rattle.rmm_laws.proofs.ByRows.{decided-accepted, row_holds}
-use Rattle.rmm_laws.proofs.Cases.{by_address, choice, nothing_there}
+use Rattle.rmm_laws.proofs.Cases.{choice, nothing_there}
 use Rattle.rmm_laws.proofs.Commands.{IsWhole, accepted_applies, whole_command}
-use Rattle.rmm_laws.proofs.Searches.{inside_runs, none_runs, realm_there, rec_there}
-use Rattle.verdict_laws.specs.Registers.{Begins, Extends, FitsValue, IsRegister, Reads, Register, RegisterCall, done_call, entered_after, is_mine, register_call, value_after}
+use Rattle.rmm_laws.proofs.Searches.{none_runs}
+use Rattle.verdict_laws.specs.Registers.{Begins, Extends, FitsValue, IsRegister, Reads, RegisterCall, done_call, entered_after, is_mine, register_call, value_after}
 use Rattle.verdict_laws.proofs.RegisterChanges.{AreKnownRecs, IsKnownRealm, changed-realm, changed-recs, extended-realm, made-realm, measurement_at-rem, put-recs, touches_rec, touches_rem}
 use Rattle.verdict_laws.proofs.RegisterStates.{Knows}
 

@@ -1,47 +1,32 @@
 -- What a placed call is replied is what it may be in some state: a refusal for its words, or that of another row or the words of what it does.
-use Rattle.std.proofs.Common.{◌≡◌, ℕ, ◌+◌, ◌-◌, ◌*◌, ◌%◌, ◌^◌, ◌≤◌, ◌==◌, nat_le, nat_lt, Bool, true, false, if◌then◌else◌, List, [], ◌∷◌, ◌⊎◌, inl, inr, Option, Some, IsTrue, refl, sym, ◌∙◌, ap, subst, arith, eq-eqb}
-use Rattle.std.specs.Prelude.{◌&&◌, ◌||◌, Result, Err, None, unwrap_or}
+use Rattle.verdict_laws.proofs.Common.{◌≡◌, ℕ, ◌+◌, ◌-◌, ◌*◌, ◌≤◌, ◌==◌, nat_le, nat_lt, Bool, true, false, if◌then◌else◌, List, [], ◌∷◌, ◌⊎◌, inl, inr, Option, Some, IsTrue, refl, sym, ◌∙◌, ap, subst, arith, eq-eqb, Result, Err, unwrap_or, and_from, and_parts, cases_Bool, or_cases, or_left, or_right, Accepted, Done, Reaches, Call, Entry, Measurement, Refusal, Reply, Tag, Undelegated, Delegated, class_of, changed, is_inside, no_rec, realm_at, rec_at, rec_inside, request_of, decided, IsSound, RealmRecord, RecRecord, State, CarriesOut, answer_of, is_placed, IsReached, named, words_of, reach, both_ways, realm_there, behind}
+use Rattle.std.proofs.Common.{◌%◌, ◌^◌}
+use Rattle.std.specs.Prelude.{◌&&◌, ◌||◌, None}
 use Rattle.std.specs.List.{list_all}
-use Rattle.std.proofs.lemmas.Bool.{and_from, and_parts, cases_Bool, le-leb, leb-false, lt-ltb, ltb-false, not_from_false, or_cases, or_left, or_right, true_from_ne_false}
+use Rattle.std.proofs.lemmas.Bool.{le-leb, leb-false, lt-ltb, ltb-false, not_from_false, true_from_ne_false}
 use Rattle.std.proofs.lemmas.Bool.Decides.{nat_tests}
 use Rattle.std.proofs.Math.Nat.{mul-le-mul_left}
 use Rattle.std.proofs.lemmas.Nat.{pow-add}
-use Rattle.rmm_spec.specs.declared.accepted.Accepted.{Accepted}
-use Rattle.rmm_spec.specs.declared.accepted.Accepted.TheVariants.{Done, Reaches}
 use Rattle.rmm_spec.specs.declared.accepted.Stretch.{Stretch}
-use Rattle.rmm_spec.specs.declared.call.Call.{Call}
 use Rattle.rmm_spec.specs.declared.call.Call.TheVariants as call
 use Rattle.rmm_spec.specs.declared.condition.Condition.{Condition}
 use Rattle.rmm_spec.specs.declared.condition.Condition.TheVariants.{IpaBound, RgnBound}
-use Rattle.rmm_spec.specs.declared.entry.Entry.{Entry}
 use Rattle.rmm_spec.specs.declared.entry.Entry.TheVariants.{Assigned, AssignedNs, Table, Unassigned, UnassignedNs}
-use Rattle.rmm_spec.specs.declared.measurement.Measurement.{Measurement}
 use Rattle.rmm_spec.specs.declared.measurement.Measurement.TheVariants.{Sha256, Sha512}
-use Rattle.rmm_spec.specs.declared.refusal.Refusal.{Refusal}
 use Rattle.rmm_spec.specs.declared.refusal.Refusal.TheVariants.{Input}
-use Rattle.rmm_spec.specs.declared.reply.Reply.{Reply}
 use Rattle.rmm_spec.specs.declared.tag.Ripas.{Ripas}
 use Rattle.rmm_spec.specs.declared.tag.Ripas.TheVariants.{Destroyed, Empty, Ram}
-use Rattle.rmm_spec.specs.declared.tag.Tag.{Tag}
-use Rattle.rmm_spec.specs.declared.tag.Tag.TheVariants.{Undelegated, Delegated}
-use Rattle.rmm_spec.specs.Call.{ByRealm, class_of}
-use Rattle.rmm_spec.specs.Change.{changed}
-use Rattle.rmm_spec.specs.Lookup.{is_granule, is_inside, no_rec, no_request, realm_at, rec_at, rec_inside, request_of, ripas_number}
+use Rattle.rmm_spec.specs.Call.{ByRealm}
+use Rattle.rmm_spec.specs.Lookup.{is_granule, no_request, ripas_number}
 use Rattle.rmm_spec.specs.Measure.{first_words, measurement_words}
-use Rattle.rmm_spec.specs.Rows.{Row, Word, all_allowed, decided, input, input_error, inputs, reply_of, tagged}
-use Rattle.rmm_spec.specs.Sound.{IsSound}
-use Rattle.rmm_spec.specs.State.{HostCall, Pending, Psci, RealmRecord, RecRecord, Request, RipasChange, State}
-use Rattle.rmm_spec.specs.Step.{CarriesOut, answer_of, is_placed}
+use Rattle.rmm_spec.specs.Rows.{Row, Word, all_allowed, input, input_error, inputs, reply_of, tagged}
+use Rattle.rmm_spec.specs.State.{HostCall, Pending, Psci, Request, RipasChange}
 use Rattle.rmm_spec.specs.Step.RealmCall.{exit_words}
-use Rattle.rmm_spec.specs.Step.Ripas.{IsReached}
-use Rattle.rmm_spec.specs.Step.Terms.{is_page, is_space, named, words_of}
-use Rattle.rmm_spec.specs.Walk.{entry_address, entry_ripas, entry_size, entry_state, half, reach, walk}
-use Rattle.lemmas.proofs.Tests.{both_ways}
+use Rattle.rmm_spec.specs.Step.Terms.{is_page, is_space}
+use Rattle.rmm_spec.specs.Walk.{entry_address, entry_ripas, entry_size, entry_state, half, walk}
 use Rattle.rmm_laws.proofs.Applies.{inside_running}
 use Rattle.rmm_laws.proofs.Cases.{at_itself}
-use Rattle.rmm_laws.proofs.Searches.{realm_there}
 use Rattle.rmm_laws.proofs.Spaces.{entry_size-pos, space_cases}
-use Rattle.spec_lemmas.proofs.Behind.{behind}
 use Rattle.spec_lemmas.proofs.WalkLaws.{reach-le}
 use Rattle.verdict_laws.specs.Replying.{gives, has_input_row, has_rec_row, has_row_at_level, is_ripas, is_stretch, may_answer, may_end, realm_indices, reports_entry}
 

@@ -1,24 +1,16 @@
 -- What a command leads to reads the tags of the granules that it names, and no other.
-use Rattle.std.proofs.Common.{◌≡◌, ℕ, zero, suc, ◌==◌, ◌&&◌, if◌then◌else◌, List, [], ◌∷◌, refl, sym, ◌∙◌, ap}
-use Rattle.std.specs.Prelude.{Err, is_some}
-use Rattle.std.specs.List.{AllByRecursion}
-use Rattle.rmm_spec.specs.declared.call.Call.{Call}
+use Rattle.verdict_laws.proofs.Common.{◌≡◌, ℕ, zero, suc, ◌==◌, ◌&&◌, if◌then◌else◌, List, [], ◌∷◌, refl, sym, ◌∙◌, ap, Err, AllByRecursion, Call, Misplaced, Tag, State, has_tag, is_inside, rec_inside, realm_at, rec_at, is_vmid_used, has_rec, reach, entry_at, Needed, decided, IsReached, named, words_of, is_placed, misplacement, answer_of, outcome, behind}
+use Rattle.std.specs.Prelude.{is_some}
 use Rattle.rmm_spec.specs.declared.call.Call.TheVariants as call
 use Rattle.rmm_spec.specs.declared.call.Removal.{Removal}
 use Rattle.rmm_spec.specs.declared.call.Removal.TheVariants.{Destroy, Fold}
 use Rattle.rmm_spec.specs.declared.condition.Condition.TheVariants.{GranState}
-use Rattle.rmm_spec.specs.declared.refusal.Refusal.TheVariants.{Misplaced}
 use Rattle.rmm_spec.specs.declared.accepted.Stretch.{Stretch}
-use Rattle.rmm_spec.specs.declared.tag.Tag.{Tag}
-use Rattle.rmm_spec.specs.State.{State}
-use Rattle.rmm_spec.specs.Lookup.{tag_number, is_granule, has_tag, is_inside, rec_inside, realm_at, rec_at, is_vmid_used, has_rec}
-use Rattle.rmm_spec.specs.Walk.{table_number, reach, entry_at, has_entry}
-use Rattle.rmm_spec.specs.Rows.{Row, Needed, input, inputs, tagged, decided}
+use Rattle.rmm_spec.specs.Lookup.{tag_number, is_granule}
+use Rattle.rmm_spec.specs.Walk.{table_number, has_entry}
+use Rattle.rmm_spec.specs.Rows.{Row, input, inputs, tagged}
 use Rattle.rmm_spec.specs.Step.Table.{ripas_left}
-use Rattle.rmm_spec.specs.Step.Ripas.{IsReached}
-use Rattle.rmm_spec.specs.Step.Terms.{Class, ByHost, ByRealm, ByExit, class_of, named, words_of}
-use Rattle.rmm_spec.specs.Step.{is_placed, misplacement, answer_of, outcome}
-use Rattle.spec_lemmas.proofs.Behind.{behind}
+use Rattle.rmm_spec.specs.Step.Terms.{Class, ByHost, ByRealm, ByExit, class_of}
 
 -- the state with other tags
 abbrev pub with_tags : State → (ℕ → Tag) → State

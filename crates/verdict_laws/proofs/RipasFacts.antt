@@ -1,35 +1,21 @@
 -- Entries of the last level of a RIPAS: one that a call makes so, by itself or as a REC asked, is so until another may replace it or set its RIPAS,
 -- and isn't read as of another.
-use Rattle.std.proofs.Common.{◌≡◌, ℕ, ◌-◌, ◌*◌, ◌<◌, ◌==◌, ◌&&◌, ◌||◌, nat_le, nat_lt, if◌then◌else◌, Bool, true, false, not, Option, Some, inl, inr, refl, sym, ◌∙◌, ap, subst, eqb-true, eq-eqb, arith, IsTrue}
-use Rattle.std.specs.Prelude.{unwrap_or, is_none}
-use Rattle.std.proofs.lemmas.Bool.{and_from, and_parts, le-leb, leb-true, lt-ltb, ltb-true, not-true, or_cases, or_parts}
+use Rattle.verdict_laws.proofs.Common.{◌≡◌, ℕ, ◌-◌, ◌*◌, ◌<◌, ◌==◌, ◌&&◌, ◌||◌, nat_le, nat_lt, if◌then◌else◌, Bool, true, false, not, Option, Some, inl, inr, refl, sym, ◌∙◌, ap, subst, eqb-true, eq-eqb, arith, IsTrue, unwrap_or, is_none, and_from, and_parts, not-true, or_cases, or_parts, Call, Command, Entry, Reply, call_of, changed, no_rec, realm_at, rec_at, rec_inside, request_of, is_accepted, IsSound, RealmRecord, State, Step, outcome, reached_change, entry_at, entry_number, reach, both_ways, behind, Fact, holds}
+use Rattle.std.proofs.lemmas.Bool.{le-leb, leb-true, lt-ltb, ltb-true}
 use Rattle.rmm_spec.specs.declared.accepted.StretchUse.TheVariants.{Requested}
-use Rattle.rmm_spec.specs.declared.call.Call.{Call}
 use Rattle.rmm_spec.specs.declared.call.Call.TheVariants as call
-use Rattle.rmm_spec.specs.declared.command.Command.{Command}
-use Rattle.rmm_spec.specs.declared.entry.Entry.{Entry}
 use Rattle.rmm_spec.specs.declared.entry.Entry.TheVariants.{Assigned, AssignedNs, Table, Unassigned, UnassignedNs}
-use Rattle.rmm_spec.specs.declared.reply.Reply.{Reply}
 use Rattle.rmm_spec.specs.declared.tag.Ripas.{Ripas}
 use Rattle.rmm_spec.specs.declared.tag.Ripas.TheVariants.{Destroyed, Empty, Ram}
-use Rattle.rmm_spec.specs.Call.{call_of}
-use Rattle.rmm_spec.specs.Change.{changed}
-use Rattle.rmm_spec.specs.Lookup.{no_rec, realm_at, rec_at, rec_inside, request_of, ripas_number}
-use Rattle.rmm_spec.specs.Ownership.{is_accepted}
-use Rattle.rmm_spec.specs.Sound.{IsLeafOf, IsSound}
-use Rattle.rmm_spec.specs.State.{RealmRecord, State}
-use Rattle.rmm_spec.specs.Step.{Step, outcome}
+use Rattle.rmm_spec.specs.Lookup.{ripas_number}
+use Rattle.rmm_spec.specs.Sound.{IsLeafOf}
 use Rattle.rmm_spec.specs.Step.Data.{ripas_after_data}
-use Rattle.rmm_spec.specs.Step.Ripas.{reached_change}
 use Rattle.rmm_spec.specs.Update.{entry_with_ripas}
-use Rattle.rmm_spec.specs.Walk.{entry_at, entry_number, entry_ripas, entry_size, half, is_multiple, is_table, reach, table_size}
-use Rattle.lemmas.proofs.Tests.{both_ways}
-use Rattle.spec_lemmas.proofs.Behind.{behind}
+use Rattle.rmm_spec.specs.Walk.{entry_ripas, entry_size, half, is_multiple, is_table, table_size}
 use Rattle.spec_lemmas.proofs.WalkLaws.{reach-le}
-use Rattle.verdict_laws.specs.declared.facts.Fact.{Fact}
 use Rattle.verdict_laws.specs.declared.facts.Fact.TheVariants.{RunsOrAsksTo, HasRipas}
 use Rattle.verdict_laws.specs.Denying.{is_reported, reads_entry}
-use Rattle.verdict_laws.specs.Facts.{creates_page, frees_entry, has_ripas, holds, is_one_entry, is_told, is_told_past, makes_with, may_init, may_reshape, may_set_ripas, runs_or_asks_to, sets_ram, sets_ripas}
+use Rattle.verdict_laws.specs.Facts.{creates_page, frees_entry, has_ripas, is_one_entry, is_told, is_told_past, makes_with, may_init, may_reshape, may_set_ripas, runs_or_asks_to, sets_ram, sets_ripas}
 use Rattle.verdict_laws.proofs.EntryChanges.{leaf-left, leaf_found, ripas_read-denied, same_entry-last}
 use Rattle.verdict_laws.proofs.FactSteps.{IsDoneSo, step-has}
 use Rattle.verdict_laws.proofs.RamFacts.{IsWithin-may_set, MaySet, last_stretch, ram-made, ram_there}

@@ -1,22 +1,10 @@
 -- Realms that were activated: one that is stays so until it is destroyed, and no call that needs it new is carried out.
-use Rattle.std.proofs.Common.{◌≡◌, ℕ, ◌==◌, ◌&&◌, true, false, IsTrue, Option, Some, None, refl, sym, ◌∙◌, ap, eqb-true}
-use Rattle.std.specs.Prelude.{unwrap_or}
-use Rattle.std.proofs.lemmas.Bool.{and_parts, eq-eqb, not-true}
-use Rattle.rmm_spec.specs.declared.call.Call.{Call}
+use Rattle.verdict_laws.proofs.Common.{◌≡◌, ℕ, ◌==◌, ◌&&◌, true, false, IsTrue, Option, Some, None, refl, sym, ◌∙◌, ap, eqb-true, unwrap_or, and_parts, not-true, Call, Command, Reply, call_of, changed, realm_updated, no_realm, realm_at, is_accepted, IsSound, RealmRecord, State, Step, outcome, both_ways, behind}
+use Rattle.std.proofs.lemmas.Bool.{eq-eqb}
 use Rattle.rmm_spec.specs.declared.call.Call.TheVariants as call
 use Rattle.rmm_spec.specs.declared.change.RealmUpdate.{RealmUpdate}
 use Rattle.rmm_spec.specs.declared.change.RealmUpdate.TheVariants as realm_update
-use Rattle.rmm_spec.specs.declared.command.Command.{Command}
-use Rattle.rmm_spec.specs.declared.reply.Reply.{Reply}
-use Rattle.rmm_spec.specs.Call.{call_of}
-use Rattle.rmm_spec.specs.Change.{changed, realm_updated}
-use Rattle.rmm_spec.specs.Lookup.{is_new, no_realm, realm_at}
-use Rattle.rmm_spec.specs.Ownership.{is_accepted}
-use Rattle.rmm_spec.specs.Sound.{IsSound}
-use Rattle.rmm_spec.specs.State.{RealmRecord, State}
-use Rattle.rmm_spec.specs.Step.{Step, outcome}
-use Rattle.lemmas.proofs.Tests.{both_ways}
-use Rattle.spec_lemmas.proofs.Behind.{behind}
+use Rattle.rmm_spec.specs.Lookup.{is_new}
 use Rattle.verdict_laws.specs.Denying.{needs_new}
 use Rattle.verdict_laws.specs.Facts.{activates, has_run, may_narrow}
 use Rattle.rmm_laws.proofs.ByRows.{AllHold}

@@ -1,24 +1,8 @@
 -- RECs that run: one that is entered runs on the CPU until that exits, and no call that needs it idle is carried out.
-use Rattle.std.proofs.Common.{◌≡◌, ℕ, ◌==◌, ◌&&◌, true, false, Option, Some, None, IsTrue, is_some, refl, sym, ◌∙◌, ap, eqb-true, eq-eqb, inl, inr}
-use Rattle.std.specs.Prelude.{is_none, unwrap_or}
-use Rattle.std.proofs.lemmas.Bool.{and_parts, cases_Bool, false_from_ne_true}
-use Rattle.rmm_spec.specs.declared.call.Call.{Call}
+use Rattle.verdict_laws.proofs.Common.{◌≡◌, ℕ, ◌==◌, ◌&&◌, true, false, Option, Some, None, IsTrue, is_some, refl, sym, ◌∙◌, ap, eqb-true, eq-eqb, inl, inr, is_none, unwrap_or, and_parts, cases_Bool, false_from_ne_true, Call, Command, Reply, call_of, class_of, changed, rec_updated, no_rec, rec_at, runs_on, is_accepted, IsSound, RecRecord, State, Step, outcome, reached_change, both_ways, behind, inside_runs, step-refuses}
 use Rattle.rmm_spec.specs.declared.call.Call.TheVariants as call
-use Rattle.rmm_spec.specs.declared.command.Command.{Command}
-use Rattle.rmm_spec.specs.declared.reply.Reply.{Reply}
-use Rattle.rmm_spec.specs.Call.{call_of, class_of}
-use Rattle.rmm_spec.specs.Change.{changed, rec_updated}
-use Rattle.rmm_spec.specs.Lookup.{is_cpu, no_rec, rec_at, runs_on}
-use Rattle.rmm_spec.specs.Ownership.{is_accepted}
-use Rattle.rmm_spec.specs.Sound.{IsSound}
-use Rattle.rmm_spec.specs.State.{RecRecord, State}
-use Rattle.rmm_spec.specs.Step.{Step, outcome}
-use Rattle.rmm_spec.specs.Step.Ripas.{reached_change}
-use Rattle.lemmas.proofs.Tests.{both_ways}
-use Rattle.spec_lemmas.proofs.Behind.{behind}
+use Rattle.rmm_spec.specs.Lookup.{is_cpu}
 use Rattle.rmm_laws.proofs.ByRows.{AllHold}
-use Rattle.rmm_laws.proofs.Searches.{inside_runs}
-use Rattle.rmm_laws.proofs.StepLaws.{step-refuses}
 use Rattle.verdict_laws.specs.Denying.{needs_idle}
 use Rattle.verdict_laws.specs.Facts.{enters, exits}
 use Rattle.verdict_laws.proofs.RecChanges.{StaysDone, met_record, rec-kept}
@@ -37,6 +21,14 @@ running_read at None runs = both_ways runs refl
 running_read at (Some r) runs = by r.cpu runs
   where
     by : (found : Option ℕ) → is_cpu at found ≡ true → is_none found ≡ false
+    by None runs = both_ways runs refl
+    by (Some k) runs = refl
+
+-- so it runs, whatever else it is tested for
+pub runs-on_some : (at : ℕ) (r : RecRecord) → runs_on at (Some r) ≡ true → is_some r.cpu ≡ true
+runs-on_some at r runs = by r.cpu runs
+  where
+    by : (found : Option ℕ) → is_cpu at found ≡ true → is_some found ≡ true
     by None runs = both_ways runs refl
     by (Some k) runs = refl
 

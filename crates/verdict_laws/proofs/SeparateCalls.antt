@@ -1,35 +1,10 @@
 -- Two calls of different realms' tables, or that lend granules, with no granule that both work on, come either way round.
-use Rattle.std.proofs.Common.{◌≡◌, ℕ, ◌-◌, ◌==◌, Bool, true, false, ◌||◌, [], ◌∷◌, Option, Some, None, refl, sym, ◌∙◌, subst, eqb-true, eq-eqb}
-use Rattle.std.specs.Prelude.{Result, Ok, Err}
-use Rattle.std.proofs.lemmas.Bool.{false_from_ne_true, ne_eqb, or_left, or_right}
-use Rattle.rmm_spec.specs.declared.accepted.Accepted.{Accepted}
-use Rattle.rmm_spec.specs.declared.accepted.Accepted.TheVariants.{Done, Reaches}
-use Rattle.rmm_spec.specs.declared.call.Call.{Call}
+use Rattle.verdict_laws.proofs.Common.{◌≡◌, ℕ, ◌-◌, ◌==◌, Bool, true, false, ◌||◌, [], ◌∷◌, Option, Some, None, refl, sym, ◌∙◌, subst, eqb-true, eq-eqb, Result, Ok, Err, false_from_ne_true, ne_eqb, or_left, or_right, Accepted, Done, Reaches, Call, Change, Unchanged, Command, Refusal, Reply, call_of, State, CanApply, changed, is_named, is_inside, ok, IsSound, reached_change, named, CarriesOut, Step, outcome, both_ways, behind, outcome-leads, lent, is_local}
 use Rattle.rmm_spec.specs.declared.call.Call.TheVariants as call
-use Rattle.rmm_spec.specs.declared.change.Change.{Change}
-use Rattle.rmm_spec.specs.declared.change.Change.TheVariants.{Unchanged}
-use Rattle.rmm_spec.specs.declared.command.Command.{Command}
-use Rattle.rmm_spec.specs.declared.refusal.Refusal.{Refusal}
-use Rattle.rmm_spec.specs.declared.reply.Reply.{Reply}
 use Rattle.rmm_spec.specs.declared.reply.Reply.TheVariants as reply
-use Rattle.rmm_spec.specs.Call.{call_of}
-use Rattle.rmm_spec.specs.State.{State}
-use Rattle.rmm_spec.specs.Applicable.{CanApply}
-use Rattle.rmm_spec.specs.Change.{changed}
-use Rattle.rmm_spec.specs.Locks.{is_named}
-use Rattle.rmm_spec.specs.Lookup.{is_inside}
-use Rattle.rmm_spec.specs.Rows.{ok}
 use Rattle.rmm_spec.specs.Walk.{entry_address, walk}
-use Rattle.rmm_spec.specs.Sound.{IsSound}
-use Rattle.rmm_spec.specs.Step.Ripas.{reached_change}
-use Rattle.rmm_spec.specs.Step.Terms.{named}
-use Rattle.rmm_spec.specs.Step.{CarriesOut, Step, outcome}
-use Rattle.lemmas.proofs.Tests.{both_ways}
-use Rattle.spec_lemmas.proofs.Behind.{behind}
-use Rattle.rmm_laws.proofs.RowLaws.{outcome-leads}
 use Rattle.rmm_laws.proofs.Runs.{done_applies, reached_applies}
-use Rattle.verdict_laws.specs.Apart.{lent}
-use Rattle.verdict_laws.specs.Separate.{AreSeparate, is_freed, is_local, table_realm, works_on}
+use Rattle.verdict_laws.specs.Separate.{AreSeparate, is_freed, table_realm, works_on}
 use Rattle.verdict_laws.proofs.Patches.{AreDisjoint, IsChangeOf, IsTagOf, IsWithin, Patch, changed-patched, is_own, patch_of, patch_of-within, patched, patched-swapped, tag_of_change}
 use Rattle.verdict_laws.proofs.SeparateLooks.{AgreeOn, AgreeOn-sym, IsReached-agree, outcome-agree}
 

@@ -1,28 +1,16 @@
 -- What a call leads to that works on one realm's tables, or lends a granule, reads no more than that realm, and the tags of what it names.
-use Rattle.std.proofs.Common.{◌≡◌, ℕ, zero, suc, ◌+◌, ◌==◌, true, if◌then◌else◌, IsTrue, List, [], ◌∷◌, Option, Some, None, refl, sym, ◌∙◌, ap, subst, eq-eqb}
-use Rattle.std.specs.Prelude.{◌*◌, Err, is_some, nat_lt, not}
-use Rattle.std.proofs.lemmas.Bool.{or_left, or_right}
+use Rattle.verdict_laws.proofs.Common.{◌≡◌, ℕ, zero, suc, ◌+◌, ◌==◌, true, if◌then◌else◌, IsTrue, List, [], ◌∷◌, Option, Some, None, refl, sym, ◌∙◌, ap, subst, eq-eqb, Err, or_left, or_right, Call, Entry, Misplaced, State, RealmRecord, RecRecord, is_named, has_tag, is_inside, rec_inside, realm_at, rec_at, runs_on, entry_number, reach, entry_at, Needed, decided, IsReached, with_front, named, is_placed, misplacement, answer_of, outcome, behind, both_ways, lent, is_local}
+use Rattle.std.specs.Prelude.{◌*◌, is_some, nat_lt, not}
 use Rattle.rmm_spec.specs.declared.accepted.Stretch.{Stretch}
-use Rattle.rmm_spec.specs.declared.call.Call.{Call}
 use Rattle.rmm_spec.specs.declared.call.Call.TheVariants as call
 use Rattle.rmm_spec.specs.declared.call.Removal.{Removal}
 use Rattle.rmm_spec.specs.declared.call.Removal.TheVariants.{Destroy, Fold}
-use Rattle.rmm_spec.specs.declared.entry.Entry.{Entry}
-use Rattle.rmm_spec.specs.declared.refusal.Refusal.TheVariants.{Misplaced}
-use Rattle.rmm_spec.specs.State.{State, RealmRecord, RecRecord}
-use Rattle.rmm_spec.specs.Locks.{is_named}
-use Rattle.rmm_spec.specs.Lookup.{any_below, has_tag, is_inside, rec_inside, realm_at, rec_at, runs_on}
-use Rattle.rmm_spec.specs.Walk.{entry_number, table_number, linked_entry, reach, entry_at, has_entry}
-use Rattle.rmm_spec.specs.Rows.{Needed, decided}
+use Rattle.rmm_spec.specs.Lookup.{any_below}
+use Rattle.rmm_spec.specs.Walk.{table_number, linked_entry, has_entry}
 use Rattle.rmm_spec.specs.Step.Table.{ripas_left}
-use Rattle.rmm_spec.specs.Step.Ripas.{IsReached, can_be_set}
-use Rattle.rmm_spec.specs.Step.Front.{with_front}
-use Rattle.rmm_spec.specs.Step.Terms.{Class, ByHost, ByRealm, ByExit, class_of, named}
-use Rattle.rmm_spec.specs.Step.{is_placed, misplacement, answer_of, outcome}
-use Rattle.spec_lemmas.proofs.Behind.{behind}
-use Rattle.lemmas.proofs.Tests.{both_ways}
-use Rattle.verdict_laws.specs.Apart.{lent}
-use Rattle.verdict_laws.specs.Separate.{table_realm, is_local}
+use Rattle.rmm_spec.specs.Step.Ripas.{can_be_set}
+use Rattle.rmm_spec.specs.Step.Terms.{Class, ByHost, ByRealm, ByExit, class_of}
+use Rattle.verdict_laws.specs.Separate.{table_realm}
 use Rattle.verdict_laws.proofs.Retags.{with_tags, AreKeptAt, outcome-tags}
 
 -- ---- one realm alone

@@ -1,29 +1,13 @@
 -- A call that can be left out of each run, and is given its reply where an order has come to, may come next at once, as one that was refused may.
-use Rattle.std.proofs.Common.{◌≡◌, ℕ, zero, suc, ◌+◌, ◌≤◌, ◌⊎◌, inl, inr, List, [], ◌∷◌, ◌++◌, length, Result, Ok, Err, Some, refl, sym, ◌∙◌, ap, subst, arith, append_assoc}
-use Rattle.std.specs.List.{slice_get}
-use Rattle.std.proofs.lemmas.Bool.{cases_lt}
-use Rattle.std.proofs.lemmas.Option.{slice_get_within}
-use Rattle.rmm_spec.specs.declared.accepted.Accepted.{Accepted}
+use Rattle.verdict_laws.proofs.Common.{◌≡◌, ℕ, zero, suc, ◌+◌, ◌≤◌, ◌⊎◌, inl, inr, List, [], ◌∷◌, ◌++◌, length, Some, refl, sym, ◌∙◌, ap, subst, arith, append_assoc, slice_get, cases_lt, slice_get_within, Accepted, Command, Event, Line, Keep, Unfinished, Refusal, Reply, call_of, History, IsHistory, State, opening, Step, CarriesOut, outcome, JournalEntry, IsRun, IsFinished, IsLinearization, ReturnsBefore, AreEntriesOf, IsEntryOf, NamesCall, IsOfItsKind, cpu_named, number_named, HasOnePlaces-from_history, count_of, LeadsNowhere, slice_get-append}
+use Rattle.std.proofs.Common.{Result, Ok, Err}
 use Rattle.rmm_spec.specs.declared.accepted.Accepted.TheVariants as accepted
-use Rattle.rmm_spec.specs.declared.command.Command.{Command}
-use Rattle.rmm_spec.specs.declared.event.Event.{Event}
-use Rattle.rmm_spec.specs.declared.line.Line.{Line}
-use Rattle.rmm_spec.specs.declared.line.Line.TheVariants.{Keep, Unfinished}
-use Rattle.rmm_spec.specs.declared.refusal.Refusal.{Refusal}
-use Rattle.rmm_spec.specs.declared.reply.Reply.{Reply}
-use Rattle.rmm_spec.specs.Call.{call_of}
-use Rattle.rmm_spec.specs.HistoryText.{History, IsHistory}
-use Rattle.rmm_spec.specs.State.{State, opening}
-use Rattle.rmm_spec.specs.Step.{Step, CarriesOut, outcome}
-use Rattle.rmm_spec.specs.Run.{JournalEntry, IsRun}
-use Rattle.rmm_spec.specs.Linearization.{IsFinished, IsLinearization, ReturnsBefore, AreEntriesOf, IsEntryOf, NamesCall, NamesSame, IsOfItsKind, cpu_named, number_named}
+use Rattle.rmm_spec.specs.Linearization.{NamesSame}
 use Rattle.rmm_laws.proofs.RunLaws.{run-append}
 use Rattle.rmm_laws.proofs.StepLaws.{step-decides}
 use Rattle.spec_lemmas.proofs.Calls.{HasOnePlaces, SameEntries, same_entry}
-use Rattle.checker.proofs.Judging.{HasOnePlaces-from_history}
-use Rattle.verdict_laws.specs.Order.{count_of, Reaches, LeadsNowhere, Grows, IsRefusal}
+use Rattle.verdict_laws.specs.Order.{Reaches, Grows, IsRefusal}
 use Rattle.verdict_laws.proofs.Moves.{Each, Pairs, Each-from_places, Each-at, Pairs-from_places, Pairs-at, Each-moved, Pairs-moved, place_moved, around_place}
-use Rattle.lemmas.proofs.Elements.{slice_get-append}
 
 -- ---- runs
 

@@ -1,18 +1,15 @@
 -- An order has no more lines than its history has events, since each line names a call of its own.
-use Rattle.std.proofs.Common.{◌≡◌, ℕ, zero, suc, ◌<◌, ◌≤◌, true, false, eqb, List, [], ◌∷◌, inl, inr, length, get_or, Some, refl, sym, ◌∙◌, ap, subst, arith}
-use Rattle.std.specs.List.{slice_get, list_any}
-use Rattle.std.proofs.lemmas.Bool.{cases_lt, both_ways}
+use Rattle.verdict_laws.proofs.Common.{◌≡◌, ℕ, zero, suc, ◌<◌, ◌≤◌, true, false, eqb, List, [], ◌∷◌, inl, inr, length, Some, refl, sym, ◌∙◌, ap, subst, arith, slice_get, cases_lt, none-some, same_Some, slice_get_within, Command, Event, Called, Line, IsCalled, NamesCall, cpu_named, number_named}
+use Rattle.std.proofs.Common.{get_or}
+use Rattle.std.specs.List.{list_any}
+use Rattle.std.proofs.lemmas.Bool.{both_ways}
 use Rattle.std.proofs.lemmas.Bool.Decides.{eqb_tells}
 use Rattle.std.proofs.lemmas.List.Folds.{list_any_none}
 use Rattle.std.proofs.lemmas.List.Elements.{All-from_get_or}
 use Rattle.std.proofs.lemmas.Map.Keys.{IsDistinct-from_apart}
 use Rattle.std.proofs.lemmas.Map.Steps.{length-le_from_distinct_below}
-use Rattle.std.proofs.lemmas.Option.{none-some, same_Some, slice_get_within, slice_get-get_or, slice_get_cases}
-use Rattle.rmm_spec.specs.declared.command.Command.{Command}
-use Rattle.rmm_spec.specs.declared.event.Event.{Event}
-use Rattle.rmm_spec.specs.declared.event.Event.TheVariants.{Called}
-use Rattle.rmm_spec.specs.declared.line.Line.{Line}
-use Rattle.rmm_spec.specs.Linearization.{IsCalled, NamesCall, NamesCalls, cpu_named, number_named}
+use Rattle.std.proofs.lemmas.Option.{slice_get-get_or, slice_get_cases}
+use Rattle.rmm_spec.specs.Linearization.{NamesCalls}
 
 -- a place for each line: that of its call
 record Placed (events : List Event) (lines : List Line) : Type 0 where

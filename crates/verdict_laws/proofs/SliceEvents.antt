@@ -1,16 +1,5 @@
 -- Histories and their slices: where each call and return of the one stands in the other.
-use Rattle.std.proofs.Common.{◌≡◌, ℕ, zero, suc, ◌+◌, ◌<◌, ◌≤◌, ◌⊎◌, inl, inr, Bool, List, [], ◌∷◌, ◌++◌, length, Option, Some, None, refl, sym, ◌∙◌, ap, subst, arith}
-use Rattle.std.specs.List.{slice_get}
-use Rattle.std.proofs.lemmas.Bool.{cases_lt, cases_order}
-use Rattle.std.proofs.lemmas.Option.{none-some, same_Some, slice_get_within}
-use Rattle.rmm_spec.specs.declared.command.Command.{Command}
-use Rattle.rmm_spec.specs.declared.event.Event.{Event}
-use Rattle.rmm_spec.specs.declared.event.Event.TheVariants.{Called, Returned}
-use Rattle.rmm_spec.specs.declared.reply.Reply.{Reply}
-use Rattle.rmm_spec.specs.HistoryText.{History, IsHistory}
-use Rattle.rmm_spec.specs.Linearization.{IsCalled, IsReturned}
-use Rattle.lemmas.proofs.Elements.{slice_get-append}
-use Rattle.checker.proofs.Judging.{HasOnePlaces-from_history}
+use Rattle.verdict_laws.proofs.Common.{◌≡◌, ℕ, zero, suc, ◌+◌, ◌<◌, ◌≤◌, ◌⊎◌, inl, inr, Bool, List, [], ◌∷◌, ◌++◌, length, Option, Some, None, refl, sym, ◌∙◌, ap, subst, arith, slice_get, cases_lt, cases_order, none-some, same_Some, slice_get_within, Command, Event, Called, Returned, Reply, History, IsHistory, IsCalled, IsReturned, slice_get-append, HasOnePlaces-from_history}
 use Rattle.verdict_laws.specs.Slices.{IsCut, IsSlice, events_from, lending_events, numbered, with_number}
 use Rattle.verdict_laws.proofs.CallOrder.{call_before_return}
 use Rattle.verdict_laws.proofs.Settled.{behind}

@@ -1,17 +1,9 @@
 -- Lines of an order as commits of a slice: each fits behind those before it.
-use Rattle.std.proofs.Common.{◌≡◌, ℕ, ◌&&◌, Bool, true, false, List, [], ◌∷◌, map, inl, inr, ◌⊎◌, Option, Some, None, refl, sym, ◌∙◌, ap, subst}
+use Rattle.verdict_laws.proofs.Common.{◌≡◌, ℕ, ◌&&◌, Bool, true, false, List, [], ◌∷◌, map, inl, inr, ◌⊎◌, Option, Some, None, refl, sym, ◌∙◌, ap, subst, and_parts, false_from_ne_true, false≢true, or_left, or_right, Command, Event, Line, Keep, Unfinished, Reply, call_of, History, IsHistory, is_accepted, IsCalled, IsReturned, IsFinished, cpu_named, number_named}
 use Rattle.std.specs.Option.{IsSome}
-use Rattle.std.proofs.lemmas.Bool.{and_parts, false_from_ne_true, false≢true, or_from, or_left, or_right}
-use Rattle.rmm_spec.specs.declared.command.Command.{Command}
-use Rattle.rmm_spec.specs.declared.event.Event.{Event}
-use Rattle.rmm_spec.specs.declared.line.Line.{Line}
-use Rattle.rmm_spec.specs.declared.line.Line.TheVariants.{Keep, Unfinished}
-use Rattle.rmm_spec.specs.declared.reply.Reply.{Reply}
+use Rattle.std.proofs.lemmas.Bool.{or_from}
 use Rattle.rmm_spec.specs.declared.reply.Reply.TheVariants as reply
-use Rattle.rmm_spec.specs.Call.{call_of}
-use Rattle.rmm_spec.specs.HistoryText.{History, IsHistory}
-use Rattle.rmm_spec.specs.Ownership.{is_accepted}
-use Rattle.rmm_spec.specs.Linearization.{IsCalled, IsReturned, IsFinished, IsReplyOf, cpu_named, number_named}
+use Rattle.rmm_spec.specs.Linearization.{IsReplyOf}
 use Rattle.verdict_laws.specs.Slices.{IsBack, IsCut, IsKeptReply, IsKnownAt, is_lent, may_change, shows_names}
 use Rattle.verdict_laws.proofs.CallOrder.{returns_before_later}
 use Rattle.verdict_laws.proofs.Moves.{Each}

@@ -1,18 +1,6 @@
 -- The lines of a slice's lendings, which stand before those of its other calls.
-use Rattle.std.proofs.Common.{◌≡◌, ℕ, zero, suc, ◌+◌, ◌<◌, ◌≤◌, List, [], ◌∷◌, map, Some, refl, subst, arith}
-use Rattle.std.specs.List.{slice_get}
-use Rattle.std.proofs.lemmas.Option.{none-some}
-use Rattle.rmm_spec.specs.declared.command.Command.{Command}
-use Rattle.rmm_spec.specs.declared.event.Event.{Event}
-use Rattle.rmm_spec.specs.declared.event.Event.TheVariants.{Called, Returned}
-use Rattle.rmm_spec.specs.declared.line.Line.{Line}
-use Rattle.rmm_spec.specs.declared.line.Line.TheVariants.{Keep}
-use Rattle.rmm_spec.specs.declared.reply.Reply.{Reply}
-use Rattle.rmm_spec.specs.HistoryText.{History, IsHistory}
-use Rattle.rmm_spec.specs.Linearization.{IsCalled, IsReturned, IsNamed, IsOfItsKind, ReturnsBefore, AreEntriesOf, cpu_named, number_named}
-use Rattle.rmm_spec.specs.Rows.{ok}
+use Rattle.verdict_laws.proofs.Common.{◌≡◌, ℕ, zero, suc, ◌+◌, ◌<◌, ◌≤◌, List, [], ◌∷◌, map, Some, refl, subst, arith, slice_get, none-some, Command, Event, Called, Returned, Line, Keep, Reply, History, IsHistory, IsCalled, IsReturned, IsNamed, IsOfItsKind, ReturnsBefore, AreEntriesOf, cpu_named, number_named, ok, HasOnePlaces-from_history}
 use Rattle.spec_lemmas.proofs.Calls.{HasOnePlaces}
-use Rattle.checker.proofs.Judging.{HasOnePlaces-from_history}
 use Rattle.verdict_laws.specs.Slices.{delegation, lending_events}
 use Rattle.verdict_laws.proofs.CallOrder.{call_before_return, finished_below, returns_in_order}
 use Rattle.verdict_laws.proofs.Moves.{Each, Pairs}

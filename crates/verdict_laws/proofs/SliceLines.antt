@@ -1,22 +1,8 @@
 -- Lines of an order and their commits in a slice: a CPU is inside of a REC behind those of its first calls where the next is made inside of one.
-use Rattle.std.proofs.Common.{◌≡◌, ℕ, zero, suc, ◌+◌, ◌<◌, ◌==◌, Bool, true, false, List, [], ◌∷◌, map, inl, inr, ◌⊎◌, Option, Some, None, refl, sym, ◌∙◌, ap, subst, arith, eqb-true, eq-eqb}
-use Rattle.std.specs.List.{slice_get}
+use Rattle.verdict_laws.proofs.Common.{◌≡◌, ℕ, zero, suc, ◌+◌, ◌<◌, ◌==◌, Bool, true, false, List, [], ◌∷◌, map, inl, inr, ◌⊎◌, Option, Some, None, refl, sym, ◌∙◌, ap, subst, arith, eqb-true, eq-eqb, slice_get, cases_Bool, cases_order, false≢true, none-some, same_Some, Command, Event, Line, Keep, Unfinished, Reply, call_of, History, IsHistory, is_accepted, JournalEntry, IsCalled, IsReturned, IsFinished, IsOfItsKind, IsEntryOf, ReturnsBefore, cpu_named, number_named, both_ways, HasOnePlaces-from_history}
 use Rattle.std.specs.Option.{IsSome}
-use Rattle.std.proofs.lemmas.Bool.{cases_Bool, cases_order, false≢true}
-use Rattle.std.proofs.lemmas.Option.{none-some, same_Some}
-use Rattle.rmm_spec.specs.declared.command.Command.{Command}
-use Rattle.rmm_spec.specs.declared.event.Event.{Event}
-use Rattle.rmm_spec.specs.declared.line.Line.{Line}
-use Rattle.rmm_spec.specs.declared.line.Line.TheVariants.{Keep, Unfinished}
-use Rattle.rmm_spec.specs.declared.reply.Reply.{Reply}
-use Rattle.rmm_spec.specs.Call.{call_of}
-use Rattle.rmm_spec.specs.HistoryText.{History, IsHistory}
-use Rattle.rmm_spec.specs.Ownership.{is_accepted}
-use Rattle.rmm_spec.specs.Run.{JournalEntry}
-use Rattle.rmm_spec.specs.Linearization.{IsCalled, IsReturned, IsFinished, IsOfItsKind, IsReplyOf, IsEntryOf, ReturnsBefore, cpu_named, number_named}
-use Rattle.lemmas.proofs.Tests.{both_ways}
+use Rattle.rmm_spec.specs.Linearization.{IsReplyOf}
 use Rattle.spec_lemmas.proofs.Calls.{HasOnePlaces, same_given}
-use Rattle.checker.proofs.Judging.{HasOnePlaces-from_history}
 use Rattle.verdict_laws.specs.Slices.{AreEntered, is_entered_by}
 use Rattle.verdict_laws.proofs.CallOrder.{finished_before_call, returns_before_later}
 use Rattle.verdict_laws.proofs.Moves.{Each, Pairs}

@@ -1,21 +1,7 @@
 -- Where a slice of a history has no order, the history has none.
-use Rattle.std.proofs.Common.{◌≡◌, ℕ, suc, ◌+◌, Bool, true, false, if◌then◌else◌, List, [], ◌∷◌, ◌++◌, length, map, inl, inr, Option, Some, None, refl, sym, ◌∙◌, ap, subst, arith}
-use Rattle.std.specs.List.{slice_get}
+use Rattle.verdict_laws.proofs.Common.{◌≡◌, ℕ, suc, ◌+◌, Bool, true, false, if◌then◌else◌, List, [], ◌∷◌, ◌++◌, length, map, inl, inr, Option, Some, None, refl, sym, ◌∙◌, ap, subst, arith, slice_get, false≢true, slice_get_within, Event, Line, Keep, Unfinished, Reply, Config, History, IsHistory, is_accepted, opening, JournalEntry, IsRun, IsCalled, IsReturned, IsFinished, IsNamed, IsOfItsKind, NamesCall, IsEntryOf, AreEntriesOf, IsLinearization, cpu_named, number_named, slice_get-append, HasOnePlaces-from_history, LeadsNowhere}
 use Rattle.std.specs.Option.{IsSome}
-use Rattle.std.proofs.lemmas.Bool.{false≢true}
-use Rattle.std.proofs.lemmas.Option.{slice_get_within}
-use Rattle.rmm_spec.specs.declared.event.Event.{Event}
-use Rattle.rmm_spec.specs.declared.line.Line.{Line}
-use Rattle.rmm_spec.specs.declared.line.Line.TheVariants.{Keep, Unfinished}
-use Rattle.rmm_spec.specs.declared.reply.Reply.{Reply}
-use Rattle.rmm_spec.specs.HistoryText.{Config, History, IsHistory}
-use Rattle.rmm_spec.specs.Ownership.{is_accepted}
-use Rattle.rmm_spec.specs.State.{opening}
-use Rattle.rmm_spec.specs.Run.{JournalEntry, IsRun}
-use Rattle.rmm_spec.specs.Linearization.{IsCalled, IsReturned, IsFinished, IsNamed, IsOfItsKind, NamesCall, IsEntryOf, AreEntriesOf, IsLinearization, cpu_named, number_named}
-use Rattle.lemmas.proofs.Elements.{slice_get-append, slice_get-map_from, slice_get-map_to}
-use Rattle.checker.proofs.Judging.{HasOnePlaces-from_history}
-use Rattle.verdict_laws.specs.Order.{LeadsNowhere}
+use Rattle.lemmas.proofs.Elements.{slice_get-map_from, slice_get-map_to}
 use Rattle.verdict_laws.specs.Slices.{IsCut, IsSlice, lending_events}
 use Rattle.verdict_laws.proofs.Moves.{Each, Pairs, Each-append, Each-at, Each-from_places, Pairs-append, Pairs-at, Pairs-from_places}
 use Rattle.verdict_laws.proofs.Settled.{Apart, behind, claimed-append}

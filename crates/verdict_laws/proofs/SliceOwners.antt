@@ -1,32 +1,12 @@
 -- Live parts are of live realms and RECs, and a live realm's RECs stay live.
-use Rattle.std.proofs.Common.{◌≡◌, ℕ, ◌==◌, ◌||◌, ◌⊎◌, Bool, true, false, if◌then◌else◌, List, Option, Some, None, inl, inr, refl, sym, ◌∙◌, ap, subst}
-use Rattle.std.proofs.lemmas.Bool.{false_from_ne_true, or_cases, or_right}
-use Rattle.std.proofs.lemmas.Option.{same_Some}
-use Rattle.rmm_spec.specs.declared.change.Change.{Change}
-use Rattle.rmm_spec.specs.declared.change.Change.TheVariants.{RecMade, RecDestroyed, RecordsChanged, EntriesChanged}
-use Rattle.rmm_spec.specs.declared.change.EntryChange.TheVariants.{Replaced, RipasSet}
-use Rattle.rmm_spec.specs.declared.change.RealmChange.{RealmChange}
-use Rattle.rmm_spec.specs.declared.change.RecChange.{RecChange}
-use Rattle.rmm_spec.specs.declared.change.TagChange.{TagChange}
-use Rattle.rmm_spec.specs.declared.tag.Tag.{Tag}
-use Rattle.rmm_spec.specs.declared.tag.Tag.TheVariants.{Data, Rd, RecAux, Rtt}
-use Rattle.rmm_spec.specs.Applicable.{CanApply, CanChangeRec}
-use Rattle.rmm_spec.specs.Change.{changed, new_rec, rec_updated, with_realm_change, with_rec_change, with_tag_change}
-use Rattle.rmm_spec.specs.HistoryText.{Config}
-use Rattle.rmm_spec.specs.Lookup.{rec_at}
+use Rattle.verdict_laws.proofs.Common.{◌≡◌, ℕ, ◌==◌, ◌||◌, ◌⊎◌, Bool, true, false, if◌then◌else◌, List, Option, Some, None, inl, inr, refl, sym, ◌∙◌, ap, subst, false_from_ne_true, or_cases, or_right, same_Some, Change, RecMade, RecDestroyed, RecordsChanged, EntriesChanged, Replaced, RipasSet, RealmChange, RecChange, TagChange, Tag, Rd, RecAux, Rtt, CanApply, changed, new_rec, rec_updated, with_realm_change, with_rec_change, with_tag_change, Config, rec_at, IsRun, JournalEntry, IsSound, RecRecord, State, opening, both_ways, tag-has_tag, by_address, with_records, rec_there, is_part, unused_tag}
+use Rattle.rmm_spec.specs.declared.tag.Tag.TheVariants.{Data}
+use Rattle.rmm_spec.specs.Applicable.{CanChangeRec}
 use Rattle.rmm_spec.specs.Ownership.{Claim, IsTied}
-use Rattle.rmm_spec.specs.Run.{IsRun, JournalEntry}
-use Rattle.rmm_spec.specs.Sound.{IsSound}
-use Rattle.rmm_spec.specs.State.{RecRecord, State, opening}
-use Rattle.lemmas.proofs.Tests.{both_ways}
-use Rattle.spec_lemmas.proofs.TagLaws.{tag-has_tag}
-use Rattle.rmm_laws.proofs.Cases.{by_address, nothing_there}
+use Rattle.rmm_laws.proofs.Cases.{nothing_there}
 use Rattle.rmm_laws.proofs.Isolation.{run-owned}
-use Rattle.rmm_laws.proofs.Keeps.{realm_change-rest, rec_updated-like, tag_change-rest, with_records}
-use Rattle.rmm_laws.proofs.Searches.{rec_there}
+use Rattle.rmm_laws.proofs.Keeps.{realm_change-rest, rec_updated-like, tag_change-rest}
 use Rattle.rmm_laws.proofs.Ties.{IsUnused, aux-has_aux, tied-tag}
-use Rattle.verdict_laws.specs.Apart.{is_part}
-use Rattle.verdict_laws.specs.Slices.{unused_tag}
 use Rattle.verdict_laws.proofs.SliceTerms.{IsPut, masked}
 use Rattle.verdict_laws.proofs.Touched.{ArePartsOutside}
 

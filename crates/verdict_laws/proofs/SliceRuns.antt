@@ -1,22 +1,13 @@
 -- A run of commits of which each fits is, without those that aren't kept, one behind the lending of granules.
-use Rattle.std.proofs.Common.{◌≡◌, ℕ, ◌==◌, ◌||◌, Bool, true, false, List, [], ◌∷◌, ◌++◌, map, None, Some, inl, inr, refl, ◌∙◌, ap, subst, eq-eqb, eqb-true}
-use Rattle.std.proofs.lemmas.Bool.{false_from_ne_true, or_from, or_left, or_right}
+use Rattle.verdict_laws.proofs.Common.{◌≡◌, ℕ, ◌==◌, ◌||◌, Bool, true, false, List, [], ◌∷◌, ◌++◌, map, None, Some, inl, inr, refl, ◌∙◌, ap, subst, eq-eqb, eqb-true, false_from_ne_true, or_left, or_right, Retagged, Undelegated, Delegated, call_of, class_of, changed, Config, has_tag, is_inside, ok, IsRun, JournalEntry, State, opening, Step, answer_of, outcome, named, words_of, both_ways, unused_tag}
+use Rattle.std.proofs.lemmas.Bool.{or_from}
 use Rattle.std.proofs.Math.Bool.{or-false}
-use Rattle.rmm_spec.specs.declared.change.Change.TheVariants.{Retagged}
-use Rattle.rmm_spec.specs.declared.tag.Tag.TheVariants.{Undelegated, Delegated}
-use Rattle.rmm_spec.specs.Call.{call_of, call_from, class_of}
-use Rattle.rmm_spec.specs.Change.{changed}
-use Rattle.rmm_spec.specs.HistoryText.{Config}
-use Rattle.rmm_spec.specs.Lookup.{has_tag, is_granule, is_inside}
-use Rattle.rmm_spec.specs.Rows.{ok}
-use Rattle.rmm_spec.specs.Run.{IsRun, JournalEntry}
-use Rattle.rmm_spec.specs.State.{State, opening}
-use Rattle.rmm_spec.specs.Step.{Step, answer_of, commands, outcome}
-use Rattle.rmm_spec.specs.Step.Terms.{named, words_of}
-use Rattle.lemmas.proofs.Tests.{both_ways}
+use Rattle.rmm_spec.specs.Call.{call_from}
+use Rattle.rmm_spec.specs.Lookup.{is_granule}
+use Rattle.rmm_spec.specs.Step.{commands}
 use Rattle.rmm_laws.proofs.RunLaws.{run-append, run-snoc}
 use Rattle.rmm_laws.proofs.Runs.{opened_run_sound}
-use Rattle.verdict_laws.specs.Slices.{AreLent, delegation, is_lent, may_change, unused_tag}
+use Rattle.verdict_laws.specs.Slices.{AreLent, delegation, is_lent, may_change}
 use Rattle.verdict_laws.proofs.Entered.{RunAsEntered, RunAsEntered-stays, outside_masked}
 use Rattle.verdict_laws.proofs.LeftUnused.{IsAsLeft, as_left_next, as_left_opening}
 use Rattle.verdict_laws.proofs.Masks.{masked-lent, masked-opening}

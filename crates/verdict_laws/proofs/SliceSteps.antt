@@ -1,44 +1,21 @@
 -- A step of a call on what is live is one behind the mask too, and one of a call on other things alone isn't seen there.
-use Rattle.std.proofs.Common.{◌≡◌, ℕ, ◌+◌, ◌==◌, ◌||◌, Bool, true, false, List, [], ◌∷◌, inl, inr, if◌then◌else◌, refl, sym, ◌∙◌, ap, subst, eqb-true}
-use Rattle.std.specs.Prelude.{◌⊎◌, Contains, Ok, Err, IsTrue, Result, is_none}
-use Rattle.std.proofs.lemmas.Bool.{and_parts, not-true, or_left, or_right}
-use Rattle.std.proofs.lemmas.Option.{none-some}
-use Rattle.rmm_spec.specs.declared.accepted.Accepted.{Accepted}
-use Rattle.rmm_spec.specs.declared.accepted.Accepted.TheVariants.{Done, Reaches}
+use Rattle.verdict_laws.proofs.Common.{◌≡◌, ℕ, ◌+◌, ◌==◌, ◌||◌, Bool, true, false, List, [], ◌∷◌, inl, inr, if◌then◌else◌, refl, sym, ◌∙◌, ap, subst, eqb-true, Ok, Err, Result, is_none, and_parts, not-true, or_left, or_right, none-some, Accepted, Done, Reaches, Call, Change, Command, Entry, Refusal, Reply, Undelegated, Delegated, Rd, CanApply, call_of, class_of, changed, is_named, has_rec, is_inside, rec_at, rec_inside, is_accepted, Needed, IsSound, State, CarriesOut, Step, is_placed, outcome, IsReached, reached_change, named, entry_at, entry_number, both_ways, step-refuses, is_part, unused_tag}
+use Rattle.std.specs.Prelude.{◌⊎◌, Contains, IsTrue}
 use Rattle.rmm_spec.specs.declared.accepted.Stretch.{Stretch}
 use Rattle.rmm_spec.specs.declared.accepted.StretchUse.{StretchUse}
 use Rattle.rmm_spec.specs.declared.accepted.StretchUse.TheVariants.{Init, Requested}
-use Rattle.rmm_spec.specs.declared.call.Call.{Call}
 use Rattle.rmm_spec.specs.declared.call.Call.TheVariants as call
-use Rattle.rmm_spec.specs.declared.change.Change.{Change}
-use Rattle.rmm_spec.specs.declared.command.Command.{Command}
-use Rattle.rmm_spec.specs.declared.entry.Entry.{Entry}
-use Rattle.rmm_spec.specs.declared.refusal.Refusal.{Refusal}
-use Rattle.rmm_spec.specs.declared.reply.Reply.{Reply}
 use Rattle.rmm_spec.specs.declared.reply.Reply.TheVariants as reply
-use Rattle.rmm_spec.specs.declared.tag.Tag.TheVariants.{Undelegated, Delegated, Rd}
-use Rattle.rmm_spec.specs.Applicable.{CanApply}
-use Rattle.rmm_spec.specs.Call.{Class, ByHost, ByRealm, ByExit, call_of, class_of}
-use Rattle.rmm_spec.specs.Change.{changed}
-use Rattle.rmm_spec.specs.Locks.{is_named}
-use Rattle.rmm_spec.specs.Lookup.{has_rec, is_inside, rec_at, rec_inside}
-use Rattle.rmm_spec.specs.Ownership.{is_accepted}
-use Rattle.rmm_spec.specs.Rows.{Needed, reply_of}
-use Rattle.rmm_spec.specs.Sound.{IsSound}
-use Rattle.rmm_spec.specs.State.{State}
-use Rattle.rmm_spec.specs.Step.{CarriesOut, Step, is_placed, outcome}
-use Rattle.rmm_spec.specs.Step.Ripas.{IsReached, can_be_set, reached_change, stretch_change}
-use Rattle.rmm_spec.specs.Step.Terms.{named, needed}
-use Rattle.rmm_spec.specs.Walk.{entry_at, entry_number}
-use Rattle.lemmas.proofs.Tests.{both_ways}
+use Rattle.rmm_spec.specs.Call.{Class, ByHost, ByRealm, ByExit}
+use Rattle.rmm_spec.specs.Rows.{reply_of}
+use Rattle.rmm_spec.specs.Step.Ripas.{can_be_set, stretch_change}
+use Rattle.rmm_spec.specs.Step.Terms.{needed}
 use Rattle.spec_lemmas.proofs.Members.{Contains-head, Contains-tail, each_of_two}
 use Rattle.rmm_laws.proofs.CommandFacts.{Tells, outcome-tells}
 use Rattle.rmm_laws.proofs.RowLaws.{refusal-refuses}
 use Rattle.rmm_laws.proofs.Runs.{done_applies, reached_applies}
-use Rattle.rmm_laws.proofs.StepLaws.{step-refuses}
-use Rattle.verdict_laws.specs.Apart.{is_part}
 use Rattle.verdict_laws.specs.Looking.{is_looking}
-use Rattle.verdict_laws.specs.Slices.{IsKeptReply, changeable, inside_after, is_by_host, is_hosts, is_inside_after, may_change, shows_names, unused_tag}
+use Rattle.verdict_laws.specs.Slices.{IsKeptReply, changeable, inside_after, is_by_host, is_hosts, is_inside_after, may_change, shows_names}
 use Rattle.verdict_laws.proofs.Entered.{IsMoveBy, RunAsEntered, RunAsEntered-grown, RunAsEntered-kept, RunAsEntered-left, RunAsEntered-stays, inside_both, inside_live, inside_outside, outcome-moves, placed_accepted}
 use Rattle.verdict_laws.proofs.Looked.{looks-keep}
 use Rattle.verdict_laws.proofs.MaskedCalls.{IsKnownTo, outcome-found, outcome-masked, refused_named, refused_placed}

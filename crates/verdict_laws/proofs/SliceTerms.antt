@@ -1,25 +1,10 @@
 -- What is said of the commits of a slice: the states that it comes to, what a change puts, and how each commit fits behind others.
-use Rattle.std.proofs.Common.{◌≡◌, ℕ, ◌==◌, ◌||◌, ◌&&◌, Bool, true, false, if◌then◌else◌, List, [], ◌∷◌, Option, Some, None}
+use Rattle.verdict_laws.proofs.Common.{◌≡◌, ℕ, ◌==◌, ◌||◌, ◌&&◌, Bool, true, false, if◌then◌else◌, List, [], ◌∷◌, Option, Some, None, Accepted, Done, Reaches, Call, Change, Unchanged, Retagged, RealmMade, RealmDestroyed, RecMade, RecDestroyed, RecordsChanged, TableMade, TableDestroyed, EntriesChanged, RealmChange, RecChange, TagChange, call_of, class_of, rec_at, rec_inside, is_accepted, Needed, ok, JournalEntry, State, reached_change, named, unused_tag}
 use Rattle.std.specs.Prelude.{◌⊎◌, Contains}
-use Rattle.rmm_spec.specs.declared.accepted.Accepted.{Accepted}
-use Rattle.rmm_spec.specs.declared.accepted.Accepted.TheVariants.{Done, Reaches}
-use Rattle.rmm_spec.specs.declared.call.Call.{Call}
-use Rattle.rmm_spec.specs.declared.change.Change.{Change}
-use Rattle.rmm_spec.specs.declared.change.Change.TheVariants.{Unchanged, Retagged, RealmMade, RealmDestroyed, RecMade, RecDestroyed, RecordsChanged, TableMade, TableDestroyed, EntriesChanged}
-use Rattle.rmm_spec.specs.declared.change.RealmChange.{RealmChange}
-use Rattle.rmm_spec.specs.declared.change.RecChange.{RecChange}
-use Rattle.rmm_spec.specs.declared.change.TagChange.{TagChange}
 use Rattle.rmm_spec.specs.declared.tag.Tag.TheVariants as tag
-use Rattle.rmm_spec.specs.Call.{Class, ByHost, ByRealm, ByExit, call_of, class_of}
-use Rattle.rmm_spec.specs.Lookup.{rec_at, rec_inside}
-use Rattle.rmm_spec.specs.Ownership.{is_accepted}
-use Rattle.rmm_spec.specs.Rows.{Needed, ok}
-use Rattle.rmm_spec.specs.Run.{JournalEntry}
-use Rattle.rmm_spec.specs.State.{State}
-use Rattle.rmm_spec.specs.Step.Ripas.{reached_change}
-use Rattle.rmm_spec.specs.Step.Terms.{named}
+use Rattle.rmm_spec.specs.Call.{Class, ByHost, ByRealm, ByExit}
 use Rattle.verdict_laws.specs.Looking.{is_looking}
-use Rattle.verdict_laws.specs.Slices.{IsKeptReply, delegation, is_of_ended, leaves_unused, makes_part, inside_after, is_hosts, is_lent, may_change, shows_names, unused_tag}
+use Rattle.verdict_laws.specs.Slices.{IsKeptReply, delegation, is_of_ended, leaves_unused, makes_part, inside_after, is_hosts, is_lent, may_change, shows_names}
 
 -- ---- states
 

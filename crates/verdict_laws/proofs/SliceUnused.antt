@@ -1,21 +1,11 @@
 -- Lines of an order: behind them a granule that calls left unused is so still, unless a kept call has changed it.
-use Rattle.std.proofs.Common.{◌≡◌, ℕ, Bool, true, false, List, [], ◌∷◌, map, inl, inr, ◌⊎◌, Option, Some, None, refl, sym, ◌∙◌, ap, subst, arith}
-use Rattle.std.specs.List.{slice_get}
-use Rattle.std.proofs.lemmas.Bool.{and_from, cases_Bool, or_left, or_right, true≢false, false≢true}
-use Rattle.rmm_spec.specs.declared.call.Call.{Call}
-use Rattle.rmm_spec.specs.declared.command.Command.{Command}
-use Rattle.rmm_spec.specs.declared.event.Event.{Event}
-use Rattle.rmm_spec.specs.declared.event.Event.TheVariants.{Called}
+use Rattle.verdict_laws.proofs.Common.{◌≡◌, ℕ, Bool, true, false, List, [], ◌∷◌, map, inl, inr, ◌⊎◌, Option, Some, None, refl, sym, ◌∙◌, ap, subst, arith, slice_get, and_from, cases_Bool, or_left, or_right, false≢true, Call, Command, Event, Called, Line, Keep, Unfinished, call_of, History, IsHistory, is_accepted, IsCalled, IsReturned, IsFinished, ReturnsBefore, cpu_named, number_named, HasOnePlaces-from_history}
+use Rattle.std.proofs.lemmas.Bool.{true≢false}
 use Rattle.rmm_spec.specs.declared.function_id.FunctionId.{FunctionId}
 use Rattle.rmm_spec.specs.declared.function_id.FunctionId.TheVariants as function
-use Rattle.rmm_spec.specs.declared.line.Line.{Line}
-use Rattle.rmm_spec.specs.declared.line.Line.TheVariants.{Keep, Unfinished}
-use Rattle.rmm_spec.specs.Call.{call_from, call_of}
-use Rattle.rmm_spec.specs.HistoryText.{History, IsHistory}
-use Rattle.rmm_spec.specs.Ownership.{is_accepted}
-use Rattle.rmm_spec.specs.Linearization.{IsCalled, IsReturned, IsFinished, NamesSame, ReturnsBefore, cpu_named, number_named}
+use Rattle.rmm_spec.specs.Call.{call_from}
+use Rattle.rmm_spec.specs.Linearization.{NamesSame}
 use Rattle.spec_lemmas.proofs.Calls.{HasOnePlaces, same_command}
-use Rattle.checker.proofs.Judging.{HasOnePlaces-from_history}
 use Rattle.verdict_laws.specs.Looking.{is_looking, is_looking_function}
 use Rattle.verdict_laws.specs.Slices.{ChangesNothing, IsBack, IsDoneBefore, IsLastOn, IsPartBack, IsUntouched, IsUnusedAt, is_of_ended, leaves_unused, makes_part, may_change}
 use Rattle.verdict_laws.proofs.CallOrder.{call_before_return}

@@ -1,22 +1,11 @@
 -- Changes that leave the tag of a granule, and whether a CPU is inside of a REC.
-use Rattle.std.proofs.Common.{◌≡◌, ℕ, ◌*◌, ◌==◌, Bool, true, false, if◌then◌else◌, Option, Some, None, refl, sym, ◌∙◌, ap, eqb-true}
-use Rattle.std.specs.Prelude.{unwrap_or}
-use Rattle.rmm_spec.specs.declared.change.Change.{Change}
-use Rattle.rmm_spec.specs.declared.change.Change.TheVariants.{Unchanged, Retagged, RealmMade, RealmDestroyed, RecMade, RecDestroyed, RecordsChanged, TableMade, TableDestroyed, EntriesChanged}
+use Rattle.verdict_laws.proofs.Common.{◌≡◌, ℕ, ◌*◌, ◌==◌, Bool, true, false, if◌then◌else◌, Option, Some, None, refl, sym, ◌∙◌, ap, eqb-true, unwrap_or, Change, Unchanged, Retagged, RealmMade, RealmDestroyed, RecMade, RecDestroyed, RecordsChanged, TableMade, TableDestroyed, EntriesChanged, Replaced, RipasSet, RealmChange, RecChange, TagChange, Tag, Delegated, Rd, Rec, RecAux, Rtt, State, RecRecord, changed, new_rec, realm_updated, rec_updated, with_tag_change, with_realm_change, with_rec_change, runs_on, is_inside, no_rec, realm_at, rec_at, both_ways, by_address}
 use Rattle.rmm_spec.specs.declared.change.EntryChange.{EntryChange}
-use Rattle.rmm_spec.specs.declared.change.EntryChange.TheVariants.{Replaced, RipasSet}
-use Rattle.rmm_spec.specs.declared.change.RealmChange.{RealmChange}
 use Rattle.rmm_spec.specs.declared.change.RealmUpdate.TheVariants as realm_update
-use Rattle.rmm_spec.specs.declared.change.RecChange.{RecChange}
-use Rattle.rmm_spec.specs.declared.change.TagChange.{TagChange}
-use Rattle.rmm_spec.specs.declared.tag.Tag.{Tag}
-use Rattle.rmm_spec.specs.declared.tag.Tag.TheVariants.{Delegated, Rd, Rec, RecAux, Rtt}
-use Rattle.rmm_spec.specs.State.{State, RecRecord}
 use Rattle.rmm_spec.specs.Update.{with_tag, with_realm, without_realm, with_root, with_rec, without_rec, with_table, without_table}
-use Rattle.rmm_spec.specs.Change.{changed, new_realm, new_rec, realm_updated, rec_updated, with_tag_change, with_realm_change, with_rec_change, with_entry_change}
-use Rattle.rmm_spec.specs.Lookup.{any_below, is_cpu, runs_on, is_inside, no_rec, realm_at, rec_at}
-use Rattle.lemmas.proofs.Tests.{both_ways}
-use Rattle.rmm_laws.proofs.Cases.{by_address, at_itself}
+use Rattle.rmm_spec.specs.Change.{new_realm, with_entry_change}
+use Rattle.rmm_spec.specs.Lookup.{any_below, is_cpu}
+use Rattle.rmm_laws.proofs.Cases.{at_itself}
 
 -- ---- what is asked of a change
 

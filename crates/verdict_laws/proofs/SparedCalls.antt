@@ -1,41 +1,16 @@
 -- A call of another CPU that neither names a granule nor gives it back leaves the granule's tag, and whether the CPU is inside of a REC.
-use Rattle.std.proofs.Common.{◌≡◌, ℕ, ◌-◌, ◌==◌, Bool, true, false, if◌then◌else◌, IsTrue, List, [], ◌∷◌, ◌⊎◌, inl, inr, Option, Some, None, refl, sym, ◌∙◌, ap, subst, eqb-true}
-use Rattle.std.specs.Prelude.{Result, Ok, Err, is_none, unwrap_or}
-use Rattle.std.specs.List.{AllByRecursion}
-use Rattle.std.proofs.lemmas.Bool.{or_parts, ne_eqb}
-use Rattle.rmm_spec.specs.declared.accepted.Accepted.{Accepted}
-use Rattle.rmm_spec.specs.declared.accepted.Accepted.TheVariants.{Done, Reaches}
-use Rattle.rmm_spec.specs.declared.call.Call.{Call}
+use Rattle.verdict_laws.proofs.Common.{◌≡◌, ℕ, ◌-◌, ◌==◌, Bool, true, false, if◌then◌else◌, IsTrue, List, [], ◌∷◌, ◌⊎◌, inl, inr, Option, Some, None, refl, sym, ◌∙◌, ap, subst, eqb-true, Result, Ok, Err, is_none, unwrap_or, AllByRecursion, or_parts, ne_eqb, Accepted, Done, Reaches, Call, Command, Refusal, Misplaced, Reply, Tag, Delegated, Rec, call_of, changed, rec_updated, State, IsSound, is_named, has_tag, runs_on, is_inside, rec_inside, rec_at, no_rec, entry_number, reach, Needed, with_front, named, reached_change, is_placed, misplacement, answer_of, outcome, CarriesOut, Step, both_ways, behind, inside_runs, is_part}
 use Rattle.rmm_spec.specs.declared.call.Call.TheVariants as call
-use Rattle.rmm_spec.specs.declared.command.Command.{Command}
-use Rattle.rmm_spec.specs.declared.refusal.Refusal.{Refusal}
-use Rattle.rmm_spec.specs.declared.refusal.Refusal.TheVariants.{Misplaced}
-use Rattle.rmm_spec.specs.declared.reply.Reply.{Reply}
-use Rattle.rmm_spec.specs.declared.tag.Tag.{Tag}
-use Rattle.rmm_spec.specs.declared.tag.Tag.TheVariants.{Delegated, Rec}
-use Rattle.rmm_spec.specs.Call.{call_of}
-use Rattle.rmm_spec.specs.Change.{changed, rec_updated}
-use Rattle.rmm_spec.specs.State.{State}
 use Rattle.rmm_spec.specs.Update.{with_tag}
-use Rattle.rmm_spec.specs.Sound.{IsSound}
-use Rattle.rmm_spec.specs.Locks.{is_named}
-use Rattle.rmm_spec.specs.Lookup.{has_tag, is_cpu, runs_on, is_inside, rec_inside, rec_at, no_rec}
-use Rattle.rmm_spec.specs.Walk.{entry_number, reach}
-use Rattle.rmm_spec.specs.Rows.{Needed}
-use Rattle.rmm_spec.specs.Step.Front.{with_front}
-use Rattle.rmm_spec.specs.Step.Terms.{class_of, named}
-use Rattle.rmm_spec.specs.Step.Ripas.{reached_change}
-use Rattle.rmm_spec.specs.Step.{is_placed, misplacement, answer_of, outcome, CarriesOut, Step}
-use Rattle.lemmas.proofs.Tests.{both_ways}
-use Rattle.spec_lemmas.proofs.Behind.{behind}
+use Rattle.rmm_spec.specs.Lookup.{is_cpu}
+use Rattle.rmm_spec.specs.Step.Terms.{class_of}
 use Rattle.rmm_laws.proofs.ByRows.{AllHold, decided-accepted}
 use Rattle.rmm_laws.proofs.Cases.{none_of}
 use Rattle.rmm_laws.proofs.RowLaws.{front-rest}
-use Rattle.rmm_laws.proofs.Searches.{inside_runs}
 use Rattle.rmm_laws.proofs.StepLaws.{step-keeps}
 use Rattle.rmm_laws.proofs.Tags.{has_tag-other}
 use Rattle.rmm_laws.proofs.Ties.{IsUnused}
-use Rattle.verdict_laws.specs.Apart.{frees_unnamed, is_part}
+use Rattle.verdict_laws.specs.Apart.{frees_unnamed}
 use Rattle.verdict_laws.proofs.GivenBack.{aux_apart, page_apart, root_apart, table_apart}
 use Rattle.verdict_laws.proofs.Retags.{AreKeptAt, IsReached-tags, outcome-tags}
 use Rattle.verdict_laws.proofs.Spared.{RunAlike, Spares, changed-runs, changed-swapped, changed-tag, is_inside-alike, runs_on-read}

@@ -1,55 +1,29 @@
 -- Where a CPU is: the REC that runs on it says it, and the replies to its calls, one after another.
-use Rattle.std.proofs.Common.{◌≡◌, ℕ, suc, ◌*◌, ◌==◌, ◌&&◌, Bool, true, false, not, if◌then◌else◌, List, [], ◌∷◌, ◌++◌, inl, inr, Option, Some, None, IsTrue, refl, sym, ◌∙◌, ap, subst, arith, eq-eqb, eqb-true}
-use Rattle.std.specs.Prelude.{Result, Ok, Err, is_none, unwrap_or}
-use Rattle.std.proofs.lemmas.Bool.{and_parts, cases_Bool, false_from_ne_true, true_from_ne_false}
-use Rattle.rmm_spec.specs.declared.accepted.Accepted.{Accepted}
+use Rattle.verdict_laws.proofs.Common.{◌≡◌, ℕ, suc, ◌*◌, ◌==◌, ◌&&◌, Bool, true, false, not, if◌then◌else◌, List, [], ◌∷◌, ◌++◌, inl, inr, Option, Some, None, IsTrue, refl, sym, ◌∙◌, ap, subst, arith, eq-eqb, eqb-true, Result, Ok, Err, is_none, unwrap_or, and_parts, cases_Bool, false_from_ne_true, Accepted, Call, Change, RecMade, RecDestroyed, RecordsChanged, EntriesChanged, Replaced, RipasSet, RealmChange, RecChange, TagChange, Command, Line, Refusal, Misplaced, Reply, CanApply, call_of, class_of, changed, new_rec, rec_updated, with_realm_change, with_rec_change, with_tag_change, History, IsHistory, is_inside, no_rec, rec_at, rec_inside, request_of, runs_on, JournalEntry, is_accepted, IsCalled, IsReturned, cpu_named, number_named, IsSound, RecRecord, State, opening, CarriesOut, Step, is_placed, outcome, reached_change, both_ways, behind, HasOnePlaces-from_history, by_address, with_records, outcome-leads, inside_runs, count_of}
+use Rattle.std.proofs.lemmas.Bool.{true_from_ne_false}
 use Rattle.rmm_spec.specs.declared.accepted.Accepted.TheVariants as accepted
-use Rattle.rmm_spec.specs.declared.call.Call.{Call}
 use Rattle.rmm_spec.specs.declared.call.Call.TheVariants as call
-use Rattle.rmm_spec.specs.declared.change.Change.{Change}
-use Rattle.rmm_spec.specs.declared.change.Change.TheVariants.{RecMade, RecDestroyed, RecordsChanged, EntriesChanged}
-use Rattle.rmm_spec.specs.declared.change.EntryChange.TheVariants.{Replaced, RipasSet}
-use Rattle.rmm_spec.specs.declared.change.RealmChange.{RealmChange}
-use Rattle.rmm_spec.specs.declared.change.RecChange.{RecChange}
 use Rattle.rmm_spec.specs.declared.change.RecUpdate.TheVariants.{RequestMoved}
-use Rattle.rmm_spec.specs.declared.change.TagChange.{TagChange}
-use Rattle.rmm_spec.specs.declared.command.Command.{Command}
 use Rattle.rmm_spec.specs.declared.function_id.FunctionId.TheVariants as function
-use Rattle.rmm_spec.specs.declared.line.Line.{Line}
-use Rattle.rmm_spec.specs.declared.refusal.Refusal.{Refusal}
-use Rattle.rmm_spec.specs.declared.refusal.Refusal.TheVariants.{Misplaced}
-use Rattle.rmm_spec.specs.declared.reply.Reply.{Reply}
 use Rattle.rmm_spec.specs.declared.reply.Reply.TheVariants as reply
 use Rattle.rmm_spec.specs.declared.tag.Ripas.TheVariants.{Empty, Ram}
-use Rattle.rmm_spec.specs.Applicable.{CanApply, CanChangeRec}
-use Rattle.rmm_spec.specs.Call.{Class, ByExit, ByHost, ByRealm, call_of, class_of}
-use Rattle.rmm_spec.specs.Change.{changed, new_rec, rec_updated, with_realm_change, with_rec_change, with_tag_change}
+use Rattle.rmm_spec.specs.Applicable.{CanChangeRec}
+use Rattle.rmm_spec.specs.Call.{Class, ByExit, ByHost, ByRealm}
 use Rattle.rmm_spec.specs.Function.{number_of}
-use Rattle.rmm_spec.specs.HistoryText.{History, IsHistory}
-use Rattle.rmm_spec.specs.Lookup.{greatest_below, is_cpu, is_inside, no_rec, no_request, rec_at, rec_inside, request_of, ripas_number, runs_on}
+use Rattle.rmm_spec.specs.Lookup.{greatest_below, is_cpu, no_request, ripas_number}
 use Rattle.rmm_spec.specs.Rows.{reply_of}
-use Rattle.rmm_spec.specs.Run.{JournalEntry}
-use Rattle.rmm_spec.specs.Ownership.{is_accepted}
-use Rattle.rmm_spec.specs.Linearization.{IsCalled, IsReturned, cpu_named, number_named}
-use Rattle.rmm_spec.specs.Sound.{IsSound}
-use Rattle.rmm_spec.specs.State.{HostCall, Pending, Psci, RecRecord, Request, RipasChange, State, opening}
-use Rattle.rmm_spec.specs.Step.{CarriesOut, Step, is_placed, outcome}
+use Rattle.rmm_spec.specs.State.{HostCall, Pending, Psci, Request, RipasChange}
 use Rattle.rmm_spec.specs.Step.RealmCall.{ripas_asked}
-use Rattle.rmm_spec.specs.Step.Ripas.{reached_change}
 use Rattle.rmm_spec.specs.Update.{with_rec}
-use Rattle.lemmas.proofs.Tests.{both_ways, keys_apart}
-use Rattle.spec_lemmas.proofs.Behind.{behind}
+use Rattle.lemmas.proofs.Tests.{keys_apart}
 use Rattle.spec_lemmas.proofs.Calls.{same_command}
 use Rattle.spec_lemmas.proofs.Placed.{running}
-use Rattle.checker.proofs.Judging.{HasOnePlaces-from_history}
-use Rattle.rmm_laws.proofs.Cases.{at_itself, by_address}
+use Rattle.rmm_laws.proofs.Cases.{at_itself}
 use Rattle.rmm_laws.proofs.Changes.{changed_sound}
 use Rattle.rmm_laws.proofs.Commands.{accepted_applies, whole_command}
-use Rattle.rmm_laws.proofs.Keeps.{realm_change-rest, tag_change-rest, with_records}
-use Rattle.rmm_laws.proofs.RowLaws.{outcome-leads}
-use Rattle.rmm_laws.proofs.Searches.{inside_runs, none_runs}
+use Rattle.rmm_laws.proofs.Keeps.{realm_change-rest, tag_change-rest}
+use Rattle.rmm_laws.proofs.Searches.{none_runs}
 use Rattle.rmm_laws.proofs.StepLaws.{step-keeps}
-use Rattle.verdict_laws.specs.Order.{count_of}
 use Rattle.verdict_laws.specs.Placing.{StandsBefore, asked_number, is_given, left_standing, moves, stands_after, waits}
 use Rattle.verdict_laws.specs.declared.placing.Standing.{Standing}
 use Rattle.verdict_laws.specs.declared.placing.Standing.TheVariants.{Outside, Inside}

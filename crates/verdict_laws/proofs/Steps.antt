@@ -1,21 +1,9 @@
 -- An order that lacks a call at its return is continued by open calls and then the call.
-use Rattle.std.proofs.Common.{◌≡◌, ℕ, ◌+◌, ◌<◌, ◌≤◌, eqb, List, [], ◌∷◌, ◌++◌, inl, inr, length, Option, Some, sym, ◌∙◌, ap, subst, arith, append_assoc}
-use Rattle.std.specs.List.{slice_get}
-use Rattle.std.proofs.lemmas.Bool.{eqb-true, cases_Bool, cases_lt, cases_order}
+use Rattle.verdict_laws.proofs.Common.{◌≡◌, ℕ, ◌+◌, ◌<◌, ◌≤◌, eqb, List, [], ◌∷◌, ◌++◌, inl, inr, length, Option, Some, sym, ◌∙◌, ap, subst, arith, append_assoc, slice_get, cases_Bool, cases_lt, cases_order, same_Some, slice_get_within, slice_get-append, Command, Event, Called, Returned, Line, Keep, Unfinished, Reply, History, IsHistory, State, opening, IsCalled, IsReturned, IsFinished, IsLinearization, IsOfItsKind, cpu_named, number_named, HasOnePlaces-from_history, count_of, LeadsNowhere}
+use Rattle.std.proofs.lemmas.Bool.{eqb-true}
 use Rattle.std.specs.Option.{option_map}
-use Rattle.std.proofs.lemmas.Option.{same_Some, slice_get_within}
-use Rattle.lemmas.proofs.Elements.{slice_get-append, slice_get-push}
-use Rattle.rmm_spec.specs.declared.command.Command.{Command}
-use Rattle.rmm_spec.specs.declared.event.Event.{Event}
-use Rattle.rmm_spec.specs.declared.event.Event.TheVariants.{Called, Returned}
-use Rattle.rmm_spec.specs.declared.line.Line.{Line}
-use Rattle.rmm_spec.specs.declared.line.Line.TheVariants.{Keep, Unfinished}
-use Rattle.rmm_spec.specs.declared.reply.Reply.{Reply}
-use Rattle.rmm_spec.specs.HistoryText.{History, IsHistory}
-use Rattle.rmm_spec.specs.State.{State, opening}
-use Rattle.rmm_spec.specs.Linearization.{IsCalled, IsReturned, IsFinished, IsLinearization, IsOfItsKind, NamesSame, cpu_named, number_named}
-use Rattle.checker.proofs.Judging.{HasOnePlaces-from_history}
-use Rattle.verdict_laws.specs.Order.{count_of, LeadsNowhere}
+use Rattle.lemmas.proofs.Elements.{slice_get-push}
+use Rattle.rmm_spec.specs.Linearization.{NamesSame}
 use Rattle.verdict_laws.proofs.CallOrder.{call_before_return, returns_before_later}
 use Rattle.verdict_laws.proofs.Counts.{count_of-nil}
 use Rattle.verdict_laws.proofs.Moves.{Each, Pairs, Each-append, Each-from_places, Pairs-from_places, around_place}

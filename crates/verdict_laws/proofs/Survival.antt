@@ -1,17 +1,5 @@
 -- What is kept behind one event more, and that with nothing kept there is no order.
-use Rattle.std.proofs.Common.{◌≡◌, ℕ, zero, suc, ◌+◌, ◌<◌, List, [], ◌∷◌, ◌++◌, inl, inr, length, Some, refl, sym, ◌∙◌, ap, subst, arith}
-use Rattle.std.specs.List.{slice_get}
-use Rattle.std.proofs.lemmas.Bool.{cases_lt, cases_order}
-use Rattle.std.proofs.lemmas.Option.{none-some, same_Some, slice_get_within}
-use Rattle.rmm_spec.specs.declared.command.Command.{Command}
-use Rattle.rmm_spec.specs.declared.event.Event.TheVariants.{Returned}
-use Rattle.rmm_spec.specs.declared.line.Line.{Line}
-use Rattle.rmm_spec.specs.declared.line.Line.TheVariants.{Keep}
-use Rattle.rmm_spec.specs.declared.reply.Reply.{Reply}
-use Rattle.rmm_spec.specs.HistoryText.{History, IsHistory}
-use Rattle.rmm_spec.specs.State.{State, opening}
-use Rattle.rmm_spec.specs.Linearization.{IsCalled, IsReturned, IsLinearization}
-use Rattle.verdict_laws.specs.Order.{count_of, LeadsNowhere}
+use Rattle.verdict_laws.proofs.Common.{◌≡◌, ℕ, zero, suc, ◌+◌, ◌<◌, List, [], ◌∷◌, ◌++◌, inl, inr, length, Some, refl, sym, ◌∙◌, ap, subst, arith, slice_get, cases_lt, cases_order, none-some, same_Some, slice_get_within, Command, Returned, Line, Keep, Reply, History, IsHistory, State, opening, IsCalled, IsReturned, IsLinearization, count_of, LeadsNowhere}
 use Rattle.verdict_laws.proofs.Configurations.{nowhere_alike}
 use Rattle.verdict_laws.proofs.Growth.{IsLinearization-from_Reaches}
 use Rattle.verdict_laws.specs.Forward.{IsKept, AreOpen, Gives, LeadNowhere, AllKept, AreKept, IsContinued, AreContinued}

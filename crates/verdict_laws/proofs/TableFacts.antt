@@ -1,32 +1,14 @@
 -- Addresses that a table covers: one that a call makes covers them behind it, does so until it is taken out, and no walk for them ends above it.
-use Rattle.std.proofs.Common.{◌≡◌, ℕ, ◌-◌, ◌≤◌, ◌==◌, ◌&&◌, nat_le, nat_lt, if◌then◌else◌, Bool, true, false, is_some, Option, Some, None, refl, sym, ◌∙◌, ap, eqb-true, arith}
-use Rattle.std.proofs.lemmas.Bool.{and_parts, and_right, false_from_ne_true, leb-true, ltb-true}
-use Rattle.rmm_spec.specs.declared.call.Call.{Call}
+use Rattle.verdict_laws.proofs.Common.{◌≡◌, ℕ, ◌-◌, ◌≤◌, ◌==◌, ◌&&◌, nat_le, nat_lt, if◌then◌else◌, Bool, true, false, is_some, Option, Some, None, refl, sym, ◌∙◌, ap, eqb-true, arith, and_parts, false_from_ne_true, Call, Change, RealmMade, RealmDestroyed, RecordsChanged, TableMade, TableDestroyed, EntriesChanged, Replaced, RipasSet, RealmChange, RecChange, TagChange, Command, Reply, call_of, changed, with_realm_change, with_tag_change, is_accepted, IsSound, State, Step, outcome, reached_change, reach, both_ways, behind, with_records}
+use Rattle.std.proofs.lemmas.Bool.{and_right, leb-true, ltb-true}
 use Rattle.rmm_spec.specs.declared.call.Call.TheVariants as call
-use Rattle.rmm_spec.specs.declared.change.Change.{Change}
-use Rattle.rmm_spec.specs.declared.change.Change.TheVariants.{RealmMade, RealmDestroyed, RecordsChanged, TableMade, TableDestroyed, EntriesChanged}
-use Rattle.rmm_spec.specs.declared.change.EntryChange.TheVariants.{Replaced, RipasSet}
-use Rattle.rmm_spec.specs.declared.change.RealmChange.{RealmChange}
-use Rattle.rmm_spec.specs.declared.change.RecChange.{RecChange}
-use Rattle.rmm_spec.specs.declared.change.TagChange.{TagChange}
-use Rattle.rmm_spec.specs.declared.command.Command.{Command}
-use Rattle.rmm_spec.specs.declared.reply.Reply.{Reply}
 use Rattle.rmm_spec.specs.declared.reply.Reply.TheVariants as reply
-use Rattle.rmm_spec.specs.Call.{call_of}
-use Rattle.rmm_spec.specs.Change.{changed, with_realm_change, with_tag_change}
-use Rattle.rmm_spec.specs.Ownership.{is_accepted}
-use Rattle.rmm_spec.specs.Sound.{IsSound}
-use Rattle.rmm_spec.specs.State.{State}
-use Rattle.rmm_spec.specs.Step.{Step, outcome}
-use Rattle.rmm_spec.specs.Step.Ripas.{reached_change}
 use Rattle.rmm_spec.specs.Step.Terms.{Way, way, way_of}
 use Rattle.rmm_spec.specs.Update.{is_same_table}
-use Rattle.rmm_spec.specs.Walk.{reach, table_number}
-use Rattle.lemmas.proofs.Tests.{both_ways}
-use Rattle.spec_lemmas.proofs.Behind.{behind}
+use Rattle.rmm_spec.specs.Walk.{table_number}
 use Rattle.spec_lemmas.proofs.WalkLaws.{reach-covers}
 use Rattle.rmm_laws.proofs.Cases.{some_either}
-use Rattle.rmm_laws.proofs.Keeps.{realm_change-rest, rec_change-rest, tag_change-rest, with_records}
+use Rattle.rmm_laws.proofs.Keeps.{realm_change-rest, rec_change-rest, tag_change-rest}
 use Rattle.verdict_laws.specs.declared.facts.Fact.TheVariants as fact
 use Rattle.verdict_laws.specs.Denying.{denies, goes_to, is_above, reads}
 use Rattle.verdict_laws.specs.Facts.{is_covered, is_one_table, makes_table, may_uncover}

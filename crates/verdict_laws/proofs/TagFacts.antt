@@ -1,42 +1,22 @@
 -- Facts of tags: which a step puts and which it takes off, and which its reply shows.
-use Rattle.std.proofs.Common.{◌≡◌, ℕ, ◌==◌, ◌&&◌, ◌-◌, Bool, true, false, not, if◌then◌else◌, IsTrue, List, Some, inl, inr, ◌⊎◌, refl, sym, ◌∙◌, ap, subst, eqb-true, eq-eqb}
-use Rattle.std.specs.Prelude.{Contains, Result, Ok, Err}
-use Rattle.std.specs.List.{AllByRecursion, slice_get}
-use Rattle.std.proofs.lemmas.Bool.{and_from, and_parts, cases_Bool, not-true, or_cases}
+use Rattle.verdict_laws.proofs.Common.{◌≡◌, ℕ, ◌==◌, ◌&&◌, ◌-◌, Bool, true, false, not, if◌then◌else◌, IsTrue, List, Some, inl, inr, ◌⊎◌, refl, sym, ◌∙◌, ap, subst, eqb-true, eq-eqb, Result, Ok, Err, AllByRecursion, slice_get, and_from, and_parts, cases_Bool, not-true, or_cases, slice_get_within, Accepted, Call, Command, Refusal, Reply, Tag, Undelegated, Delegated, Rd, Rec, RecAux, Rtt, call_of, class_of, changed, has_tag, realm_at, rec_at, is_accepted, Needed, IsSound, State, CarriesOut, Step, is_placed, outcome, reached_change, named, entry_number, reach, both_ways, behind, tag-has_tag, by_address, outcome-leads, realm_there, rec_there, step-refuses}
+use Rattle.std.specs.Prelude.{Contains}
 use Rattle.std.proofs.lemmas.List.Folds.{list_any_at}
-use Rattle.std.proofs.lemmas.Option.{get_or_from_slice_get, slice_get_within}
-use Rattle.rmm_spec.specs.declared.accepted.Accepted.{Accepted}
-use Rattle.rmm_spec.specs.declared.call.Call.{Call}
+use Rattle.std.proofs.lemmas.Option.{get_or_from_slice_get}
 use Rattle.rmm_spec.specs.declared.call.Call.TheVariants as call
-use Rattle.rmm_spec.specs.declared.command.Command.{Command}
-use Rattle.rmm_spec.specs.declared.refusal.Refusal.{Refusal}
-use Rattle.rmm_spec.specs.declared.reply.Reply.{Reply}
 use Rattle.rmm_spec.specs.declared.reply.Reply.TheVariants as reply
-use Rattle.rmm_spec.specs.declared.tag.Tag.{Tag}
-use Rattle.rmm_spec.specs.declared.tag.Tag.TheVariants.{Undelegated, Delegated, Rd, Rec, RecAux, Data, Rtt}
-use Rattle.rmm_spec.specs.Call.{call_of, class_of}
-use Rattle.rmm_spec.specs.Change.{changed}
-use Rattle.rmm_spec.specs.Lookup.{has_tag, realm_at, rec_at, tag_number}
-use Rattle.rmm_spec.specs.Ownership.{is_accepted}
-use Rattle.rmm_spec.specs.Rows.{Needed}
-use Rattle.rmm_spec.specs.Sound.{IsSound}
-use Rattle.rmm_spec.specs.State.{State}
-use Rattle.rmm_spec.specs.Step.{CarriesOut, Step, is_placed, outcome}
-use Rattle.rmm_spec.specs.Step.Ripas.{reached_change}
-use Rattle.rmm_spec.specs.Step.Terms.{named, needed}
-use Rattle.rmm_spec.specs.Walk.{entry_address, entry_number, is_assigned, reach, table_number, walk}
-use Rattle.lemmas.proofs.Tests.{both_ways}
-use Rattle.spec_lemmas.proofs.Behind.{behind}
+use Rattle.rmm_spec.specs.declared.tag.Tag.TheVariants.{Data}
+use Rattle.rmm_spec.specs.Lookup.{tag_number}
+use Rattle.rmm_spec.specs.Step.Terms.{needed}
+use Rattle.rmm_spec.specs.Walk.{entry_address, is_assigned, table_number, walk}
 use Rattle.spec_lemmas.proofs.Members.{Contains-from_slice_get, passing_member}
-use Rattle.spec_lemmas.proofs.TagLaws.{tag-has_tag, tag_number-injective}
+use Rattle.spec_lemmas.proofs.TagLaws.{tag_number-injective}
 use Rattle.rmm_laws.proofs.Applies.{Applies}
 use Rattle.rmm_laws.proofs.ByRows.{AllHold}
-use Rattle.rmm_laws.proofs.Cases.{at_itself, by_address}
+use Rattle.rmm_laws.proofs.Cases.{at_itself}
 use Rattle.rmm_laws.proofs.Commands.{accepted_applies, whole_command}
 use Rattle.rmm_laws.proofs.Facts.{entry-page}
-use Rattle.rmm_laws.proofs.RowLaws.{front-rest, outcome-leads, refusal-refuses}
-use Rattle.rmm_laws.proofs.Searches.{realm_there, rec_there}
-use Rattle.rmm_laws.proofs.StepLaws.{step-refuses}
+use Rattle.rmm_laws.proofs.RowLaws.{front-rest, refusal-refuses}
 use Rattle.rmm_laws.proofs.Walked.{assigned_kind}
 use Rattle.verdict_laws.specs.declared.facts.Fact.TheVariants.{Tagged}
 use Rattle.verdict_laws.specs.Denying.{denies, needs_other}

@@ -1,35 +1,12 @@
 -- What a call changes is of the granules that it names to change, or of the REC in which its CPU is, and of that REC's realm.
-use Rattle.std.proofs.Common.{◌≡◌, ℕ, ◌==◌, Bool, true, false, ◌||◌, IsTrue, inl, inr, Option, Some, None, refl, sym, ◌∙◌, ap, subst, eq-eqb}
-use Rattle.std.specs.Prelude.{Ok}
-use Rattle.std.proofs.lemmas.Bool.{or_left, or_right}
-use Rattle.rmm_spec.specs.declared.accepted.Accepted.{Accepted}
-use Rattle.rmm_spec.specs.declared.call.Call.{Call}
+use Rattle.verdict_laws.proofs.Common.{◌≡◌, ℕ, ◌==◌, Bool, true, false, ◌||◌, IsTrue, inl, inr, Option, Some, None, refl, sym, ◌∙◌, ap, subst, eq-eqb, Ok, or_left, or_right, Accepted, Call, Change, Unchanged, Retagged, RealmMade, RealmDestroyed, RecMade, RecDestroyed, RecordsChanged, TableMade, TableDestroyed, EntriesChanged, Replaced, RipasSet, RealmChange, RecChange, TagChange, Tag, Delegated, RecAux, Rtt, CanApply, class_of, has_tag, realm_at, rec_at, rec_inside, IsSound, RecRecord, State, outcome, reached_change, named, behind, tag-has_tag, outcome-leads, realm_there, rec_there, is_part}
 use Rattle.rmm_spec.specs.declared.call.Call.TheVariants as call
-use Rattle.rmm_spec.specs.declared.change.Change.{Change}
-use Rattle.rmm_spec.specs.declared.change.Change.TheVariants.{Unchanged, Retagged, RealmMade, RealmDestroyed, RecMade, RecDestroyed, RecordsChanged, TableMade, TableDestroyed, EntriesChanged}
 use Rattle.rmm_spec.specs.declared.change.EntryChange.{EntryChange}
-use Rattle.rmm_spec.specs.declared.change.EntryChange.TheVariants.{Replaced, RipasSet}
-use Rattle.rmm_spec.specs.declared.change.RealmChange.{RealmChange}
-use Rattle.rmm_spec.specs.declared.change.RecChange.{RecChange}
-use Rattle.rmm_spec.specs.declared.change.TagChange.{TagChange}
 use Rattle.rmm_spec.specs.declared.entry.Entry.TheVariants.{Assigned}
 use Rattle.rmm_spec.specs.declared.tag.Ripas.{Ripas}
-use Rattle.rmm_spec.specs.declared.tag.Tag.{Tag}
-use Rattle.rmm_spec.specs.declared.tag.Tag.TheVariants.{Delegated, RecAux, Data, Rtt}
-use Rattle.rmm_spec.specs.Applicable.{CanApply, CanChangeEntries}
-use Rattle.rmm_spec.specs.Call.{class_of}
-use Rattle.rmm_spec.specs.Lookup.{has_tag, realm_at, rec_at, rec_inside}
-use Rattle.rmm_spec.specs.Sound.{IsSound}
-use Rattle.rmm_spec.specs.State.{RecRecord, State}
-use Rattle.rmm_spec.specs.Step.{outcome}
-use Rattle.rmm_spec.specs.Step.Ripas.{reached_change}
-use Rattle.rmm_spec.specs.Step.Terms.{named}
-use Rattle.spec_lemmas.proofs.Behind.{behind}
-use Rattle.spec_lemmas.proofs.TagLaws.{tag-has_tag}
+use Rattle.rmm_spec.specs.declared.tag.Tag.TheVariants.{Data}
+use Rattle.rmm_spec.specs.Applicable.{CanChangeEntries}
 use Rattle.rmm_laws.proofs.Facts.{entry-page}
-use Rattle.rmm_laws.proofs.RowLaws.{outcome-leads}
-use Rattle.rmm_laws.proofs.Searches.{realm_there, rec_there}
-use Rattle.verdict_laws.specs.Apart.{is_part}
 use Rattle.verdict_laws.specs.Slices.{changeable}
 use Rattle.verdict_laws.proofs.SliceTerms.{IsAcceptedOf, IsOf, IsPageOf, IsPut, IsRealmPut, IsRecPut, IsTagPut, touched}
 

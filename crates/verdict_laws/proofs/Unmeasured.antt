@@ -1,39 +1,23 @@
 -- A step from a state is one from a state that differs in measurements alone, with an extension of a measurement in place of a reading.
-use Rattle.std.proofs.Common.{◌≡◌, ℕ, ◌==◌, ◌&&◌, nat_le, Bool, true, false, if◌then◌else◌, IsTrue, List, [], ◌∷◌, Some, refl, sym, ◌∙◌, ap, subst}
-use Rattle.std.specs.Prelude.{Result, Ok, Err, is_none, option_map, replicate, slice_index}
-use Rattle.std.proofs.lemmas.Bool.{and_parts, false≢true}
+use Rattle.verdict_laws.proofs.Common.{◌≡◌, ℕ, ◌==◌, ◌&&◌, nat_le, Bool, true, false, if◌then◌else◌, IsTrue, List, [], ◌∷◌, Some, refl, sym, ◌∙◌, ap, subst, Result, Ok, Err, is_none, and_parts, false≢true, Accepted, Done, Reaches, Call, Change, Unchanged, Command, Refusal, Misplaced, Reply, State, RealmRecord, IsSound, call_of, changed, realm_updated, is_inside, rec_inside, realm_at, rec_at, decided, reached_change, with_front, words_of, named, is_placed, misplacement, answer_of, outcome, CarriesOut, Step, by_address, realm_there}
+use Rattle.std.specs.Prelude.{option_map, replicate, slice_index}
 use Rattle.std.proofs.Math.Bool.{and-false}
-use Rattle.rmm_spec.specs.declared.accepted.Accepted.{Accepted}
-use Rattle.rmm_spec.specs.declared.accepted.Accepted.TheVariants.{Done, Reaches}
-use Rattle.rmm_spec.specs.declared.call.Call.{Call}
 use Rattle.rmm_spec.specs.declared.call.Call.TheVariants as call
-use Rattle.rmm_spec.specs.declared.change.Change.{Change}
-use Rattle.rmm_spec.specs.declared.change.Change.TheVariants.{Unchanged}
 use Rattle.rmm_spec.specs.declared.change.RealmUpdate.TheVariants.{MeasurementExtended}
-use Rattle.rmm_spec.specs.declared.command.Command.{Command}
 use Rattle.rmm_spec.specs.declared.condition.Condition.TheVariants.{IndexBound}
 use Rattle.rmm_spec.specs.declared.function_id.FunctionId.{FunctionId}
 use Rattle.rmm_spec.specs.declared.function_id.FunctionId.TheVariants as function
-use Rattle.rmm_spec.specs.declared.refusal.Refusal.{Refusal}
-use Rattle.rmm_spec.specs.declared.refusal.Refusal.TheVariants.{Misplaced, Input}
-use Rattle.rmm_spec.specs.declared.reply.Reply.{Reply}
+use Rattle.rmm_spec.specs.declared.refusal.Refusal.TheVariants.{Input}
 use Rattle.rmm_spec.specs.declared.reply.Reply.TheVariants as reply
-use Rattle.rmm_spec.specs.State.{State, RealmRecord}
-use Rattle.rmm_spec.specs.Sound.{IsSound}
-use Rattle.rmm_spec.specs.Call.{call_from, call_of}
-use Rattle.rmm_spec.specs.Change.{changed, measurement_at, realm_updated}
+use Rattle.rmm_spec.specs.Call.{call_from}
+use Rattle.rmm_spec.specs.Change.{measurement_at}
 use Rattle.rmm_spec.specs.Update.{with_realm}
 use Rattle.rmm_spec.specs.Measure.{measurement_words}
-use Rattle.rmm_spec.specs.Lookup.{is_inside, rec_inside, realm_at, rec_at}
-use Rattle.rmm_spec.specs.Rows.{Row, decided, done}
-use Rattle.rmm_spec.specs.Step.Ripas.{reached_change}
+use Rattle.rmm_spec.specs.Rows.{Row, done}
 use Rattle.rmm_spec.specs.Step.RealmCall.{realm_change}
-use Rattle.rmm_spec.specs.Step.Front.{with_front}
-use Rattle.rmm_spec.specs.Step.Terms.{ByRealm, words_of, named}
-use Rattle.rmm_spec.specs.Step.{is_placed, misplacement, answer_of, commands, outcome, CarriesOut, Step}
+use Rattle.rmm_spec.specs.Step.Terms.{ByRealm}
+use Rattle.rmm_spec.specs.Step.{commands}
 use Rattle.rmm_laws.proofs.Applies.{inside_running}
-use Rattle.rmm_laws.proofs.Cases.{by_address}
-use Rattle.rmm_laws.proofs.Searches.{realm_there}
 use Rattle.verdict_laws.specs.Unread.{is_reading, is_reading_function, is_extending, is_extending_function, unmeasured, unmeasured_realm, extension_for, unread_command, unread_reply}
 use Rattle.verdict_laws.proofs.UnmeasuredAnswers.{Alike, ReadsNone, IsReached-alike, outcome-alike, realm_at-unmeasured}
 use Rattle.verdict_laws.proofs.UnmeasuredChanges.{changed-alike, with_realm-unmeasured}

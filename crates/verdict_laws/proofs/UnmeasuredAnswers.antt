@@ -1,22 +1,15 @@
 -- What a call leads to is the same with nothing measured, but for a reading of a measurement.
-use Rattle.std.proofs.Common.{◌≡◌, ℕ, zero, suc, ◌+◌, ◌*◌, if◌then◌else◌, IsTrue, Option, Some, None, refl, sym, ◌∙◌, ap, subst}
-use Rattle.std.specs.Prelude.{⊤, Err, is_some, option_map, unwrap_or}
+use Rattle.verdict_laws.proofs.Common.{◌≡◌, ℕ, zero, suc, ◌+◌, ◌*◌, if◌then◌else◌, IsTrue, Option, Some, None, refl, sym, ◌∙◌, ap, subst, Err, unwrap_or, Call, Misplaced, State, RealmRecord, has_tag, no_realm, is_inside, rec_inside, realm_at, rec_at, is_vmid_used, has_rec, entry_number, reach, entry_at, decided, IsReached, with_front, is_placed, misplacement, answer_of, outcome, behind}
+use Rattle.std.specs.Prelude.{⊤, is_some, option_map}
 use Rattle.rmm_spec.specs.declared.accepted.Stretch.{Stretch}
-use Rattle.rmm_spec.specs.declared.call.Call.{Call}
 use Rattle.rmm_spec.specs.declared.call.Call.TheVariants as call
 use Rattle.rmm_spec.specs.declared.call.Removal.{Removal}
 use Rattle.rmm_spec.specs.declared.call.Removal.TheVariants.{Destroy, Fold}
-use Rattle.rmm_spec.specs.declared.refusal.Refusal.TheVariants.{Misplaced}
-use Rattle.rmm_spec.specs.State.{State, RealmRecord}
-use Rattle.rmm_spec.specs.Lookup.{any_below, has_tag, has_vmid, no_realm, is_inside, rec_inside, realm_at, rec_at, is_vmid_used, has_rec}
-use Rattle.rmm_spec.specs.Walk.{entry_number, table_number, reach, entry_at, has_entry}
-use Rattle.rmm_spec.specs.Rows.{decided}
+use Rattle.rmm_spec.specs.Lookup.{any_below, has_vmid}
+use Rattle.rmm_spec.specs.Walk.{table_number, has_entry}
 use Rattle.rmm_spec.specs.Step.Table.{ripas_left}
-use Rattle.rmm_spec.specs.Step.Ripas.{IsReached, can_be_set}
-use Rattle.rmm_spec.specs.Step.Front.{with_front}
+use Rattle.rmm_spec.specs.Step.Ripas.{can_be_set}
 use Rattle.rmm_spec.specs.Step.Terms.{Class, ByHost, ByRealm, ByExit, class_of}
-use Rattle.rmm_spec.specs.Step.{is_placed, misplacement, answer_of, outcome}
-use Rattle.spec_lemmas.proofs.Behind.{behind}
 use Rattle.verdict_laws.specs.Unread.{unmeasured, unmeasured_realm}
 
 -- the states differ in measurements alone

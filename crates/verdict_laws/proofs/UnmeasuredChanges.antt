@@ -1,20 +1,11 @@
 -- States that differ in measurements alone are changed alike.
-use Rattle.std.proofs.Common.{◌≡◌, ℕ, ◌==◌, Bool, true, false, if◌then◌else◌, Option, Some, None, refl, sym, ◌∙◌, ap}
+use Rattle.verdict_laws.proofs.Common.{◌≡◌, ℕ, ◌==◌, Bool, true, false, if◌then◌else◌, Option, Some, None, refl, sym, ◌∙◌, ap, Change, Unchanged, Retagged, RealmMade, RealmDestroyed, RecMade, RecDestroyed, RecordsChanged, TableMade, TableDestroyed, EntriesChanged, Replaced, RipasSet, RealmChange, RecChange, TagChange, Delegated, Rd, Rec, RecAux, Rtt, State, RealmRecord, changed, new_rec, realm_updated, with_tag_change, with_realm_change, with_rec_change, realm_at, rec_at}
 use Rattle.std.specs.Prelude.{option_map}
-use Rattle.rmm_spec.specs.declared.change.Change.{Change}
-use Rattle.rmm_spec.specs.declared.change.Change.TheVariants.{Unchanged, Retagged, RealmMade, RealmDestroyed, RecMade, RecDestroyed, RecordsChanged, TableMade, TableDestroyed, EntriesChanged}
 use Rattle.rmm_spec.specs.declared.change.EntryChange.{EntryChange}
-use Rattle.rmm_spec.specs.declared.change.EntryChange.TheVariants.{Replaced, RipasSet}
-use Rattle.rmm_spec.specs.declared.change.RealmChange.{RealmChange}
 use Rattle.rmm_spec.specs.declared.change.RealmUpdate.{RealmUpdate}
 use Rattle.rmm_spec.specs.declared.change.RealmUpdate.TheVariants as realm_update
-use Rattle.rmm_spec.specs.declared.change.RecChange.{RecChange}
-use Rattle.rmm_spec.specs.declared.change.TagChange.{TagChange}
-use Rattle.rmm_spec.specs.declared.tag.Tag.TheVariants.{Delegated, Rd, Rec, RecAux, Rtt}
-use Rattle.rmm_spec.specs.State.{State, RealmRecord}
 use Rattle.rmm_spec.specs.Update.{with_tag, with_realm, without_realm, with_root, with_rec, without_rec, with_table, without_table}
-use Rattle.rmm_spec.specs.Change.{changed, new_realm, new_rec, realm_updated, with_tag_change, with_realm_change, with_rec_change, with_entry_change}
-use Rattle.rmm_spec.specs.Lookup.{realm_at, rec_at}
+use Rattle.rmm_spec.specs.Change.{new_realm, with_entry_change}
 use Rattle.verdict_laws.specs.Unread.{unmeasured, unmeasured_realm}
 use Rattle.verdict_laws.proofs.UnmeasuredAnswers.{Alike, realm_at-unmeasured}
 

@@ -1,20 +1,8 @@
 -- Histories in which each reading of a measurement extends one: their runs, their calls and their returns.
-use Rattle.std.proofs.Common.{◌≡◌, ℕ, true, false, List, [], ◌∷◌, ◌++◌, map, if◌then◌else◌, Some, refl, ◌∙◌, ap, subst, arith}
-use Rattle.std.specs.List.{slice_get}
+use Rattle.verdict_laws.proofs.Common.{◌≡◌, ℕ, true, false, List, [], ◌∷◌, ◌++◌, map, if◌then◌else◌, Some, refl, ◌∙◌, ap, subst, arith, slice_get, slice_get_within, Command, Event, Called, Returned, Line, Reply, History, ok, IsSound, State, JournalEntry, IsRun, IsCalled, IsReturned, AreEntriesOf}
 use Rattle.std.specs.Prelude.{slice_index}
-use Rattle.std.proofs.lemmas.Option.{slice_get_within, slice_get-get_or}
-use Rattle.rmm_spec.specs.declared.command.Command.{Command}
-use Rattle.rmm_spec.specs.declared.event.Event.{Event}
-use Rattle.rmm_spec.specs.declared.event.Event.TheVariants.{Called, Returned}
-use Rattle.rmm_spec.specs.declared.line.Line.{Line}
-use Rattle.rmm_spec.specs.declared.reply.Reply.{Reply}
+use Rattle.std.proofs.lemmas.Option.{slice_get-get_or}
 use Rattle.rmm_spec.specs.declared.reply.Reply.TheVariants as reply
-use Rattle.rmm_spec.specs.HistoryText.{History}
-use Rattle.rmm_spec.specs.Rows.{ok}
-use Rattle.rmm_spec.specs.Sound.{IsSound}
-use Rattle.rmm_spec.specs.State.{State}
-use Rattle.rmm_spec.specs.Run.{JournalEntry, IsRun}
-use Rattle.rmm_spec.specs.Linearization.{IsCalled, IsReturned, AreEntriesOf}
 use Rattle.rmm_laws.proofs.Runs.{step_sound}
 use Rattle.verdict_laws.specs.Unread.{unmeasured, is_reading, is_extending, extension_for, unread_command, unread_reply, IsUnreadEvent, IsUnread, ReadsNothing}
 use Rattle.verdict_laws.proofs.Settled.{claimed-append}

@@ -1,21 +1,10 @@
 -- Orders of a history's calls, and those of the history in which each reading of a measurement extends one.
-use Rattle.std.proofs.Common.{◌≡◌, ℕ, zero, suc, ◌<◌, true, List, [], ◌∷◌, ◌++◌, map, Some, refl, sym, ◌∙◌, ap, subst}
-use Rattle.std.specs.List.{slice_get}
-use Rattle.std.proofs.lemmas.Option.{none-some, same_Some}
-use Rattle.rmm_spec.specs.declared.command.Command.{Command}
-use Rattle.rmm_spec.specs.declared.event.Event.{Event}
-use Rattle.rmm_spec.specs.declared.line.Line.{Line}
-use Rattle.rmm_spec.specs.declared.line.Line.TheVariants.{Keep, Unfinished}
-use Rattle.rmm_spec.specs.declared.reply.Reply.{Reply}
-use Rattle.rmm_spec.specs.HistoryText.{History, IsHistory}
-use Rattle.rmm_spec.specs.State.{State, opening}
-use Rattle.rmm_spec.specs.Run.{JournalEntry}
-use Rattle.rmm_spec.specs.Linearization.{IsReturned, IsFinished, IsNamed, IsOfItsKind, NamesCall, NamesSame, ReturnsBefore, KeepsRealTime, IsEntryOf, AreEntriesOf, IsLinearization, cpu_named, number_named}
+use Rattle.verdict_laws.proofs.Common.{◌≡◌, ℕ, zero, suc, ◌<◌, true, List, [], ◌∷◌, ◌++◌, map, Some, refl, sym, ◌∙◌, ap, subst, slice_get, none-some, same_Some, Command, Event, Line, Keep, Unfinished, Reply, History, IsHistory, State, opening, JournalEntry, IsReturned, IsFinished, IsNamed, IsOfItsKind, NamesCall, ReturnsBefore, IsEntryOf, AreEntriesOf, IsLinearization, cpu_named, number_named, HasOnePlaces-from_history, count_of, LeadsNowhere}
+use Rattle.rmm_spec.specs.Linearization.{NamesSame, KeepsRealTime}
 use Rattle.rmm_laws.proofs.Opening.{opening_sound}
 use Rattle.rmm_laws.proofs.Runs.{opened_run_sound}
 use Rattle.spec_lemmas.proofs.Calls.{same_command, same_entry}
-use Rattle.checker.proofs.Judging.{HasOnePlaces-from_history}
-use Rattle.verdict_laws.specs.Order.{count_of, Reaches, LeadsNowhere, Grows}
+use Rattle.verdict_laws.specs.Order.{Reaches, Grows}
 use Rattle.verdict_laws.specs.Unread.{unmeasured, is_extending, unread_command, unread_reply, IsUnread, ReadsNothing}
 use Rattle.verdict_laws.proofs.Settled.{GoesOnWithout, nowhere_first}
 use Rattle.verdict_laws.proofs.Configurations.{nowhere_beside}

@@ -1,50 +1,24 @@
 -- VMIDs that no realm has but one: so it is behind the call that makes that realm, until another realm may get the VMID.
-use Rattle.std.proofs.Common.{◌≡◌, ℕ, ◌*◌, ◌/◌, ◌==◌, ◌&&◌, if◌then◌else◌, Bool, true, false, not, IsTrue, is_some, Option, Some, None, refl, sym, ◌∙◌, ap, subst, eqb-true, eq-eqb}
-use Rattle.std.specs.Prelude.{Result, Ok, Err}
-use Rattle.std.proofs.lemmas.Bool.{and_from, and_parts, false_from_ne_true, ne_eqb, not-true}
-use Rattle.rmm_spec.specs.declared.accepted.Accepted.{Accepted}
-use Rattle.rmm_spec.specs.declared.accepted.Accepted.TheVariants.{Done, Reaches}
-use Rattle.rmm_spec.specs.declared.call.Call.{Call}
+use Rattle.verdict_laws.proofs.Common.{◌≡◌, ℕ, ◌*◌, ◌==◌, ◌&&◌, if◌then◌else◌, Bool, true, false, not, IsTrue, is_some, Option, Some, None, refl, sym, ◌∙◌, ap, subst, eqb-true, eq-eqb, Result, Ok, Err, and_from, and_parts, false_from_ne_true, ne_eqb, not-true, Accepted, Done, Reaches, Call, Change, RealmMade, RealmDestroyed, RecMade, RecordsChanged, EntriesChanged, Replaced, RipasSet, RealmChange, RecChange, TagChange, Command, Refusal, Reply, Rd, CanApply, call_of, changed, realm_updated, with_realm_change, with_tag_change, Config, has_tag, is_vmid_used, realm_at, is_accepted, IsSound, RealmRecord, State, opening, CarriesOut, Step, outcome, reached_change, both_ways, behind, tag-has_tag, by_address, with_records, outcome-leads, realm_there, Fact, holds}
+use Rattle.std.proofs.Common.{◌/◌}
 use Rattle.rmm_spec.specs.declared.call.Call.TheVariants as call
-use Rattle.rmm_spec.specs.declared.change.Change.{Change}
-use Rattle.rmm_spec.specs.declared.change.Change.TheVariants.{RealmMade, RealmDestroyed, RecMade, RecordsChanged, EntriesChanged}
-use Rattle.rmm_spec.specs.declared.change.EntryChange.TheVariants.{Replaced, RipasSet}
-use Rattle.rmm_spec.specs.declared.change.RealmChange.{RealmChange}
 use Rattle.rmm_spec.specs.declared.change.RealmUpdate.{RealmUpdate}
 use Rattle.rmm_spec.specs.declared.change.RealmUpdate.TheVariants.{RecCounted}
-use Rattle.rmm_spec.specs.declared.change.RecChange.{RecChange}
-use Rattle.rmm_spec.specs.declared.change.TagChange.{TagChange}
-use Rattle.rmm_spec.specs.declared.command.Command.{Command}
-use Rattle.rmm_spec.specs.declared.refusal.Refusal.{Refusal}
-use Rattle.rmm_spec.specs.declared.reply.Reply.{Reply}
-use Rattle.rmm_spec.specs.declared.tag.Tag.TheVariants.{Rd}
-use Rattle.rmm_spec.specs.Applicable.{CanApply, CanChangeRealm}
-use Rattle.rmm_spec.specs.Call.{call_of}
-use Rattle.rmm_spec.specs.Change.{changed, new_realm, realm_updated, with_realm_change, with_tag_change}
-use Rattle.rmm_spec.specs.HistoryText.{Config}
-use Rattle.rmm_spec.specs.Lookup.{has_tag, has_vmid, is_vmid_used, realm_at}
-use Rattle.rmm_spec.specs.Ownership.{is_accepted}
-use Rattle.rmm_spec.specs.Sound.{IsSound}
-use Rattle.rmm_spec.specs.State.{RealmRecord, State, opening}
-use Rattle.rmm_spec.specs.Step.{CarriesOut, Step, outcome}
-use Rattle.rmm_spec.specs.Step.Ripas.{reached_change}
-use Rattle.lemmas.proofs.Tests.{both_ways}
-use Rattle.spec_lemmas.proofs.Behind.{behind}
+use Rattle.rmm_spec.specs.Applicable.{CanChangeRealm}
+use Rattle.rmm_spec.specs.Change.{new_realm}
+use Rattle.rmm_spec.specs.Lookup.{has_vmid}
 use Rattle.spec_lemmas.proofs.Placed.{any_below-from, passing_below}
-use Rattle.spec_lemmas.proofs.TagLaws.{tag-has_tag}
 use Rattle.rmm_laws.proofs.Applies.{Applies}
-use Rattle.rmm_laws.proofs.Cases.{by_address, none_of}
+use Rattle.rmm_laws.proofs.Cases.{none_of}
 use Rattle.rmm_laws.proofs.Commands.{accepted_applies, whole_command}
 use Rattle.rmm_laws.proofs.Finds.{granule-number}
-use Rattle.rmm_laws.proofs.Keeps.{rec_change-rest, with_records}
+use Rattle.rmm_laws.proofs.Keeps.{rec_change-rest}
 use Rattle.rmm_laws.proofs.Records.{updated_like}
-use Rattle.rmm_laws.proofs.RowLaws.{outcome-leads}
 use Rattle.rmm_laws.proofs.Runs.{step_sound}
-use Rattle.rmm_laws.proofs.Searches.{realm_granule, realm_there}
-use Rattle.verdict_laws.specs.declared.facts.Fact.{Fact}
+use Rattle.rmm_laws.proofs.Searches.{realm_granule}
 use Rattle.verdict_laws.specs.declared.facts.Fact.TheVariants.{Tagged}
 use Rattle.verdict_laws.specs.Denying.{gives_none}
-use Rattle.verdict_laws.specs.Facts.{holds, is_shared, is_tag, makes_vmid, may_share}
+use Rattle.verdict_laws.specs.Facts.{is_shared, is_tag, makes_vmid, may_share}
 use Rattle.verdict_laws.proofs.FactSteps.{IsDoneSo, step-has}
 use Rattle.verdict_laws.proofs.TagFacts.{tag-from_is_tag, tag-is_tag}
 

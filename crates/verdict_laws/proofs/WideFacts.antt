@@ -1,25 +1,10 @@
 -- Realms of so many bits of addresses: one that a call makes is so behind it, is so until it is destroyed, and none of its addresses is refused.
-use Rattle.std.proofs.Common.{◌≡◌, ℕ, ◌-◌, ◌^◌, ◌==◌, ◌&&◌, nat_le, nat_lt, true, false, is_some, Option, Some, None, refl, sym, ◌∙◌, ap, eqb-true, eq-eqb}
-use Rattle.std.specs.Prelude.{unwrap_or}
-use Rattle.std.proofs.lemmas.Bool.{and_parts}
-use Rattle.rmm_spec.specs.declared.call.Call.{Call}
+use Rattle.verdict_laws.proofs.Common.{◌≡◌, ℕ, ◌-◌, ◌==◌, ◌&&◌, nat_le, nat_lt, true, false, is_some, Option, Some, None, refl, sym, ◌∙◌, ap, eqb-true, eq-eqb, unwrap_or, and_parts, Call, Command, Reply, Rd, call_of, changed, realm_updated, has_tag, no_realm, realm_at, is_accepted, IsSound, RealmRecord, State, Step, named, words_of, both_ways, behind}
+use Rattle.std.proofs.Common.{◌^◌}
 use Rattle.rmm_spec.specs.declared.call.Call.TheVariants as call
 use Rattle.rmm_spec.specs.declared.change.RealmUpdate.{RealmUpdate}
 use Rattle.rmm_spec.specs.declared.change.RealmUpdate.TheVariants as realm_update
-use Rattle.rmm_spec.specs.declared.command.Command.{Command}
-use Rattle.rmm_spec.specs.declared.reply.Reply.{Reply}
-use Rattle.rmm_spec.specs.declared.tag.Tag.TheVariants.{Rd}
-use Rattle.rmm_spec.specs.Call.{call_of}
-use Rattle.rmm_spec.specs.Change.{changed, realm_updated}
-use Rattle.rmm_spec.specs.Lookup.{has_tag, no_realm, realm_at}
-use Rattle.rmm_spec.specs.Ownership.{is_accepted}
 use Rattle.rmm_spec.specs.Rows.{all_allowed}
-use Rattle.rmm_spec.specs.Sound.{IsSound}
-use Rattle.rmm_spec.specs.State.{RealmRecord, State}
-use Rattle.rmm_spec.specs.Step.{Step}
-use Rattle.rmm_spec.specs.Step.Terms.{named, words_of}
-use Rattle.lemmas.proofs.Tests.{both_ways}
-use Rattle.spec_lemmas.proofs.Behind.{behind}
 use Rattle.verdict_laws.specs.Denying.{is_refused_with, lies_in}
 use Rattle.verdict_laws.specs.Facts.{has_width, makes_wide, may_narrow}
 use Rattle.verdict_laws.proofs.FactSteps.{IsDoneSo, are_tagged, are_told, step-has, step-untold_there}

@@ -304,8 +304,8 @@ makes (Runnable rec) cpu c given = makes_runnable c rec
 makes (Idle rec) cpu c given = makes_rec c rec
 makes (RunsOn rec at) cpu c given = at == cpu && enters c rec
 makes (AsksFrom rec base) cpu c given = moves_request c given rec base
-makes (RunsOrAsksWithin rec least most) cpu c given = moves_request c given rec least && nat_le least most
-makes (RunsOrAsksTo rec top ripas) cpu c given = false
+makes (RunsOrAsksWithin rec least most) cpu c given = enters c rec || (moves_request c given rec least && nat_le least most)
+makes (RunsOrAsksTo rec top ripas) cpu c given = enters c rec
 
 -- whether the call, carried out with that reply, sets the RIPAS that the REC asks for, and the address has an entry there of the last level
 unfoldable pub sets_ripas : Call → Reply → ℕ → ℕ → ℕ → Bool
@@ -454,9 +454,11 @@ unfoldable pub turns_off_other : Call → Standing → ℕ → Bool
 turns_off_other call.CpuOff standing rec = is_elsewhere standing rec
 turns_off_other _ standing rec = false
 
--- whether the call of a CPU that stands there leaves the fact, though it may end it from elsewhere
+-- Whether the call of a CPU that stands there leaves the fact, though it may end it from elsewhere: another REC turns itself off or leaves, or this
+-- one leaves as the fact says.
 abbrev pub stays_with : Fact → Call → Standing → Bool
 stays_with (Runnable rec) c standing = turns_off_other c standing rec
-stays_with (RunsOrAsksWithin rec least most) c standing = exits_other c standing rec
-stays_with (RunsOrAsksTo rec top ripas) c standing = exits_other c standing rec
+stays_with (RunsOrAsksWithin rec least most) c standing =
+    exits_other c standing rec || leaves_with (RunsOrAsksWithin rec least most) c standing
+stays_with (RunsOrAsksTo rec top ripas) c standing = exits_other c standing rec || leaves_with (RunsOrAsksTo rec top ripas) c standing
 stays_with fact c standing = false

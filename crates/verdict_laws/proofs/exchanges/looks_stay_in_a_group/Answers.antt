@@ -1,4 +1,4 @@
-use Rattle.std.proofs.Common.{◌≡◌, true}
+use Rattle.verdict_laws.proofs.Common.{◌≡◌, true}
 use Rattle.verdict_laws.proofs.Moves.{Each-at}
 use Rattle.verdict_laws.proofs.Looks.{stay_inside}
 use Rattle.verdict_laws.proofs.exchanges.looks_stay_in_a_group.Goals as goal

@@ -1,4 +1,4 @@
-use Rattle.rmm_spec.specs.declared.line.Line.TheVariants.{Keep}
+use Rattle.verdict_laws.proofs.Common.{Keep}
 use Rattle.verdict_laws.proofs.Looks.{nowhere_unless_looked}
 use Rattle.verdict_laws.proofs.Steps.{nowhere_unless_put}
 use Rattle.verdict_laws.proofs.exchanges.nowhere_after_looks.Goals as goal
