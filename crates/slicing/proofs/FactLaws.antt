@@ -10,8 +10,9 @@ use Rattle.rmm_spec.specs.Call.{call_of}
 use Rattle.rmm_spec.specs.Linearization.{IsCalled, IsReturned}
 use Rattle.verdict_laws.specs.declared.facts.Fact.{Fact}
 use Rattle.verdict_laws.specs.HeldFacts as laws
-use Rattle.verdict_laws.specs.Facts.{leaves_with, makes, may_end, stays_with}
-use Rattle.verdict_laws.specs.HeldFacts.{IsLeftAt, IsLeftSince, IsOver}
+use Rattle.verdict_laws.specs.declared.facts.InTurn.{InTurn}
+use Rattle.verdict_laws.specs.Facts.{leaves_with, makes, makes_with, may_end, stays_with}
+use Rattle.verdict_laws.specs.HeldFacts.{IsLeftAt, IsLeftSince, IsLeftSinceWith, IsOver}
 use Rattle.verdict_laws.specs.Placing.{StandsBefore}
 use Rattle.verdict_laws.specs.Looking.{is_looking_function}
 use Rattle.verdict_laws.specs.Slices as slices
@@ -19,8 +20,8 @@ use Rattle.slicing.specs.declared.call_at.Answer.{Answer}
 use Rattle.slicing.specs.declared.call_at.CallAt.{CallAt}
 use Rattle.slicing.specs.Calls.{ChangesNothing, HasAnswer, IsCallAt}
 use Rattle.slicing.specs.declared.done.Done.{Done}
-use Rattle.slicing.specs.Facts.{IsLeftOrEarly, IsMadeBy, IsPassedBy, LeavesAt, LeavesElsewhere}
-use Rattle.slicing.specs.Unused.{IsDone}
+use Rattle.slicing.specs.Facts.{ComesApart, ComesNoLater, IsLeftOrBeside, IsLeftOrEarly, IsMadeBy, IsPassedBy, LeavesAt, LeavesElsewhere, MakesWith}
+use Rattle.slicing.specs.Unused.{IsDone, IsNoLater}
 use Rattle.slicing.proofs.CallLaws.{made_at}
 
 -- what a reply has to be, whatever it was, is what the call was answered
@@ -29,7 +30,7 @@ answer_is : (events : List Event) (cpu number : ℕ) (answer : Option Answer) (g
 answer_is events cpu number None given has only = tt
 answer_is events cpu number (Some a) given has only = only a.place (reply_seen a.reply) has
 
-module _ (events : List Event) (at cpu number : ℕ) (command : Command) (c : CallAt) (is_at : IsCallAt events at c)
+module _ (turn : Option InTurn) (events : List Event) (at cpu number : ℕ) (command : Command) (c : CallAt) (is_at : IsCallAt events at c)
     (is_called : IsCalled events at cpu number command) where
   -- the call that is made at a place is the one that is found there
   both : Some (Called c.cpu c.number is_at.1.0) ≡ Some (Called cpu number command)
@@ -62,31 +63,31 @@ module _ (events : List Event) (at cpu number : ℕ) (command : Command) (c : Ca
       ]
 
   -- a call that leaves a fact by itself does so by the law
-  IsLeftAt-call : (fact : Fact) (place : ℕ) → LeavesAt fact place c → IsLeftAt fact events place at cpu number command
+  IsLeftAt-call : (fact : Fact) (place : ℕ) → LeavesAt fact place c → IsLeftAt turn fact events place at cpu number command
   IsLeftAt-call fact place leaves =
       elim leaves [
         | inl nothing ↦ inl (nothing_changed nothing)
         | inr rest ↦ elim rest [
           | inl there ↦ inr (inl (sym is_at.0 ∙ there))
           | inr keeps ↦
-              inr (inr (inr (inl (λ given only.
+              inr (inr (inr (inr (inl (λ given only.
               (λ i. may_end fact (sym same_cpu i) (sym same_call i) given)
-              ∙ keeps given (answer_is events cpu number c.answer given answered only)))))
+              ∙ keeps given (answer_is events cpu number c.answer given answered only))))))
         ]
       ]
 
   -- so does one that leaves it where its CPU stands
-  IsLeftAt-elsewhere : (fact : Fact) (place : ℕ) → LeavesElsewhere fact events c → IsLeftAt fact events place at cpu number command
+  IsLeftAt-elsewhere : (fact : Fact) (place : ℕ) → LeavesElsewhere fact events c → IsLeftAt turn fact events place at cpu number command
   IsLeftAt-elsewhere fact place (standing, stands, stays) =
-      inr (inr (inr (inr (
+      inr (inr (inr (inr (inr (
         standing,
         subst (λ k. StandsBefore events k number standing) same_cpu
             (subst (λ n. StandsBefore events c.cpu n standing) same_number stands),
         ap (λ called. stays_with fact called standing) (sym same_call) ∙ stays,
-      ))))
+      )))))
 
   -- so does one that is passed by
-  pub IsLeftAt-passed : (fact : Fact) (place : ℕ) → IsPassedBy fact events place c → IsLeftAt fact events place at cpu number command
+  pub IsLeftAt-passed : (fact : Fact) (place : ℕ) → IsPassedBy fact events place c → IsLeftAt turn fact events place at cpu number command
   IsLeftAt-passed fact place passed =
       elim passed [ inl leaves ↦ IsLeftAt-call fact place leaves | inr elsewhere ↦ IsLeftAt-elsewhere fact place elsewhere ]
 
@@ -107,14 +108,39 @@ IsMadeBy-done events place called done fact is_done made =
     ]
 
 -- each call leaves a fact since the one that made it, where each that is no earlier does
-pub IsLeftSince-early : (fact : Fact) (events : List Event) (place maker made : ℕ) → made ≡ maker
-    → ((at : ℕ) → IsLeftOrEarly fact events place (Some maker) at) → IsLeftSince fact events made place
-IsLeftSince-early fact events place maker made same early at cpu number command is_called =
-    rw same
-    (elim (early at cpu number command is_called) [
-      | inl no_later ↦ elim no_later [ inl own ↦ inl own | inr back ↦ inr (inl back) ]
-      | inr leaves ↦ inr (inr leaves)
-    ])
+pub IsLeftSince-early : (turn : Option InTurn) (fact : Fact) (events : List Event) (place maker made : ℕ) → made ≡ maker
+    → ((at : ℕ) → IsLeftOrEarly turn fact events place (Some maker) at) → IsLeftSince turn fact events made place
+IsLeftSince-early turn fact events place maker made same early = subst (λ m. IsLeftSince turn fact events m place) (sym same) early
+
+-- so it is where others leave it beside another fact
+pub IsLeftSinceWith-early : (turn : Option InTurn) (fact : Fact) (events : List Event) (place maker made : ℕ) → made ≡ maker
+    → ((at : ℕ) → IsLeftOrBeside turn fact events place maker at) → IsLeftSinceWith turn fact events made place
+IsLeftSinceWith-early turn fact events place maker made same early = subst (λ m. IsLeftSinceWith turn fact events m place) (sym same) early
+
+-- what is supposed to come before or after doesn't end it
+pub IsLeftOrEarly-apart : (turn : Option InTurn) (fact : Fact) (events : List Event) (place : ℕ) (maker : Option ℕ) (at : ℕ)
+    → ComesApart turn maker place at → IsLeftOrEarly turn fact events place maker at
+IsLeftOrEarly-apart turn fact events place None at after cpu number command is_called = inr (inr (inr (inr (inl after))))
+IsLeftOrEarly-apart turn fact events place (Some maker) at (inl after) cpu number command is_called = inr (inr (inr (inr (inl after))))
+IsLeftOrEarly-apart turn fact events place (Some maker) at (inr before) cpu number command is_called = inl (inr (inr before))
+
+-- nor does what is no later than the call that makes it
+pub ComesNoLater-call : (turn : Option InTurn) (events : List Event) (maker : Option ℕ) (at cpu number : ℕ)
+    → IsNoLater events maker at cpu number → ComesNoLater turn events maker at cpu number
+ComesNoLater-call turn events None at cpu number no_later = no_later
+ComesNoLater-call turn events (Some maker) at cpu number (inl own) = inl own
+ComesNoLater-call turn events (Some maker) at cpu number (inr back) = inr (inl back)
+
+-- what makes a fact by itself or beside another does so by the law
+pub IsMadeWith-done : (turn : Option InTurn) (events : List Event) (place called : ℕ) (done : Done) (fact : Fact)
+    (is_done : IsDone events called place done) → MakesWith turn fact events called done → laws.IsMadeWith turn fact events is_done.0
+IsMadeWith-done turn events place called done fact is_done (inl made) = inl (IsMadeBy-done events place called done fact is_done made)
+IsMadeWith-done turn events place called done fact is_done (inr (other, alone, makes)) =
+    inr (
+      other,
+      subst (laws.IsHeldAlone turn other events) (sym is_done.1) alone,
+      (λ i. makes_with other fact (is_done.3 i) (is_done.4 i)) ∙ makes,
+    )
 
 -- what a call at a place was answered with comes before what is made after that
 pub IsOver-answered : (events : List Event) (place at : ℕ) (c : CallAt) (a : Answer) → IsCallAt events place c → c.answer ≡ Some a → a.place < at

@@ -69,3 +69,11 @@ pub record IsLastReturn (events : List Event) (count : ℕ) (last : LastReturn) 
   pub returned : ℕ
   pub is_returned : IsReturned (events_to count events) returned last.cpu last.number (reply_seen last.reply)
   pub is_last : returned + 1 ≡ count
+
+-- The return answers a call of these events.
+pub record IsReturn (events : List Event) (last : LastReturn) : Type 0 where
+  pub command : Command
+  pub is_called : IsCalled events last.called last.cpu last.number command
+  pub call : last.call ≡ call_of command
+  pub returned : ℕ
+  pub is_returned : IsReturned events returned last.cpu last.number (reply_seen last.reply)

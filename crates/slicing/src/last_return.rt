@@ -1,8 +1,9 @@
-//! The return that ends a history's first events.
+//! The return that ends a history's first events, and those of calls.
 
-ghost use Rattle.std.specs.Prelude.{IfSome};
-ghost use Rattle.slicing.specs.Calls.{IsLastReturn};
+ghost use Rattle.std.specs.Prelude.{◌≡◌, IfSome};
+ghost use Rattle.slicing.specs.Calls.{IsLastReturn, IsReturn, events_to};
 
+use crate::call_at::call_at;
 use history::History;
 use rmi_view::ReplyRef;
 use rmm_spec::{Call, Event};
@@ -38,5 +39,24 @@ pub(crate) fn last_return(history: &History, count: u32) -> Option<LastReturn<'_
         number,
         call: command.call(),
         reply,
+    })
+}
+
+/// The return of the call that is made at a place, where it is one of the first events, so many.
+pub(crate) fn return_at(history: &History, count: u32, called: u32) -> Option<LastReturn<'_>>
+    ensures is { IfSome result (IsReturn (events_to count history.now.recorded.events)) }
+    ensures place { IfSome result (λ found. found.called ≡ called) }
+{
+    if called >= count || count as usize > history.len() {
+        return None;
+    }
+    let call = call_at(history, count, called)?;
+    let answer = call.answer?;
+    Some(LastReturn {
+        called,
+        cpu: call.cpu,
+        number: call.number,
+        call: call.call,
+        reply: answer.reply,
     })
 }

@@ -12,9 +12,10 @@ use crate::elsewhere::stays_with;
 use crate::ending::keeps;
 use crate::leaving::is_left;
 use crate::standing::standing_before;
+use crate::turns::comes_apart;
 use history::History;
 use rmm_spec::Call;
-use verdict_laws::Fact;
+use verdict_laws::{Fact, InTurn};
 
 /// Whether each call leaves the fact, or is no later than the one that makes it, but the one that is made at the place.
 pub(crate) fn are_left(
@@ -23,13 +24,14 @@ pub(crate) fn are_left(
     place: u32,
     fact: Fact,
     maker: Option<u32>,
+    turn: Option<InTurn>,
 ) -> bool
     requires { count ≤ length history.now.recorded.events }
-    ensures { IsTrue result → (at : ℕ) → IsLeftOrEarly fact (events_to count history.now.recorded.events) place maker at }
+    ensures { IsTrue result → (at : ℕ) → IsLeftOrEarly turn fact (events_to count history.now.recorded.events) place maker at }
 {
     let to = looked_to(history, count, place);
     for at in looked_from(history, count, maker)..to {
-        if !is_left_or_early(history, count, place, fact, maker, at) {
+        if !is_left_or_early(history, count, place, fact, maker, at, turn) {
             return false;
         }
     }
@@ -37,7 +39,7 @@ pub(crate) fn are_left(
 }
 
 /// A place before which each call that was made returned before the one that makes the fact.
-fn looked_from(history: &History, count: u32, maker: Option<u32>) -> u32
+pub(crate) fn looked_from(history: &History, count: u32, maker: Option<u32>) -> u32
     requires { count ≤ length history.now.recorded.events }
     ensures made { IfSome maker (AreBack (events_to count history.now.recorded.events) result) }
     ensures none { IfNone maker (result ≡ 0) }
@@ -54,7 +56,7 @@ fn looked_from(history: &History, count: u32, maker: Option<u32>) -> u32
 }
 
 /// A place up to which each call is looked at: none that is made later comes before the one at the other place, which returned before it.
-fn looked_to(history: &History, count: u32, place: u32) -> u32
+pub(crate) fn looked_to(history: &History, count: u32, place: u32) -> u32
     requires { count ≤ length history.now.recorded.events }
     ensures within { result ≤ count }
     ensures over { (at : ℕ) → result ≤ at → (count ≤ at) ⊎ laws.IsOver (events_to count history.now.recorded.events) place at }
@@ -72,19 +74,20 @@ fn looked_to(history: &History, count: u32, place: u32) -> u32
 }
 
 /// Whether the call that is made at a place, if one is, is such.
-fn is_left_or_early(
+pub(crate) fn is_left_or_early(
     history: &History,
     count: u32,
     place: u32,
     fact: Fact,
     maker: Option<u32>,
     at: u32,
+    turn: Option<InTurn>,
 ) -> bool
     requires within { count ≤ length history.now.recorded.events }
     requires place { at < count }
-    ensures { IsTrue result → IsLeftOrEarly fact (events_to count history.now.recorded.events) place maker at }
+    ensures { IsTrue result → IsLeftOrEarly turn fact (events_to count history.now.recorded.events) place maker at }
 {
-    if keeps_unread(history, fact, at) {
+    if keeps_unread(history, fact, at) || comes_apart(turn, place, maker, at) {
         return true;
     }
     let Some(call) = call_at(history, count, at) else {
@@ -119,7 +122,7 @@ fn leaves_at(place: u32, fact: Fact, call: &CallAt<'_>) -> bool
     call.place == place || call.changes_nothing() || is_left(fact, call)
 }
 
-/// Whether the call leaves the fact since its CPU stands in another REC.
+/// Whether the call leaves the fact where its CPU stands.
 fn is_left_elsewhere(history: &History, count: u32, fact: Fact, call: &CallAt<'_>) -> bool
     requires { count ≤ length history.now.recorded.events }
     ensures { IsTrue result → LeavesElsewhere fact (events_to count history.now.recorded.events) call.now }

@@ -1,11 +1,12 @@
 //! Slices of a history: the calls on which one of its returns depends.
 //! It promises that the events up to the return have no order where the slice has none, nor where its reply isn't given where its CPU is
-//! (`placing`), nor where facts that earlier calls made deny it (`denied`).
+//! (`placing`), nor where facts that earlier calls made deny it, in whichever order two calls come (`denied`).
 //! Which calls are kept is chosen without a promise, backwards from the return (`keeping`), and then checked call by call (`cut`).
 //! Where a granule's first kept call needs it unused, or calls that aren't kept left it so (`unused`), what was done with it before is left out.
 //! The search for an order looks at slices first, so that it needn't go through all that came before.
 #![tactic(auto)]
 
+mod beside;
 mod call_at;
 mod cut;
 mod denied;
@@ -13,12 +14,14 @@ mod denying;
 mod denying_recs;
 mod done;
 mod early;
+mod either_way;
 mod elsewhere;
 mod ending;
 mod entered;
 mod given_back;
 mod giving;
 mod giving_recs;
+mod held;
 mod keeping;
 mod kinds;
 mod last_return;
@@ -41,6 +44,7 @@ mod supposing;
 mod supposing_recs;
 mod supposing_ripas;
 mod together;
+mod turns;
 mod unused;
 mod window;
 

@@ -1,8 +1,8 @@
 //! Which facts may deny a reply, and which call made each. What is found isn't promised: it is checked.
 
-use crate::denied::is_made_by;
 use crate::denying::denies;
 use crate::given_back::freed;
+use crate::held::is_made_by;
 use crate::last_return::LastReturn;
 use crate::latest::{concerns, done_at, function_at, gives_page, may_make};
 use crate::making::{tags, takes_part};

@@ -58,6 +58,20 @@ fn ripas_before(history: &History, count: u32, place: u32, rd: u64, ipa: u64) ->
     None
 }
 
+/// The place of the latest call that makes an address of the RIPAS, and returned before a place.
+pub(crate) fn maker_with(history: &History, count: u32, place: u32, fact: Fact) -> Option<u32> {
+    let Fact::HasRipas { rd, ipa, ripas } = fact else {
+        return None;
+    };
+    for back in 1..place.saturating_add(1) {
+        let at = place.saturating_sub(back);
+        if ripas_at(history, count, place, at, rd, ipa) == Some(ripas) {
+            return Some(at);
+        }
+    }
+    None
+}
+
 /// Which RIPAS the call sets there that is made at one place, if that returned before another.
 fn ripas_at(history: &History, count: u32, place: u32, at: u32, rd: u64, ipa: u64) -> Option<u64> {
     match function_at(history, at)? {
@@ -68,14 +82,14 @@ fn ripas_at(history: &History, count: u32, place: u32, at: u32, rd: u64, ipa: u6
         }
         FunctionId::RttSetRipas => {
             let done = done_at(history, count, place, at)?;
-            ripas_set(history, count, at, &done, rd, ipa)
+            ripas_asked(history, count, at, &done, rd, ipa)
         }
         _ => None,
     }
 }
 
 /// Which RIPAS a call that is made at the place sets at the address, as its REC asked.
-fn ripas_set(
+fn ripas_asked(
     history: &History,
     count: u32,
     place: u32,
@@ -83,54 +97,14 @@ fn ripas_set(
     rd: u64,
     ipa: u64,
 ) -> Option<u64> {
-    match asked_by(history, count, place, done, rd, ipa)? {
-        Fact::RunsOrAsksTo { ripas, .. } => Some(ripas),
-        _ => None,
-    }
-}
-
-/// What its REC asks for before a call that is made at the place, where that sets it at the address.
-fn asked_by(
-    history: &History,
-    count: u32,
-    place: u32,
-    done: &Done<'_>,
-    rd: u64,
-    ipa: u64,
-) -> Option<Fact> {
     let Call::RttSetRipas { rec, .. } = done.call else {
         return None;
     };
     if !sets_ripas(&done.call, done.reply, rec, rd, ipa) {
         return None;
     }
-    asked_to(history, count, place, rec)
-}
-
-/// The place of the latest call that makes the fact with another, and returned before a place, and the other.
-pub(crate) fn maker_with(
-    history: &History,
-    count: u32,
-    place: u32,
-    fact: Fact,
-) -> Option<(u32, Fact)> {
-    let Fact::HasRipas { rd, ipa, .. } = fact else {
-        return None;
-    };
-    for back in 1..place.saturating_add(1) {
-        let at = place.saturating_sub(back);
-        if let Some(other) = asked_at(history, count, place, at, rd, ipa) {
-            return Some((at, other));
-        }
+    match asked_to(history, count, place, rec)? {
+        Fact::RunsOrAsksTo { ripas, .. } => Some(ripas),
+        _ => None,
     }
-    None
-}
-
-/// What a REC asks for before the call that is made at one place, if that sets it at the address and returned before another.
-fn asked_at(history: &History, count: u32, place: u32, at: u32, rd: u64, ipa: u64) -> Option<Fact> {
-    if !matches!(function_at(history, at), Some(FunctionId::RttSetRipas)) {
-        return None;
-    }
-    let done = done_at(history, count, place, at)?;
-    asked_by(history, count, at, &done, rd, ipa)
 }

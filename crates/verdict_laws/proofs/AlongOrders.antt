@@ -1,5 +1,5 @@
 -- Along an order: what holds before any line and stays so with each next one holds where a finished call's line comes.
-use Rattle.verdict_laws.proofs.Common.{ℕ, List, [], ◌∷◌, ◌++◌, inl, inr, sym, subst, arith, append_assoc, cases_lt, none-some, Command, Called, Line, Reply, History, IsHistory, IsRun, JournalEntry, AreEntriesOf, IsCalled, IsFinished, IsLinearization, IsNamed, IsReturned, ReturnsBefore, cpu_named, number_named, IsSound, State, opening, Step, HasOnePlaces-from_history, LeadsNowhere, count_of}
+use Rattle.verdict_laws.proofs.Common.{◌∙◌, refl, ◌≡◌, ℕ, List, [], ◌∷◌, ◌++◌, inl, inr, sym, subst, arith, append_assoc, cases_lt, none-some, Command, Called, Line, Reply, History, IsHistory, IsRun, JournalEntry, AreEntriesOf, IsCalled, IsFinished, IsLinearization, IsNamed, IsReturned, ReturnsBefore, cpu_named, number_named, IsSound, State, opening, Step, HasOnePlaces-from_history, LeadsNowhere, count_of}
 use Rattle.std.proofs.Common.{take}
 use Rattle.std.proofs.lemmas.List.{append-nil}
 use Rattle.lemmas.proofs.Elements.{slice_get-take}
@@ -53,36 +53,50 @@ module _ (history : History) (is_history : IsHistory history) where
             (named.0, named.1, named.2, subst (λ (k : ℕ). before k (number_named named.1)) (sym named.3) (subst (before cpu) (sym named.4) returns));
       }
 
-  -- What holds before any line, stays so with each next one and refutes a finished call's leaves no order.
-  module _ (cpu number : ℕ) (finished : IsFinished history.events cpu number) (P : List Line → State → Type 0)
-      (refutes : (lines : List Line) (s new : State) (c : Claim history.events) → LeadsOn history lines s c new → P lines s → ¬ Names cpu number c)
-      (keeps : (lines : List Line) (s new : State) (c : Claim history.events) → LeadsOn history lines s c new → P lines s
+  -- Of an order each line comes so. What holds before any, stays so with each next one and refutes a finished call's contradicts it.
+  module _ (cpu number : ℕ) (finished : IsFinished history.events cpu number) (all : List Line)
+      (ComesSo : List Line → Claim history.events → Type 0) (P : List Line → State → Type 0)
+      (comes_so : (lines back : List Line) (c : Claim history.events) → (lines ++ c.line ∷ []) ++ back ≡ all → ComesSo lines c)
+      (refutes : (lines : List Line) (s new : State) (c : Claim history.events) → LeadsOn history lines s c new → ComesSo lines c → P lines s
+      → ¬ Names cpu number c)
+      (keeps : (lines : List Line) (s new : State) (c : Claim history.events) → LeadsOn history lines s c new → ComesSo lines c → P lines s
       → P (lines ++ c.line ∷ []) new) where
     -- the call never comes behind lines that don't name it
-    never : (back lines : List Line) (entries : List JournalEntry) (s last : State) → IsLinearization history (lines ++ back)
+    never : (back lines : List Line) (entries : List JournalEntry) (s last : State) → lines ++ back ≡ all → IsLinearization history (lines ++ back)
         → Reaches history lines s → P lines s → ¬ IsNamed lines cpu number → AreEntriesOf history.events back entries → IsRun s entries last → ⊥
-    never [] lines entries s last valid reached is unnamed claimed run =
+    never [] lines entries s last same valid reached is unnamed claimed run =
         unnamed (subst (λ (ls : List Line). IsNamed ls cpu number) (append-nil lines) (valid.order.complete cpu number finished))
-    never (line ∷ back) lines [] s last valid reached is unnamed claimed run = absurd claimed
-    never (line ∷ back) lines (e ∷ entries) s last valid reached is unnamed claimed run =
-        let order = subst (IsLinearization history) (sym (append_assoc lines (line ∷ []) back)) valid in
+    never (line ∷ back) lines [] s last same valid reached is unnamed claimed run = absurd claimed
+    never (line ∷ back) lines (e ∷ entries) s last same valid reached is unnamed claimed run =
+        let parts = append_assoc lines (line ∷ []) back in
+        let order = subst (IsLinearization history) (sym parts) valid in
         let next = IsNext-linear history is_history lines s reached line back order in
         let c : Claim history.events = record { line = line; entry = e; kind = next.kind; is_entry = claimed.0 } in
         let leads = LeadsOn-linear lines back s run.0 c order reached run.1 in
-        never back (lines ++ line ∷ []) entries run.0 last order
-        (Reaches-linear history is_history lines s reached line back order e run.0 claimed.0 run.1) (keeps lines s run.0 c leads is)
+        let so = comes_so lines back c (parts ∙ same) in
+        never back (lines ++ line ∷ []) entries run.0 last (parts ∙ same) order
+        (Reaches-linear history is_history lines s reached line back order e run.0 claimed.0 run.1) (keeps lines s run.0 c leads so is)
         (λ named. elim (IsNamed-push_cases lines line cpu number named) [
           | inl before ↦ unnamed before
-          | inr own ↦ refutes lines s run.0 c leads is own
+          | inr own ↦ refutes lines s run.0 c leads so is own
         ]) claimed.1 run.2
 
-    -- so there is none
-    pub nowhere-along : P [] (opening history.config) → LeadsNowhere history []
-    nowhere-along is = record {
-      none = λ lines valid.
-          never lines [] valid.entries (opening history.config) valid.last valid (Reaches-nil history) is (λ named. none-some named.1 named.2)
-          valid.run.claimed valid.run.run;
-    }
+    -- so the order is none
+    pub not-along : P [] (opening history.config) → ¬ IsLinearization history all
+    not-along is valid =
+        never all [] valid.entries (opening history.config) valid.last refl valid (Reaches-nil history) is (λ named. none-some named.1 named.2)
+        valid.run.claimed valid.run.run
+
+  -- What holds before any line, stays so with each next one and refutes a finished call's leaves no order.
+  pub nowhere-along : (cpu number : ℕ) → IsFinished history.events cpu number → (P : List Line → State → Type 0)
+      → ((lines : List Line) (s new : State) (c : Claim history.events) → LeadsOn history lines s c new → P lines s → ¬ Names cpu number c)
+      → ((lines : List Line) (s new : State) (c : Claim history.events) → LeadsOn history lines s c new → P lines s
+      → P (lines ++ c.line ∷ []) new) → P [] (opening history.config) → LeadsNowhere history []
+  nowhere-along cpu number finished P refutes keeps is = record {
+    none = λ lines.
+        not-along cpu number finished lines (λ before c. Unit {0}) P (λ before back c same. tt)
+        (λ before s new c leads so. refutes before s new c leads) (λ before s new c leads so. keeps before s new c leads) is;
+  }
 
 -- ---- first events
 

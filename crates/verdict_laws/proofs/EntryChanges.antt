@@ -80,7 +80,7 @@ module _ (s : State) (sound : IsSound s) (rd ipa : ℕ) (e : Entry) (is : s.leaf
 
 module _ (test : Option Entry → Bool) where
   -- what meets the test does so with the RIPAS
-  abbrev Keeps : Ripas → Type 0
+  abbrev pub Keeps : Ripas → Type 0
   Keeps ripas = (found : Option Entry) → test found ≡ true → test (option_map (entry_with_ripas ripas) found) ≡ true
 
   -- the change puts nothing that doesn't meet the test in place of an entry of the last level, and sets there no RIPAS with which that doesn't
@@ -95,7 +95,7 @@ module _ (test : Option Entry → Bool) where
   Stays _ rd n = Unit {0}
 
   -- so it is with what is done, up to an end that a stretch may have
-  abbrev StaysDone : State → Accepted → ℕ → ℕ → Type 0
+  abbrev pub StaysDone : State → Accepted → ℕ → ℕ → Type 0
   StaysDone s (Done words change) rd n = Stays change rd n
   StaysDone s (Reaches stretch) rd n = (top : ℕ) → IsReached s stretch top → Stays (reached_change stretch top) rd n
 
@@ -133,7 +133,7 @@ module _ (test : Option Entry → Bool) where
     changed_met _ sound can stays = met
 
     -- so it does behind what is done
-    carried_met : (new : State) (given : Reply) (found : Accepted) → IsSound s → StaysDone s found rd n
+    pub carried_met : (new : State) (given : Reply) (found : Accepted) → IsSound s → StaysDone s found rd n
         → Applies s found → CarriesOut (Ok found) s given new → test (new.leaf rd 3 n) ≡ true
     carried_met new given (Done words change) sound stays can carried = rw carried.1 (changed_met change sound can stays)
     carried_met new given (Reaches stretch) sound stays can (top, (reached, is_ok, is_next)) =

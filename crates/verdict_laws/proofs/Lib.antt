@@ -100,3 +100,4 @@ pub mod RipasFacts
 pub mod FactKinds
 pub mod ManyFacts
 pub mod FactOrders
+pub mod EitherWay

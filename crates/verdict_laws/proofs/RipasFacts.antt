@@ -1,6 +1,7 @@
 -- Entries of the last level of a RIPAS: one that a call makes so, by itself or as a REC asked, is so until another may replace it or set its RIPAS,
 -- and isn't read as of another.
-use Rattle.verdict_laws.proofs.Common.{◌≡◌, ℕ, ◌-◌, ◌*◌, ◌<◌, ◌==◌, ◌&&◌, ◌||◌, nat_le, nat_lt, if◌then◌else◌, Bool, true, false, not, Option, Some, inl, inr, refl, sym, ◌∙◌, ap, subst, eqb-true, eq-eqb, arith, IsTrue, unwrap_or, is_none, and_from, and_parts, not-true, or_cases, or_parts, Call, Command, Entry, Reply, call_of, changed, no_rec, realm_at, rec_at, rec_inside, request_of, is_accepted, IsSound, RealmRecord, State, Step, outcome, reached_change, entry_at, entry_number, reach, both_ways, behind, Fact, holds}
+use Rattle.verdict_laws.proofs.Common.{◌≡◌, ℕ, ◌-◌, ◌*◌, ◌<◌, ◌==◌, ◌&&◌, ◌||◌, nat_le, nat_lt, if◌then◌else◌, Bool, true, false, not, Option, Some, inl, inr, refl, sym, ◌∙◌, ap, subst, eqb-true, eq-eqb, arith, IsTrue, unwrap_or, is_none, and_from, and_parts, cases_Bool, not-true, or_cases, or_parts, Call, Command, Entry, Reply, call_of, changed, no_rec, realm_at, rec_at, rec_inside, request_of, is_accepted, IsSound, RealmRecord, State, Step, outcome, step-refuses, reached_change, entry_at, entry_number, reach, both_ways, behind, Fact, holds}
+use Rattle.std.specs.Prelude.{option_map}
 use Rattle.std.proofs.lemmas.Bool.{le-leb, leb-true, lt-ltb, ltb-true}
 use Rattle.rmm_spec.specs.declared.accepted.StretchUse.TheVariants.{Requested}
 use Rattle.rmm_spec.specs.declared.call.Call.TheVariants as call
@@ -15,8 +16,8 @@ use Rattle.rmm_spec.specs.Walk.{entry_ripas, entry_size, half, is_multiple, is_t
 use Rattle.spec_lemmas.proofs.WalkLaws.{reach-le}
 use Rattle.verdict_laws.specs.declared.facts.Fact.TheVariants.{RunsOrAsksTo, HasRipas}
 use Rattle.verdict_laws.specs.Denying.{is_reported, reads_entry}
-use Rattle.verdict_laws.specs.Facts.{creates_page, frees_entry, has_ripas, is_one_entry, is_told, is_told_past, makes_with, may_init, may_reshape, may_set_ripas, runs_or_asks_to, sets_ram, sets_ripas}
-use Rattle.verdict_laws.proofs.EntryChanges.{leaf-left, leaf_found, ripas_read-denied, same_entry-last}
+use Rattle.verdict_laws.specs.Facts.{creates_page, frees_entry, has_ripas, is_one_entry, is_told, is_told_past, leaves_beside, makes_with, may_init, may_reshape, may_set_ripas, runs_or_asks_to, sets_asked, sets_ram, sets_ripas}
+use Rattle.verdict_laws.proofs.EntryChanges.{carried_met, leaf-left, leaf_found, ripas_read-denied, same_entry-last}
 use Rattle.verdict_laws.proofs.FactSteps.{IsDoneSo, step-has}
 use Rattle.verdict_laws.proofs.RamFacts.{IsWithin-may_set, MaySet, last_stretch, ram-made, ram_there}
 use Rattle.verdict_laws.proofs.RecFacts.{to_read}
@@ -78,6 +79,28 @@ made_asked rd ipa rec top asked s new cpu given (call.RttSetRipas other its_rec 
     (ap (has_ripas (Some (entry_with_ripas ripas (entry_at s other 3 n)))) (sym kind)
     ∙ ripas_set (entry_at s other 3 n) (realm_at s other) n ripas there.lower there.fits)
 made_asked rd ipa rec top asked s new cpu given _ sound carried asks sets = both_ways sets refl
+
+-- an entry of a RIPAS is of that still where it is set
+set_same : (asked : ℕ) (ripas : Ripas) (found : Option Entry) → ripas_number ripas ≡ asked → has_ripas found asked ≡ true
+    → has_ripas (option_map (entry_with_ripas ripas) found) asked ≡ true
+set_same asked ripas (Some (Unassigned its)) is has = eq-eqb (ripas_number ripas) asked is
+set_same asked ripas (Some (Assigned its at)) is has = eq-eqb (ripas_number ripas) asked is
+set_same asked ripas _ is has = both_ways has refl
+
+-- so RTT_SET_RIPAS leaves one of the RIPAS that its REC asked for
+left_asked : (rd ipa rec top asked : ℕ) (s new : State) (cpu : ℕ) (given : Reply) (c : Call) → IsSound s → IsCarried s cpu c given new
+    → runs_or_asks_to (s.rec rec) top asked ≡ true → sets_asked c rec ≡ true → has_ripas (s.leaf rd 3 (entry_number 3 ipa)) asked ≡ true
+    → has_ripas (new.leaf rd 3 (entry_number 3 ipa)) asked ≡ true
+unfolding behind sets_asked reached_change rec_at
+left_asked rd ipa rec top asked s new cpu given (call.RttSetRipas other its_rec base wanted) sound carried asks sets has =
+    let here = sym (eqb-true rec its_rec sets) in
+    let idle = subst (λ g. IsTrue (is_none (unwrap_or (s.rec g) no_rec).cpu)) here carried.rows.1.0 in
+    let ripas = (request_of (unwrap_or (s.rec its_rec) no_rec)).ripas in
+    let kind : ripas_number ripas ≡ asked =
+    ap (λ g. ripas_number (request_of (unwrap_or (s.rec g) no_rec)).ripas) here ∙ (to_read top asked (s.rec rec) asks idle).2 in
+    carried_met (λ found. has_ripas found asked) rd (entry_number 3 ipa) s has new given (behind s cpu (call.RttSetRipas other its_rec base wanted)).1
+    sound (λ end reached hit found. set_same asked ripas found kind) carried.can carried.done
+left_asked rd ipa rec top asked s new cpu given _ sound carried asks sets has = both_ways sets refl
 
 -- ---- steps
 
@@ -157,6 +180,23 @@ with-made (RunsOrAsksTo rec top asked) (HasRipas rd ipa ripas) s new cpu command
     ∙ made_asked rd ipa rec top asked s new cpu given c sound (carried_by s cpu command given new (outcome s cpu c) sound accepted refl step)
     holds_other parts.1
 with-made _ _ s new cpu command given sound step accepted holds_other makes = both_ways makes refl
+
+-- where a call leaves a fact with another that holds, it holds behind it
+pub beside-left : (other fact : Fact) (s new : State) (cpu : ℕ) (command : Command) (given : Reply) → IsSound s → Step s cpu command given new
+    → holds other s ≡ true → leaves_beside other fact (call_of command) ≡ true → holds fact s ≡ true → holds fact new ≡ true
+beside-left (RunsOrAsksTo rec top asked) (HasRipas rd ipa ripas) s new cpu command given sound step holds_other leaves is =
+    let c = call_of command in
+    let n = entry_number 3 ipa in
+    let parts = and_parts (ripas == asked) (sets_asked c rec) leaves in
+    elim (cases_Bool (is_accepted given)) [
+      | inl accepted ↦
+          (let same = eqb-true ripas asked parts.0 in
+          ap (has_ripas (new.leaf rd 3 n)) same
+          ∙ left_asked rd ipa rec top asked s new cpu given c sound (carried_by s cpu command given new (outcome s cpu c) sound accepted refl step)
+          holds_other parts.1 (ap (has_ripas (s.leaf rd 3 n)) (sym same) ∙ is))
+      | inr refused ↦ ap (λ (t : State). has_ripas (t.leaf rd 3 n) ripas) (step-refuses s new cpu command given step refused) ∙ is
+    ]
+beside-left _ _ s new cpu command given sound step holds_other leaves is = both_ways leaves refl
 
 -- inside of a REC an address of its realm isn't replied to be of another
 module _ (rd ipa ripas rec : ℕ) (s new : State) (cpu : ℕ) (given : Reply) (sound : IsSound s)

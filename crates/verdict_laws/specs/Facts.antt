@@ -439,6 +439,16 @@ may_end (AsksFrom rec base) cpu c given = destroys c rec || enters c rec || sets
 may_end (RunsOrAsksWithin rec least most) cpu c given = destroys c rec || exits c || sets_past c rec least most
 may_end (RunsOrAsksTo rec top ripas) cpu c given = destroys c rec || exits c
 
+-- whether the call sets the RIPAS that the REC asks for
+unfoldable pub sets_asked : Call → ℕ → Bool
+sets_asked (call.RttSetRipas rd other base top) rec = rec == other
+sets_asked _ rec = false
+
+-- whether the call leaves the fact where another holds before: the REC asks for that
+abbrev pub leaves_beside : Fact → Fact → Call → Bool
+leaves_beside (RunsOrAsksTo rec top asked) (HasRipas rd ipa ripas) c = ripas == asked && sets_asked c rec
+leaves_beside other fact c = false
+
 -- whether a CPU that stands there is in another REC, or in none
 abbrev pub is_elsewhere : Standing → ℕ → Bool
 is_elsewhere Outside rec = true

@@ -1,12 +1,8 @@
 //! The law of facts: a reply that some deny isn't given while they last.
 
-ghost use Rattle.std.specs.Prelude.{ℕ, List, [], take};
-ghost use Rattle.rmm_spec.specs.declared.command.Command.{Command};
-ghost use Rattle.rmm_spec.specs.declared.reply.Reply.{Reply};
-ghost use Rattle.rmm_spec.specs.Call.{call_of};
+ghost use Rattle.std.specs.Prelude.{ℕ, [], None, take};
 ghost use Rattle.rmm_spec.specs.HistoryText.{History, IsHistory};
-ghost use Rattle.rmm_spec.specs.Linearization.{IsCalled, IsReturned};
-ghost use Rattle.verdict_laws.specs.HeldFacts.{AreHeldAt, IsDenied};
+ghost use Rattle.verdict_laws.specs.HeldFacts.{IsDeniedEitherWay, IsDeniedWhere};
 ghost use Rattle.verdict_laws.specs.Order.{LeadsNowhere};
 ghost use Rattle.verdict_laws.specs.Parts.{first_part};
 
@@ -53,12 +49,22 @@ pub enum Fact {
     RunsOrAsksTo { rec: u64, top: u64, ripas: u64 },
 }
 
+/// That of two calls, by the places at which they are made, the one comes before the other.
+#[derive(Clone, Copy)]
+pub struct InTurn {
+    pub first: u32,
+    pub second: u32,
+}
+
 /// First events of a history, so many, have no order where one of their replies is denied by facts that hold while its call may take effect, by
 /// themselves or where its CPU stands.
 pub fn nowhere_denied()
-    ensures { (history : History) (count cpu number called returned : ℕ) (command : Command) (given : Reply) (facts : List Fact)
-        → IsHistory history → IsCalled history.events called cpu number command
-        → IsReturned (take count history.events) returned cpu number given → AreHeldAt facts (take count history.events) called
-        → IsDenied history.config.granules (take count history.events) facts cpu number (call_of command) given
+    ensures { (history : History) (count : ℕ) → IsHistory history → IsDeniedWhere None history.config.granules (take count history.events)
+        → LeadsNowhere (first_part count history) [] }
+{}
+
+/// Nor have they one where, whichever of two calls comes first, facts deny a reply that hold then while its call may take effect.
+pub fn nowhere_either_way()
+    ensures { (history : History) (count : ℕ) → IsHistory history → IsDeniedEitherWay history.config.granules (take count history.events)
         → LeadsNowhere (first_part count history) [] }
 {}

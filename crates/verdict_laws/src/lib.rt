@@ -40,7 +40,7 @@ pub use exchanges::{
     nowhere_after_each_open_call, nowhere_after_looks, nowhere_at_a_return, nowhere_in_a_group,
     nowhere_in_either_order, nowhere_with_a_movable_call,
 };
-pub use facts::{Fact, nowhere_denied};
+pub use facts::{Fact, InTurn, nowhere_denied, nowhere_either_way};
 pub use making::{made_apart_exchange, made_apart_pass};
 pub use placing::{ExitReason, Standing, nowhere_out_of_place};
 pub use registers::{

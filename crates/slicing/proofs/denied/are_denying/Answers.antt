@@ -1,4 +1,4 @@
--- The call was made, and returned so, and its reply is denied by facts that are held there.
+-- The reply is denied by facts that are held where its call is made.
 use Rattle.std.proofs.Common.{refl, subst}
 use Rattle.rmi_view.specs.Seen.{reply_seen}
 use Rattle.slicing.specs.Calls.{events_to}
@@ -10,8 +10,18 @@ returns-then-deny_last c held =
     let last = c.args.last.now in
     let recorded = c.args.history.now.recorded in
     let is = c.requires in
-    let reply = reply_seen last.reply in
-    c.nowhere_denied-law.ensures recorded c.args.count last.cpu last.number last.called is.returned is.command reply c.args.facts.now
-    c.well_formed-fact.ensures is.is_called is.is_returned (c.are_held.ensures held)
-    (subst (λ called. IsDenied recorded.config.granules (events_to c.args.count recorded.events) c.args.facts.now last.cpu last.number called reply)
-    is.call (c.if-deny_last.ensures refl))
+    let reply = reply_seen last.reply in record {
+      facts = c.args.facts.now;
+      called = last.called;
+      cpu = last.cpu;
+      number = last.number;
+      command = is.command;
+      is_called = is.is_called;
+      returned = is.returned;
+      given = reply;
+      is_returned = is.is_returned;
+      are_held = c.are_held.ensures held;
+      denied =
+          subst (λ called. IsDenied recorded.config.granules (events_to c.args.count recorded.events) c.args.facts.now last.cpu last.number called reply)
+          is.call (c.if-deny_last.ensures refl);
+    }

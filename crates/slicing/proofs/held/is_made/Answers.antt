@@ -1,8 +1,8 @@
 -- The call that makes it was carried out, and each call is the same, returned before it was made, or leaves the fact.
-use Rattle.std.proofs.Common.{inr, refl}
+use Rattle.std.proofs.Common.{inl, inr, refl}
 use Rattle.slicing.specs.Calls.{events_to}
 use Rattle.slicing.proofs.FactLaws.{IsLeftSince-early, IsMadeBy-done}
-use Rattle.slicing.proofs.denied.is_made.Goals as goal
+use Rattle.slicing.proofs.held.is_made.Goals as goal
 
 pub returns-then-is_made_by : goal.returns-then-is_made_by
 returns-then-is_made_by c left =
@@ -10,7 +10,7 @@ returns-then-is_made_by c left =
     let done = c.in-Some.ensures in
     let events = events_to a.count a.history.now.recorded.events in
     inr (
-      done.0,
+      record { end = a.place; call = done.0; first = inl done.0.back },
       IsMadeBy-done events a.place a.maker c.in-Some.done a.fact done (c.if-is_made_by.ensures refl),
-      IsLeftSince-early a.fact events a.place a.maker done.0.called done.1 (c.are_left.ensures left),
+      IsLeftSince-early a.turn a.fact events a.place a.maker done.0.called done.1 (c.are_left.ensures left),
     )

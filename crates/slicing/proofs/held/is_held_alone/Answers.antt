@@ -1,6 +1,6 @@
 -- Without a call that makes it, no call is later than that.
 use Rattle.std.proofs.Common.{inl, inr, refl, sym}
-use Rattle.slicing.proofs.denied.is_held_alone.Goals as goal
+use Rattle.slicing.proofs.held.is_held_alone.Goals as goal
 
 pub returns-then-are_left : goal.returns-then-are_left
 returns-then-are_left c is =
