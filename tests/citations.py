@@ -22,7 +22,7 @@ NAMED = {
     "command_rows": ({"command_core", "flat_machine", "spec_machine"}, "what a row's answer is by the definitions"),
     "commit_tickets": ({"monitor"}, "the journal, gone through beside the tokens"),
     "event_queue": ({"monitor"}, "the journal's commits beside the events"),
-    "history": ({"event_queue", "merging", "text_writers"}, "a history's index and its text, one event longer; a text that was written, read"),
+    "history": ({"merging", "text_writers"}, "a history's index and its text, one event longer; a text that was written, read"),
     "monitor": ({"bench", "monitor_runs", "refused_memory", "thread_tests"}, "the tokens of all CPUs, with one CPU's changed"),
     "reasons": ({"explain"}, "the first condition that fails"),
     "rec_steps": ({"command_rows", "spec_machine"}, "the step that an answer inside of a REC is"),

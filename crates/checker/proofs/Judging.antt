@@ -20,18 +20,10 @@ use Rattle.spec_lemmas.proofs.Places.{one_call_place, one_return_place, finished
 use Rattle.checker.specs.Progress.{Progress}
 use Rattle.checker.specs.Replay.{IsDue, IsReplayOf, JudgesLine, NeedsMemory, IsRefusedMemory}
 use Rattle.checker.specs.declared.replay.Replay.{Replay}
-use Rattle.spec_lemmas.proofs.Calls.{HasOnePlaces, told_at_call}
+use Rattle.spec_lemmas.proofs.Calls.{HasOnePlaces, told_at_call, HasOnePlaces-from_history}
 use Rattle.spec_machine.specs.View.{state_of}
 use Rattle.checker.proofs.Progress.{Follows, Progress-push, Progress-returned, flag-returned}
 use Rattle.checker.proofs.Faults.{IsRefused-from_step, not-IsTooLate-from_latest, not-IsTooLate-pending}
-
--- a history has one place for each call and each return
-pub HasOnePlaces-from_history : (history : History) → IsHistory history → HasOnePlaces history.events
-HasOnePlaces-from_history history is_history = record {
-  one_call = λ place other cpu number command made. one_call_place cpu number history.events place other command made (is_history.records cpu);
-  one_return = λ place other cpu number given told. one_return_place cpu number history.events place other given told (is_history.records cpu);
-  is_known = λ cpu number. finished_is_known cpu number history.events (is_history.records cpu);
-}
 
 -- the place of a call has a flag
 pub called_within : (history : History) (named : List Bool) (called cpu number : ℕ) (command : Command) → length named ≡ length history.events

@@ -17,7 +17,7 @@ use Rattle.rmm_spec.specs.Linearization.{IsCalled, IsReturned, ReturnsBefore, cp
 use Rattle.rmm_spec.specs.FirstFault.{Passes}
 use Rattle.checker.specs.Progress.{IsCallOf, Progress}
 use Rattle.lemmas.proofs.Elements.{slice_get_push_cases, slice_get-append, slice_get-push}
-use Rattle.spec_lemmas.proofs.Calls.{HasOnePlaces}
+use Rattle.spec_lemmas.proofs.Calls.{HasOnePlaces, IsNamed-push_cases}
 use Rattle.rmm_laws.proofs.RunLaws.{run-snoc}
 use Rattle.rmm_laws.proofs.EntryRuns.{AreEntriesOf-push}
 
@@ -119,14 +119,6 @@ Passes-push history lines old line called new passes follows =
       };
     }
 
--- a name among more lines is among the old ones, or is the last line's
-IsNamed_cases : (lines : List Line) (line : Line) (cpu number : ℕ) → IsNamed (lines ++ line ∷ []) cpu number
-    → IsNamed lines cpu number ⊎ ((cpu_named line ≡ cpu) × (number_named line ≡ number))
-IsNamed_cases lines line cpu number named = elim (slice_get_push_cases lines line named.0 named.1 named.2) [
-  | inl old ↦ inl (named.0, named.1, old, named.3, named.4)
-  | inr new ↦ inr (sym (ap cpu_named new.1) ∙ named.3, sym (ap number_named new.1) ∙ named.4)
-]
-
 -- what an event records, from two readings of its place
 same_cpu : (events : List Event) (place cpu number other_cpu other : ℕ) (command made : Command) → IsCalled events place cpu number command
     → IsCalled events place other_cpu other made → (cpu ≡ other_cpu) × (number ≡ other)
@@ -189,7 +181,7 @@ module _ (history : History) (one : HasOnePlaces history.events) (lines : List L
           slice_get_within history.events called (Called (cpu_named line) (number_named line) follows.command) follows.is_called,
         ) in
         both_ways _ unset (ap (λ (p : ℕ). get_or (set named called true) p false) same ∙ get_or-set_same named called true false in_range)
-    | inr other ↦ elim (IsNamed_cases lines line cpu number is_named) [
+    | inr other ↦ elim (IsNamed-push_cases lines line cpu number is_named) [
       | inl before ↦ progress.unflagged place cpu number command is (sym (get_or-set_other named called place true false other) ∙ unset) before
       | inr here ↦ other (one.one_call place called cpu number command follows.command is
           (subst (λ (n : ℕ). IsCalled history.events called cpu n follows.command) here.1

@@ -12,7 +12,7 @@ use Rattle.rmm_spec.specs.Judgement.{Accepts, JudgesOrder, Judges, JudgesTexts}
 use Rattle.spec_lemmas.proofs.HistoryGrammar.{same_history, not-IsBadLine-history}
 use Rattle.spec_lemmas.proofs.CertificateLines.{same_certificate, not-IsBadLine-certificate}
 use Rattle.checker.proofs.Excludes.{not-IsLinearization}
-use Rattle.checker.proofs.Judging.{HasOnePlaces-from_history}
+use Rattle.spec_lemmas.proofs.Calls.{HasOnePlaces-from_history}
 
 -- a verdict on the order that the texts stand for is one on the texts
 pub Judges-from_order : (v : Verdict) (history_bytes certificate_bytes : List ℕ) (history : History) (lines : List Line)

@@ -16,7 +16,6 @@ use Rattle.rmm_spec.specs.Flat.{table_granule}
 use Rattle.rmm_spec.specs.declared.reply.Reply.{Reply}
 use Rattle.rmm_spec.specs.Shape.{IsWellShaped, CpuPlace}
 use Rattle.rmm_spec.specs.Local.{LocalStep, put_all}
-use Rattle.rmm_laws.proofs.Entries.{value_there}
 use Rattle.world_laws.proofs.Locals.{unchanged-is_local, step-is_local}
 use Rattle.spec_lemmas.proofs.Maps.{put-same}
 use Rattle.world_laws.proofs.Refusals.{Step-refused}
@@ -32,6 +31,7 @@ use Rattle.world_laws.proofs.Wholes.{held-contains}
 use Rattle.world_laws.proofs.Tables.{placed-found}
 use Rattle.command_core.proofs.Stored.{made-put, new-held}
 use Rattle.command_core.proofs.Wholes.{Whole, state, walk_whole, same_at}
+use Rattle.lemmas.proofs.Options.{value_there}
 
 -- ---- cells
 

@@ -5,12 +5,13 @@ use Rattle.rmm_spec.specs.declared.call.Call.TheVariants as call
 use Rattle.rmm_spec.specs.Rows.{input_error, all_allowed}
 use Rattle.rmm_spec.specs.Cell.{Cell}
 use Rattle.rmm_spec.specs.Local.{LocalStep}
-use Rattle.spec_lemmas.proofs.Members.{Contains-head, Contains-tail, slice_get-from_Contains}
+use Rattle.spec_lemmas.proofs.Members.{slice_get-from_Contains}
 use Rattle.world_laws.proofs.Refusals.{IsInputError, IsRefusedInFront, by_words, by_tag, decided-front, answer_of-front, words-are_local, addresses-are_local, tags-are_local}
 use Rattle.command_rows.specs.Answers.{host_answer}
 use Rattle.command_core.specs.Named.{is_wrong_for, is_wrong}
 use Rattle.world_laws.specs.SeenState.{realm_behind, cell_or}
 use Rattle.command_core.proofs.Rising.{none_at, found-contains, right_tag}
+use Rattle.lemmas.proofs.Members.{Contains-head, Contains-tail}
 
 -- ---- tests on lists
 

@@ -15,7 +15,6 @@ use Rattle.rmm_spec.specs.Step.Front.{with_front}
 use Rattle.rmm_spec.specs.Step.Terms.{is_page, needed}
 use Rattle.rmm_spec.specs.Step.RealmCall.{answer_to_realm, rec_exit, rec_change, realm_change, ripas_asked, ipa_state_get}
 use Rattle.rmm_spec.specs.Cell.{Cell}
-use Rattle.spec_lemmas.proofs.Members.{Contains-head, Contains-tail}
 use Rattle.command_rows.specs.Answers.{IsInsideBy, class_answer, inside_answer}
 use Rattle.world_laws.specs.Walking.{way, is_walk_held, is_refused_early}
 use Rattle.world_laws.proofs.Seen.{realm-same, rec-same}
@@ -31,6 +30,8 @@ use Rattle.command_core.proofs.Changes.{can-done}
 use Rattle.command_core.proofs.Fronts.{named-cell}
 use Rattle.command_core.proofs.SeenStates.{tag-seen, rec-seen, realm-seen}
 use Rattle.command_core.proofs.Wholes.{Whole, state, walk_whole}
+use Rattle.lemmas.proofs.Tests.{or_second}
+use Rattle.lemmas.proofs.Members.{Contains-head, Contains-tail}
 
 -- ---- what is held at the place's granules
 
@@ -186,10 +187,6 @@ can-exit cpu hold s rec rd place held =
 rec_exit-same : (s t : State) (rec : ℕ) → rec_at s rec ≡ rec_at t rec → rec_exit s rec ≡ rec_exit t rec
 unfolding rec_exit words_of named
 rec_exit-same s t rec same = rw same refl
-
-or_second : (b c : Bool) → c ≡ true → (b || c) ≡ true
-or_second true c is = refl
-or_second false c is = is
 
 -- what a realm is told of an address: the walk's end is held, or the address is refused
 refused-get : (t : State) (rec rd ipa : ℕ) (realm : RealmRecord) → (rec_at t rec).owner ≡ rd → realm_at t rd ≡ realm → is_protected realm ipa ≡ false

@@ -8,8 +8,9 @@ use Rattle.rmm_spec.specs.declared.tag.Tag.{Tag}
 use Rattle.rmm_spec.specs.Cell.{Cell, is_data}
 use Rattle.rmm_spec.specs.Locks.{is_named, leads_to, names_part, depth, IsStray, IsRisingTake}
 use Rattle.spec_lemmas.proofs.TagLaws.{tag_number-injective}
-use Rattle.spec_lemmas.proofs.Members.{Contains-nil, Contains-head, Contains-tail}
+use Rattle.spec_lemmas.proofs.Members.{Contains-nil}
 use Rattle.command_core.specs.Named.{is_wrong_for, fits_below, is_upward, entry_leads, has_part, has_aux_part, depth_in, fits_beside, is_downward}
+use Rattle.lemmas.proofs.Members.{Contains-head, Contains-tail}
 
 -- ---- each of what is held
 

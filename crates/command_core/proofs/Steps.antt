@@ -14,7 +14,7 @@ use Rattle.rmm_spec.specs.Step.Terms.{needed}
 use Rattle.rmm_spec.specs.Cell.{Cell}
 use Rattle.rmm_spec.specs.Shape.{CpuPlace}
 use Rattle.rmm_spec.specs.Locks.{is_named, needs, needs_outside, IsRisingTake}
-use Rattle.spec_lemmas.proofs.Members.{Contains-head, Contains-tail, Contains-from_slice_get}
+use Rattle.spec_lemmas.proofs.Members.{Contains-from_slice_get}
 use Rattle.command_core.proofs.Walked.{taken-way}
 use Rattle.command_core.specs.declared.next.Next.{Next}
 use Rattle.command_core.specs.declared.next.Next.TheVariants.{Ready}
@@ -30,6 +30,7 @@ use Rattle.command_core.proofs.Inside.{fitting-granule, fitting-place}
 use Rattle.command_core.proofs.Ready.{settled-ready}
 use Rattle.world_laws.proofs.Wholes.{held-contains}
 use Rattle.command_core.proofs.Rising.{upward-rises, downward-rises}
+use Rattle.lemmas.proofs.Members.{Contains-head, Contains-tail}
 
 -- ---- the last taken
 

@@ -17,7 +17,6 @@ use Rattle.rmm_spec.specs.Cell.{Cell, put, rec_in}
 use Rattle.rmm_spec.specs.Local.{Agrees, put_all}
 use Rattle.rmm_spec.specs.Walk.{table_size}
 use Rattle.spec_lemmas.proofs.Maps.{put-elsewhere}
-use Rattle.spec_lemmas.proofs.Members.{Contains-head, Contains-tail}
 use Rattle.realm_desc.specs.Updates.{IsRecUpdate}
 use Rattle.granule_cells.specs.Changes.{CanPutAll, CanUpdate, FitsCells, cells_made, fits_entries, granules_changed, granules_put, is_plain, page_put, rec_changed, realm_changed, table_at}
 use Rattle.granule_cells.specs.MadeLaws.{AgreeOn, IsApart, all-parts, cells_made-agree, cells_made-apart}
@@ -31,6 +30,7 @@ use Rattle.rmm_spec.specs.Table.{TableRecord}
 use Rattle.rtt_table.specs.Shaped.{IsShaped}
 use Rattle.rmm_laws.specs.Whole.{width_in}
 use Rattle.command_core.proofs.Places.{made-shaped}
+use Rattle.lemmas.proofs.Members.{Contains-head, Contains-tail}
 
 -- ---- what is known of cells that are replaced
 

@@ -6,6 +6,7 @@ use Rattle.rmm_spec.specs.declared.accepted.Stretch.{Stretch}
 use Rattle.rmm_spec.specs.Walk.{entry_size, table_size, table_number}
 use Rattle.rmm_spec.specs.Step.Ripas.{IsReached}
 use Rattle.command_core.specs.Furthest.{leading, may_set, most_set, furthest}
+use Rattle.lemmas.proofs.Tests.{and_second-fails}
 
 -- ---- leading numbers
 
@@ -62,10 +63,6 @@ leading-more n p all next =
     let whole : (leading n p == n && p n) ≡ true = rw (eq-eqb (leading n p) n all) next in
     rw (add-one n) (rw whole refl)
 
-by_and : (b c : Bool) → c ≡ false → (b && c) ≡ false
-by_and true c fails = fails
-by_and false c fails = refl
-
 -- the first that doesn't pass ends the run
 pub leading-ends : (n : ℕ) (p : ℕ → Bool) (k : ℕ) → k < n → leading k p ≡ k → p k ≡ false → k ≡ leading n p
 leading-ends zero p k within all stops = absurd (omega (arith, within))
@@ -83,7 +80,7 @@ leading-ends (suc n) p k within all stops = by (k == n) refl (λ less. leading-e
     by true same rest =
         let at = eqb-true k n same in
         let is : k ≡ leading n p = sym (ap (λ x. leading x p) (sym at) ∙ all) in
-        let fails : (leading n p == n && p n) ≡ false = by_and (leading n p == n) (p n) (ap p (sym at) ∙ stops) in
+        let fails : (leading n p == n && p n) ≡ false = and_second-fails (leading n p == n) (p n) (ap p (sym at) ∙ stops) in
         ended fails is
     by false apart rest =
         let other : (k ≡ n → ⊥) = λ same. false≢true (sym apart ∙ eq-eqb k n same) in

@@ -2,12 +2,6 @@
 use Rattle.command_core.proofs.Common.{◌-◌, ◌<◌, ◌≡◌, State, arith, false, is_some, refl, suc, true, zero, ℕ}
 use Rattle.rmm_spec.specs.Walk.{reach, table_number}
 
--- no walk ends above level 0
-pub reach-top : (s : State) (rd ipa level : ℕ) → level ≡ 0 → 0 ≡ reach s rd ipa level
-unfolding reach
-reach-top s rd ipa zero top = refl
-reach-top s rd ipa (suc level) top = absurd (omega arith)
-
 -- the walk up to a level ends there, where that has a table
 pub reach-here : (s : State) (rd ipa level : ℕ)
     → 0 < level → is_some (s.table rd level (table_number level ipa)) ≡ true → level ≡ reach s rd ipa level

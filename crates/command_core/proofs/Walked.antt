@@ -14,7 +14,6 @@ use Rattle.rmm_spec.specs.Walk.{entry_size, table_number}
 use Rattle.rmm_spec.specs.Step.{answer_of, outcome}
 use Rattle.rmm_spec.specs.Step.Ripas.{IsReached, reached_change}
 use Rattle.rmm_spec.specs.Local.{LocalStep}
-use Rattle.rmm_laws.proofs.Entries.{value_there}
 use Rattle.rmm_laws.proofs.Runs.{reached_applies}
 use Rattle.world_laws.proofs.Refusals.{outcome-host}
 use Rattle.rmm_laws.specs.Whole.{table_changed}
@@ -39,6 +38,7 @@ use Rattle.command_core.proofs.Made.{no_whole, made-answered}
 use Rattle.command_core.proofs.Outside.{told_outside}
 use Rattle.command_core.proofs.Stretches.{furthest-reached, reached-furthest}
 use Rattle.command_core.proofs.Wholes.{Whole, state, walk_whole}
+use Rattle.lemmas.proofs.Options.{value_there}
 
 -- ---- where a command walks
 

@@ -11,6 +11,8 @@ use Rattle.rmm_laws.proofs.Cells.{cell-rec}
 use Rattle.world_laws.proofs.Wholes as walks
 use Rattle.command_core.specs.Seen.{known_cell}
 use Rattle.command_core.proofs.Searches.{greatest_below-one, any_below-counted}
+use Rattle.spec_lemmas.proofs.Lookups.{vmid_owner, counted-le}
+use Rattle.rmm_laws.proofs.ShapeTies.{same_inside}
 
 pub record Whole (config : Config) (cpu : ℕ) (hold : Hold) : Type 0 where
   pub cells : ℕ → Cell
@@ -66,10 +68,6 @@ has_rec-counted config cpu hold w rd =
     any_below-counted config.granules (λ k. is_owned_by rd (recs_of w.cells (k * 4096)))
     ∙ ap (λ n. not (n == 0)) (sym (w.shaped.realms.counted rd))
 
-vmid_owner : (vmid : ℕ) (o : Option RealmRecord) → has_vmid vmid o ≡ true → (realm : RealmRecord) × (o ≡ Some realm) × (realm.vmid ≡ vmid)
-vmid_owner vmid None has = absurd (false≢true has)
-vmid_owner vmid (Some realm) has = (realm, refl, eqb-true realm.vmid vmid has)
-
 undelegated-rd : (c : Cell) → is_some (realm_in c) ≡ true → c ≡ Undelegated → ⊥
 undelegated-rd c is undelegated = false≢true (ap (λ (x : Cell). is_some (realm_in x)) (sym undelegated) ∙ is)
 
@@ -91,14 +89,6 @@ is_vmid_used-listed config cpu hold w vmid = by (hold.side.vmids vmid) refl
         any_below-from config.granules (λ k. has_vmid vmid (realms_of w.cells (k * 4096))) at.0 at.1
         (ap (has_vmid vmid) (ap (realms_of w.cells) at.2 ∙ used.1) ∙ eq-eqb used.0.vmid vmid used.2)
 
-counted-le : (n : ℕ) (passes : ℕ → Bool) → count_below n passes ≤ n
-counted-le zero passes = omega arith
-counted-le (suc n) passes = by (passes n) (counted-le n passes)
-  where
-    by : (b : Bool) → count_below n passes ≤ n → (if b then suc (count_below n passes) else count_below n passes) ≤ suc n
-    by true few = omega (arith, few)
-    by false few = omega (arith, few)
-
 -- no realm of a whole has more RECs than there are granules
 pub few_recs : (config : Config) (cpu : ℕ) (hold : Hold) → Whole config cpu hold → (rd : ℕ) → nat_le (hold.side.rec_counts rd) config.granules ≡ true
 few_recs config cpu hold w rd =
@@ -108,9 +98,6 @@ few_recs config cpu hold w rd =
     grind (arith, nat_tests)
 
 -- ---- inside of a REC
-
-inside_rec : (rec rd other owner : ℕ) → Inside rec rd ≡ Inside other owner → rec ≡ other
-inside_rec rec rd other owner same = cc
 
 -- the REC that runs on a CPU inside of it
 pub rec_inside-place : (config : Config) (cpu : ℕ) (hold : Hold) (w : Whole config cpu hold) (rec rd : ℕ) → hold.place ≡ Inside rec rd
@@ -124,7 +111,7 @@ rec_inside-place config cpu hold w rec rd place =
     (λ j other.
     let it = running cpu (recs_of w.cells (j * 4096)) other in
     let there = (w.shaped.recs.inside cpu (j * 4096) it.0.owner).1 (record { it = it.0; is_rec = it.1; is_owner = refl; is_on = it.2 }) in
-    let same : rec ≡ j * 4096 = inside_rec rec rd (j * 4096) it.0.owner (sym (w.placed ∙ place) ∙ there) in
+    let same : rec ≡ j * 4096 = same_inside rec rd (j * 4096) it.0.owner (sym (w.placed ∙ place) ∙ there) in
     omega (arith, same, at.2)))
     ∙ at.2
 

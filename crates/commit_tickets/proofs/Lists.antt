@@ -7,6 +7,7 @@ use Rattle.std.proofs.lemmas.Bool.{eq-eqb, ne_eqb, cases_eq, cases_lt}
 use Rattle.std.proofs.lemmas.List.{length-drop, drop_all}
 use Rattle.std.proofs.lemmas.Option.{none-some, same_Some, slice_get_past, slice_get_read}
 use Rattle.commit_tickets.specs.Listed.{commit_at, listed_from, AreListed}
+use Rattle.lemmas.proofs.Elements.{slice_get-drop}
 
 -- ---- lists
 
@@ -14,12 +15,6 @@ pub drop-at : {X : Type 0} (xs : List X) (place : ℕ) (x : X) → slice_get xs 
 drop-at [] place x at = absurd (none-some x at)
 drop-at (first ∷ xs) zero x at = ap (λ y. y ∷ xs) (same_Some first x at)
 drop-at (first ∷ xs) (suc place) x at = drop-at xs place x at
-
-slice_get-drop : {X : Type 0} (xs : List X) (place : ℕ) → slice_get (drop place xs) 0 ≡ slice_get xs place
-slice_get-drop [] zero = refl
-slice_get-drop [] (suc place) = refl
-slice_get-drop (x ∷ xs) zero = refl
-slice_get-drop (x ∷ xs) (suc place) = slice_get-drop xs place
 
 drop-empty : {X : Type 0} (xs : List X) (place : ℕ) → drop place xs ≡ [] → length xs ≤ place
 drop-empty xs place none = omega (arith, length-drop place xs, ap length none)

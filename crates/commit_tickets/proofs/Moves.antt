@@ -8,7 +8,7 @@ use Rattle.rmm_spec.specs.Cell.{Cell}
 use Rattle.rmm_spec.specs.Local.{granules_held, put_all}
 use Rattle.rmm_spec.specs.World.{World, Commit, Decided, IsDeciding, Moves, held_cells, hold_of}
 use Rattle.world_laws.specs.Replaced.{held_at}
-use Rattle.spec_lemmas.proofs.Maps.{put_elim, put-other}
+use Rattle.spec_lemmas.proofs.Maps.{put_elim, put-other, put-here}
 use Rattle.spec_lemmas.proofs.Members.{granules_held-cells_at}
 use Rattle.command_core.specs.Seen.{are_distinct}
 use Rattle.granule_lock.specs.declared.hold.Hold.{Hold}
@@ -20,10 +20,6 @@ use Rattle.commit_tickets.specs.Worlds.{IsWorldOf, entry_for}
 use Rattle.lemmas.proofs.Tests.{keys_apart}
 
 -- ---- cells put into a whole
-
-put-own : {A : Type 0} (values : ℕ → A) (key : ℕ) (value : A) → put values key value key ≡ value
-put-own values key value =
-    put_elim (λ v. v ≡ value) values key value key (λ same. refl) (λ apart. absurd (keys_apart key key apart refl))
 
 put_all-untouched : (held : List HeldCell) (cells : ℕ → Cell) (granule : ℕ) → list_any (λ other. other == granule) (granules_held held) ≡ false
     → put_all cells held granule ≡ cells granule
@@ -42,7 +38,7 @@ put_all-each (h ∷ held) cells distinct =
     let rest = put cells h.granule h.cell in
     let here : put_all rest held h.granule ≡ h.cell =
     put_all-untouched held rest h.granule (not-true (list_any (λ other. other == h.granule) (granules_held held)) parts.0)
-    ∙ put-own cells h.granule h.cell in
+    ∙ put-here cells h.granule h.cell in
     λ i. held_at h.granule (here i) ∷ put_all-each held rest parts.1 i
 
 -- ---- the move
@@ -94,6 +90,6 @@ module _ (config : Config) (command : Command) (before after : JournalView) (tok
       same_entries = entries-left;
       same_side = refl;
       same_cells = cells-left;
-      same_place = subst (λ cpu. next.place cpu ≡ place_of new.place) (sym same_cpu) (put-own w.place token.cpu left.place);
+      same_place = subst (λ cpu. next.place cpu ≡ place_of new.place) (sym same_cpu) (put-here w.place token.cpu left.place);
     },
   )

@@ -3,6 +3,7 @@ use Rattle.std.proofs.Common.{arith, ◌≡◌, ◌∙◌, ◌≤◌, ℕ, ◌+�
 use Rattle.std.proofs.Math.Seq.{take-add}
 use Rattle.std.specs.Io.KnownBytes.{Appends}
 use Rattle.std.proofs.lemmas.List.{append_assoc, length-drop, take_rest}
+use Rattle.lemmas.proofs.Appended.{Appends-both}
 
 -- what the device took of the rest lies within the whole
 pub within-further : (bytes : List ℕ) (at count : ℕ)
@@ -18,15 +19,6 @@ take-further before bytes now after at count e f =
     f ∙ ap (λ (xs : List ℕ). xs ++ take count (take (length bytes - at) (drop at bytes))) e
     ∙ ap (λ (xs : List ℕ). before ++ take at bytes ++ take count xs) (take_rest bytes at)
     ∙ append_assoc before (take at bytes) (take count (drop at bytes)) ∙ ap (λ (xs : List ℕ). before ++ xs) (sym (take-add at count bytes))
-
--- one piece behind the other
-pub Appends-both : (old middle new : Option (List ℕ)) (front back : List ℕ) → Appends old middle front → Appends middle new back
-    → Appends old new (front ++ back)
-Appends-both None middle new front back e f = tt
-Appends-both (Some old) None new front back e f = absurd e
-Appends-both (Some old) (Some middle) None front back e f = absurd f
-Appends-both (Some old) (Some middle) (Some new) front back e f =
-    f ∙ ap (λ (xs : List ℕ). xs ++ back) e ∙ append_assoc old front back
 
 -- the first bytes of a whole, and then the first of the rest, are held too
 pub Appends-further : (bytes : List ℕ) (old middle new : Option (List ℕ)) (at count : ℕ) → Appends old middle (take at bytes)

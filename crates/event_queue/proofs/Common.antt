@@ -13,9 +13,9 @@ pub use Rattle.rmm_spec.specs.Run.{JournalEntry}
 pub use Rattle.rmm_spec.specs.declared.{command.Command.Command, event.Event.Event, event.Event.TheVariants.Called, event.Event.TheVariants.Returned, reply.Reply.Reply}
 pub use Rattle.spec_lemmas.proofs.Records.{subhistory_of-push_same}
 pub use Rattle.world_laws.proofs.Recorded.{AreRecorded}
-pub use Rattle.history.proofs.SubhistoryLaws.{cpu_below}
 pub use Rattle.event_queue.specs.Book.{IsAt}
 pub use Rattle.event_queue.specs.Numbered.{count_of, numbered}
 pub use Rattle.event_queue.specs.Pages.{Page, recorded, scribe_page}
 pub use Rattle.event_queue.specs.Stages.{Committed, Idle, Open, Stage}
 pub use Rattle.event_queue.specs.View.{AreBegun, AreWhole, CpuView, ScribeView, before_calls, count_recorded, hearing}
+pub use Rattle.spec_lemmas.proofs.Places.{cpu_below}

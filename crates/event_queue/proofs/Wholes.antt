@@ -1,5 +1,5 @@
 -- Where all CPUs' parts together are as long as their lists, each part is the whole list.
-use Rattle.event_queue.proofs.Common.{◌≡◌, ◌≢◌, ℕ, zero, suc, ◌+◌, ◌<◌, ◌≤◌, List, [], ◌∷◌, ◌++◌, length, Bool, true, false, eqb, if◌then◌else◌, get_or, Some, None, refl, arith, sym, ap, ◌∙◌, append-nil, subst, ⊎_elim, AllByRecursion, slice_get, length-append, length_push, nil_from_length, cases_eq, none-some, same_Some, IsPrefix, Event, IsEvent, cpu_of, subhistory_of, subhistory_of-push_same, cpu_below, CpuView, AreBegun, AreWhole, count_recorded}
+use Rattle.event_queue.proofs.Common.{◌≡◌, ◌≢◌, ℕ, zero, suc, ◌+◌, ◌<◌, ◌≤◌, List, [], ◌∷◌, ◌++◌, length, Bool, true, false, eqb, if◌then◌else◌, get_or, Some, None, refl, arith, sym, ap, ◌∙◌, append-nil, subst, ⊎_elim, AllByRecursion, slice_get, length-append, length_push, nil_from_length, cases_eq, none-some, same_Some, IsPrefix, Event, IsEvent, cpu_of, subhistory_of, subhistory_of-push_same, CpuView, AreBegun, AreWhole, count_recorded, cpu_below}
 use Rattle.std.proofs.lemmas.List.Sums.{sum_by-cons}
 use Rattle.std.proofs.lemmas.Option.{slice_get_cases}
 use Rattle.spec_lemmas.proofs.Places.{subhistory_of-same}

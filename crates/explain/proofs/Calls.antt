@@ -1,8 +1,8 @@
 -- Where the call of a line was made.
 use Rattle.explain.proofs.Common.{◌<◌, Command, History, IsCalled, IsHistory, Line, List, Reply, cpu_named, number_named, subst, ℕ}
 use Rattle.rmm_spec.specs.Linearization.{IsTooLate, IsReturned}
-use Rattle.checker.proofs.Judging.{HasOnePlaces-from_history}
 use Rattle.explain.specs.Told.{HasLine, IsMadeAfter}
+use Rattle.spec_lemmas.proofs.Calls.{HasOnePlaces-from_history}
 
 -- a call that was made behind a place was made at its own place
 pub after_place : (history : History) → IsHistory history → (returned : ℕ) (line : Line) (called : ℕ)

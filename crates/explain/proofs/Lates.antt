@@ -4,8 +4,7 @@ use Rattle.std.specs.Prelude.{◌&&◌, IfNone, IfOk, IfSome, MatchOption, Resul
 use Rattle.rmm_spec.specs.Linearization.{IsOfItsKind, IsReplyOf, IsReturned, ReturnsBefore}
 use Rattle.rmm_spec.specs.Step.{Step}
 use Rattle.reasons.specs.declared.test.Test.{Test}
-use Rattle.spec_lemmas.proofs.Calls.{same_command, same_reply}
-use Rattle.checker.proofs.Judging.{HasOnePlaces-from_history}
+use Rattle.spec_lemmas.proofs.Calls.{same_command, same_reply, HasOnePlaces-from_history}
 use Rattle.explain.specs.Late.{holds, IsMoved, Moves, Overlap, TakesLine}
 
 -- the condition fails after lines that were taken
@@ -101,11 +100,6 @@ pub fails_so : (there holds : Bool) → (there && not holds) ≡ true → holds 
 fails_so true true is = absurd (let bad : false ≡ true = is in cc)
 fails_so true false is = refl
 fails_so false holds is = absurd (let bad : false ≡ true = is in cc)
-
--- what fails doesn't hold, wherever it stands
-pub none_holds : (there holds : Bool) → holds ≡ false → (there && holds) ≡ false
-none_holds true holds fails = fails
-none_holds false holds fails = refl
 
 -- ---- one line more
 

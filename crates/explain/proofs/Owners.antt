@@ -7,19 +7,14 @@ use Rattle.std.proofs.lemmas.Option.{none-some, same_Some}
 use Rattle.rmm_spec.specs.Lookup.{is_granule}
 use Rattle.reasons.specs.declared.owner_rows.OwnerRow.{OwnerRow}
 use Rattle.reasons.specs.Report.{AddsOwners, owner_rows}
-use Rattle.spec_machine.proofs.Kept.{granule_placed, place_within, place-granule}
+use Rattle.spec_machine.proofs.Kept.{granule_placed, place-granule}
 use Rattle.lemmas.proofs.Elements.{slice_get-append, slice_get-push}
+use Rattle.spec_lemmas.proofs.Lookups.{granule-within}
+use Rattle.reasons.proofs.OwnerRows.{length-owner_rows}
 
 -- the row of a place
 abbrev pub owner_row : State → (ℕ → Option ℕ) → ℕ → OwnerRow
 owner_row s owner k = record { granule = k * 4096; tag = s.tag (k * 4096); realm = owner (k * 4096) }
-
-pub length-owner_rows : (s : State) (owner : ℕ → Option ℕ) (n : ℕ) → length (owner_rows s owner n) ≡ n
-unfolding owner_rows
-length-owner_rows s owner zero = refl
-length-owner_rows s owner (suc n) =
-    let rows = owner_rows s owner n in
-    omega (arith, length-append rows (owner_row s owner n ∷ []), length-owner_rows s owner n)
 
 -- a report has the row of each place
 pub slice_get-owner_rows : (s : State) (owner : ℕ → Option ℕ) (n k : ℕ) → k < n → slice_get (owner_rows s owner n) k ≡ Some (owner_row s owner k)
@@ -67,5 +62,5 @@ is_granule-no_row s rows granule report none = false_from_ne_true (is_granule s.
     let rows_are : rows ≡ owner_rows s owner s.config.granules = report.2 in
     let at : place * 4096 ≡ granule = place-granule s.config.granules granule is_true in
     let aligned : granule % 4096 ≡ 0 = omega (arith, at) in
-    let here = slice_get-owner_rows s owner s.config.granules place (place_within s.config.granules granule is_true) in
+    let here = slice_get-owner_rows s owner s.config.granules place (granule-within s.config.granules granule is_true) in
     none-some (owner_row s owner place) (sym (none aligned) ∙ ap (λ (xs : List OwnerRow). slice_get xs place) rows_are ∙ here))

@@ -5,42 +5,21 @@ use Rattle.rmm_spec.specs.Step.{Step}
 use Rattle.rmm_spec.specs.Run.{JournalEntry, IsRun}
 use Rattle.rmm_spec.specs.Linearization.{AreEntriesOf, IsNamed, IsOfItsKind, IsReplyOf, IsTooLate, NamesCall}
 use Rattle.rmm_laws.proofs.StepLaws.{step-decides}
-use Rattle.spec_lemmas.proofs.Calls.{HasOnePlaces, SameEntries, same_entry}
+use Rattle.spec_lemmas.proofs.Calls.{HasOnePlaces, SameEntries, same_entry, HasOnePlaces-from_history}
 use Rattle.lemmas.proofs.Elements.{slice_get-front, slice_get-take, take-next_at}
 use Rattle.checker.proofs.Faults.{IsRefused-from_step}
-use Rattle.checker.proofs.Judging.{HasOnePlaces-from_history}
 use Rattle.checker.proofs.Progress.{Passes-push}
-use Rattle.rmm_laws.proofs.EntryRuns.{not-IsRefused}
+use Rattle.rmm_laws.proofs.EntryRuns.{not-IsRefused, same_step, same_state}
 use Rattle.explain.specs.Told.{IsPassing}
 
 -- ---- one state
-
-same_step : (old : State) (entry other : JournalEntry) (new next : State) → SameEntries entry other
-    → Step old entry.cpu entry.command entry.given new → Step old other.cpu other.command other.given next → new ≡ next
-same_step old entry other new next same here there =
-    let there2 : Step old entry.cpu entry.command entry.given next =
-    subst (λ (cpu : ℕ). Step old cpu entry.command entry.given next) (sym same.cpu)
-    (subst (λ (command : Command). Step old other.cpu command entry.given next) (sym same.command)
-    (subst (λ (given : Reply). Step old other.cpu other.command given next) (sym same.given) there)) in
-    step-decides old new next entry.cpu entry.command entry.given here there2
-
-same_last : (events : List Event) → HasOnePlaces events → (lines : List Line) (entries others : List JournalEntry) (start last other : State)
-    → AreEntriesOf events lines entries → IsRun start entries last → AreEntriesOf events lines others → IsRun start others other → last ≡ other
-same_last events one [] [] [] start last other claimed run also ran = run ∙ sym ran
-same_last events one [] [] (f ∷ others) start last other claimed run also ran = absurd also
-same_last events one [] (e ∷ entries) others start last other claimed run also ran = absurd claimed
-same_last events one (l ∷ lines) [] others start last other claimed run also ran = absurd claimed
-same_last events one (l ∷ lines) (e ∷ entries) [] start last other claimed run also ran = absurd also
-same_last events one (l ∷ lines) (e ∷ entries) (f ∷ others) start last other claimed run also ran =
-    let same = same_step start e f run.0 ran.0 (same_entry events one l e f claimed.0 also.0) run.1 ran.1 in
-    same_last events one lines entries others ran.0 last other claimed.1 (subst (λ (s : State). IsRun s entries last) same run.2) also.1 ran.2
 
 -- lines that pass lead to one state
 pub same_state : (history : History) → IsHistory history → (lines : List Line) (last other : State)
     → Passes history lines last → Passes history lines other
     → last ≡ other
 same_state history is_history lines last other passes also =
-    same_last history.events (HasOnePlaces-from_history history is_history) lines passes.entries also.entries (opening history.config) last other
+    same_state history.events (HasOnePlaces-from_history history is_history) lines passes.entries also.entries (opening history.config) last other
     passes.run.claimed passes.run.run also.run.claimed also.run.run
 
 -- ---- one line more

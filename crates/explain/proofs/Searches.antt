@@ -3,7 +3,8 @@ use Rattle.explain.proofs.Common.{◌*◌, ◌+◌, ◌∙◌, ◌≡◌, ◌≤
 use Rattle.rmm_spec.specs.Lookup.{any_below}
 use Rattle.reasons.specs.declared.owner_rows.OwnerRow.{OwnerRow}
 use Rattle.reasons.specs.Report.{AddsOwners}
-use Rattle.explain.proofs.Owners.{is_row-owner_rows, length-owner_rows}
+use Rattle.explain.proofs.Owners.{is_row-owner_rows}
+use Rattle.reasons.proofs.OwnerRows.{length-owner_rows}
 
 -- none passes, with one more that doesn't
 pub none_next : (n : ℕ) (p : ℕ → Bool) → p n ≡ false → any_below n p ≡ false → any_below (n + 1) p ≡ false

@@ -22,8 +22,9 @@ use Rattle.rmm_laws.proofs.Applies.{inside_running}
 use Rattle.reasons.specs.declared.source.Source.TheVariants as source
 use Rattle.reasons.specs.Reading.{read, request_read}
 use Rattle.explain.specs.Deciding.{words_source}
+use Rattle.lemmas.proofs.Options.{value_there}
 
--- one of the words that are read, and 0 where there are fewer
+-- one of the words that are read, and 0 where value_there are fewer
 abbrev at : ℕ → List ℕ → ℕ
 at n [] = 0
 at zero (word ∷ words) = word
@@ -44,7 +45,7 @@ abbrev words_done : Accepted → List ℕ
 words_done (Done words change) = words.items
 words_done (Reaches stretch) = []
 
--- where the CPU of a realm's call is inside a REC, that is there, and so is its realm
+-- where the CPU of a realm's call is inside a REC, that is value_there, and so is its realm
 record IsHeld (s : State) (rec : ℕ) : Type 0 where
   held : RecRecord
   is_held : s.rec rec ≡ Some held
@@ -52,15 +53,11 @@ record IsHeld (s : State) (rec : ℕ) : Type 0 where
   is_realm : s.realm (rec_at s rec).owner ≡ Some realm
   tag : has_tag s (rec_at s rec).owner Rd ≡ true
 
-there : {X : Type 0} (found : Option X) → IsTrue (is_some found) → (x : X) × (found ≡ Some x)
-there None some = absurd (let bad : false ≡ true = some in cc)
-there (Some x) some = (x, refl)
-
 held_inside : (s : State) (cpu : ℕ) → IsSound s → is_inside s cpu ≡ true → IsHeld s (rec_inside s cpu)
 held_inside s cpu sound inside =
     let running = inside_running s cpu sound inside in
-    let rec = there (s.rec (rec_inside s cpu)) (sound.recs.tagged (rec_inside s cpu) ∙ running.tag) in
-    let realm = there (s.realm (rec_at s (rec_inside s cpu)).owner) (sound.realms.tagged (rec_at s (rec_inside s cpu)).owner ∙ running.owner) in
+    let rec = value_there (s.rec (rec_inside s cpu)) (sound.recs.tagged (rec_inside s cpu) ∙ running.tag) in
+    let realm = value_there (s.realm (rec_at s (rec_inside s cpu)).owner) (sound.realms.tagged (rec_at s (rec_inside s cpu)).owner ∙ running.owner) in
     record { held = rec.0; is_held = rec.1; realm = realm.0; is_realm = realm.1; tag = running.owner }
 
 -- what is accepted is placed

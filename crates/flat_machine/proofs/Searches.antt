@@ -14,10 +14,6 @@ one_passes passes many place below holds = sym (any_below-from many passes place
 pub none_passes : (passes : ℕ → Bool) (many count : ℕ) → count ≡ many → any_below count passes ≡ false → false ≡ any_below many passes
 none_passes passes many count all none = sym none ∙ ap (λ n. any_below n passes) all
 
--- a walk up to level 0 ends there
-pub ends_at_zero : (s : State) (rd ipa max : ℕ) → max ≡ 0 → 0 ≡ reach s rd ipa max
-ends_at_zero s rd ipa max top = sym (ap (λ l. reach s rd ipa l) top ∙ reach-zero s rd ipa)
-
 -- a walk ends at its last level where a table of it covers the address
 pub ends_here : (s : State) (rd ipa max : ℕ) → 0 < max → true ≡ is_some (s.table rd max (table_number max ipa)) → max ≡ reach s rd ipa max
 unfolding reach

@@ -11,13 +11,14 @@ use Rattle.rmm_spec.specs.Lookup.{is_granule}
 use Rattle.rmm_spec.specs.Rows.{Needed}
 use Rattle.rmm_spec.specs.Shape.{CpuPlace}
 use Rattle.rmm_spec.specs.Local.{HeldCell, granules_held}
-use Rattle.spec_lemmas.proofs.Members.{Contains-nil, Contains-from_slice_get, Contains-other, Contains-head, Contains-tail}
+use Rattle.spec_lemmas.proofs.Members.{Contains-nil, Contains-from_slice_get, Contains-other}
 use Rattle.command_core.specs.declared.next.Next.TheVariants.{Free}
 use Rattle.command_core.specs.Plan.{IsStep}
 use Rattle.command_core.specs.Seen.{cell_in, is_held}
 use Rattle.command_core.proofs.SeenCells.{held-contains}
 use Rattle.command_core.specs.Pairs.{without_cell}
 use Rattle.granule_lock.specs.Locked.{AreGranules}
+use Rattle.lemmas.proofs.Members.{Contains-head, Contains-tail}
 
 granules_held-without : (g : ℕ) (held : List HeldCell) → granules_held (without_cell g held) ≡ filter (λ x. not (x == g)) (granules_held held)
 granules_held-without g [] = refl

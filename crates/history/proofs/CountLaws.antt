@@ -7,13 +7,13 @@ use Rattle.std.proofs.lemmas.Option.{same_Some, slice_get_within, get_or_from_sl
 use Rattle.std.proofs.lemmas.List.{length_push, length-set, get_or-set_same, get_or-set_other}
 use Rattle.std.proofs.lemmas.List.Sums.{length-filter, count_by-le-length}
 use Rattle.rmm_spec.specs.HistoryText.{History, IsHistory, cpu_of, rank, subhistory_of}
-use Rattle.spec_lemmas.proofs.Places.{IsEvent-slice_get, rank-slice_get, length-subhistory_of-take}
+use Rattle.spec_lemmas.proofs.Places.{IsEvent-slice_get, rank-slice_get, length-subhistory_of-take, cpu_below}
 use Rattle.spec_lemmas.proofs.Records.{subhistory_of-push_same, subhistory_of-push_other}
 use Rattle.history.specs.Counts.{AreCounts}
 use Rattle.history.specs.Entry.{entry_cpu, event_of}
 use Rattle.history.specs.declared.entry.Entry.{Entry}
 use Rattle.history.proofs.EntryLaws.{IsEntryAt, cpu_of-event_of, event_of-numbered}
-use Rattle.history.proofs.SubhistoryLaws.{cpu_below, half_rank}
+use Rattle.history.proofs.SubhistoryLaws.{half_rank}
 
 -- an entry is of a CPU that a machine can have
 pub cpu_within : (history : History) (words : List ℕ) (place : ℕ) (found : Entry) → IsHistory history → IsEntryAt words history.events place found

@@ -22,7 +22,8 @@ use Rattle.history.specs.declared.fault.HistoryFault.{HistoryFault}
 use Rattle.history.specs.declared.fault.HistoryFault.TheVariants.{BadLine, NoMemory}
 use Rattle.history.specs.Next.{Continues, HasNext}
 use Rattle.history.specs.Spelling.{IsHeaderOf, IsNoHeader, call_number, IsEventOf, IsNoEvent}
-use Rattle.history.proofs.SubhistoryLaws.{next_rank, cpu_below}
+use Rattle.history.proofs.SubhistoryLaws.{next_rank}
+use Rattle.spec_lemmas.proofs.Places.{cpu_below}
 
 -- the lines of a history, each as its parts
 abbrev pub history_lines : History → List (List (List ℕ))

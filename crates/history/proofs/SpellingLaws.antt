@@ -8,7 +8,7 @@ use Rattle.rmm_spec.specs.CommandText.{IsCommand, IsReply, command_parts, reply_
 use Rattle.rmm_spec.specs.HistoryText.{cpu_of, event_parts}
 use Rattle.history.specs.Spelling.{call_number, IsEventOf, IsNoEvent}
 use Rattle.rmi_codec.specs.Head.{HasNoHead, head_parts}
-use Rattle.history.proofs.SubhistoryLaws.{cpu_below}
+use Rattle.spec_lemmas.proofs.Places.{cpu_below}
 
 -- what an event's line begins with: `c` or `r`
 abbrev pub letter_of : Event → ℕ

@@ -10,7 +10,7 @@ use Rattle.rmm_spec.specs.declared.event.Event.TheVariants.{Called, Returned}
 use Rattle.rmm_spec.specs.declared.reply.Reply.{Reply}
 use Rattle.rmm_spec.specs.HistoryText.{Config, IsHistory, IsEvent, CanFollow, Stand, start, stand_after, stand_from, subhistory_of, cpu_of, IsRecord, rank}
 use Rattle.rmm_spec.specs.Linearization.{IsCalled, IsReturned, IsKnown, IsFinished}
-use Rattle.spec_lemmas.proofs.Places.{open_count, stand_of_record, rank-slice_get, length-stand_from, length-subhistory_of-lt, length-subhistory_of-take, one_place, below-IsKnown, below-IsFinished}
+use Rattle.spec_lemmas.proofs.Places.{open_count, stand_of_record, rank-slice_get, length-stand_from, length-subhistory_of-lt, length-subhistory_of-take, one_place, below-IsKnown, below-IsFinished, cpu_below}
 use Rattle.spec_lemmas.proofs.Records.{subhistory_of-push_same, subhistory_of-push_other, stand_from-push_at, IsHistory-push}
 use Rattle.history.specs.declared.subhistory.Subhistory.{Subhistory}
 use Rattle.history.specs.Calls.{ArePlacesOf}
@@ -124,11 +124,6 @@ continues_iff cpus events event subhistory answer below is_record had says = (
 )
 
 -- ---- the index
-
--- an event that has a text is of one of the CPUs
-pub cpu_below : (cpus : ℕ) (event : Event) → IsEvent cpus event → cpu_of event < cpus
-cpu_below cpus (Called cpu number command) is_event = is_event.0
-cpu_below cpus (Returned cpu number given) is_event = is_event.0
 
 -- the CPU of an event that can follow has a subhistory
 pub has_subhistory : (config : Config) (events : List Event) (subhistories : List Subhistory) (event : Event) → IsIndexed config events subhistories

@@ -1,5 +1,5 @@
 -- Elements of a list that has more at its end, of a list's front, and of one that is mapped.
-use Rattle.std.proofs.Common.{◌≡◌, ℕ, zero, suc, ◌+◌, ◌<◌, List, [], ◌∷◌, ◌++◌, ◌⊎◌, inl, inr, length, take, Some, refl, ap, arith, add-one, map}
+use Rattle.std.proofs.Common.{◌≡◌, ℕ, zero, suc, ◌+◌, ◌<◌, List, [], ◌∷◌, ◌++◌, ◌⊎◌, inl, inr, length, take, drop, get_or, replicate, Some, refl, ap, arith, add-one, map}
 use Rattle.std.specs.List.{slice_get}
 use Rattle.std.proofs.lemmas.Option.{none-some, same_Some}
 
@@ -73,3 +73,27 @@ slice_get-map_to f (first ∷ xs) (suc i) x is = slice_get-map_to f xs i x is
 pub map-push : {X Y : Type 0} (f : X → Y) (xs : List X) (x : X) → map f (xs ++ x ∷ []) ≡ map f xs ++ f x ∷ []
 map-push f [] x = refl
 map-push f (first ∷ xs) x = ap (λ zs. f first ∷ zs) (map-push f xs x)
+
+-- what is first behind some elements
+pub slice_get-drop : {A : Type 0} (xs : List A) (n : ℕ) → slice_get (drop n xs) 0 ≡ slice_get xs n
+slice_get-drop [] zero = refl
+slice_get-drop [] (suc n) = refl
+slice_get-drop (x ∷ xs) zero = refl
+slice_get-drop (x ∷ xs) (suc n) = slice_get-drop xs n
+
+-- at each place within a list is an element
+pub element_at : {X : Type 0} (xs : List X) (i : ℕ) → i < length xs → (x : X) × (slice_get xs i ≡ Some x)
+element_at [] i within = absurd (omega (arith, within))
+element_at (first ∷ xs) zero within = (first, refl)
+element_at (first ∷ xs) (suc i) within = element_at xs i (omega (arith, within))
+
+-- an element that is there is the same whatever stands for one that isn't
+pub get_or-other : (xs : List ℕ) (i d e : ℕ) → i < length xs → get_or xs i d ≡ get_or xs i e
+get_or-other [] i d e within = absurd (omega arith)
+get_or-other (x ∷ xs) zero d e within = refl
+get_or-other (x ∷ xs) (suc i) d e within = get_or-other xs i d e (omega arith)
+
+-- what copies of one element tell is copies of what it tells
+pub map-copies : {X Y : Type 0} (f : X → Y) (n : ℕ) (x : X) → map f (replicate n x) ≡ replicate n (f x)
+map-copies f zero x = refl
+map-copies f (suc n) x = ap (λ ys. f x ∷ ys) (map-copies f n x)

@@ -2,14 +2,7 @@
 use Rattle.std.proofs.Common.{◌≡◌, ℕ, zero, suc, ◌<◌, Bool, true, false, cond, List, [], ◌∷◌, length, Option, Some, None, refl, sym, ◌∙◌, arith}
 use Rattle.std.specs.List.{find, Contains, slice_index_or}
 use Rattle.std.specs.Option.{option_map}
-
--- a list contains its first element
-contains_head : {X : Type 0} (x : X) (xs : List X) → Contains (x ∷ xs) x
-contains_head x xs = (0, omega arith, refl)
-
--- what the rest of a list contains, the list contains
-contains_tail : {X : Type 0} (x y : X) (xs : List X) → Contains xs y → Contains (x ∷ xs) y
-contains_tail x y xs held = (suc held.0, omega (arith, held.1), held.2)
+use Rattle.lemmas.proofs.Members.{Contains-head, Contains-tail}
 
 -- what is found is an element that passes
 abbrev pub IsFound : {X : Type 0} → (X → Bool) → List X → X → Type 0
@@ -19,8 +12,8 @@ IsFound test xs y = Contains xs y × (test y ≡ true)
 find_is-by : {X : Type 0} (test : X → Bool) (x y : X) (xs : List X) (b : Bool) → test x ≡ b → cond b (Some x) (find test xs) ≡ Some y
     → (find test xs ≡ Some y → IsFound test xs y) → IsFound test (x ∷ xs) y
 find_is-by test x y xs true passes found later =
-    let same : x ≡ y = cc in rw (← same) (contains_head x xs, passes)
-find_is-by test x y xs false fails found later = let there = later found in (contains_tail x y xs there.0, there.1)
+    let same : x ≡ y = cc in rw (← same) (Contains-head x xs, passes)
+find_is-by test x y xs false fails found later = let there = later found in (Contains-tail x xs y there.0, there.1)
 
 -- what is found is an element and passes
 pub find_is : {X : Type 0} (test : X → Bool) (xs : List X) (y : X) → find test xs ≡ Some y → IsFound test xs y

@@ -14,8 +14,10 @@ use Rattle.merging.specs.Run.{events_merged, lines_merged}
 use Rattle.merging.specs.Written.{Held, GrowsUpTo, HasFront, LacksEnd, outputs, IsCut, IsUnwritten, Outputs}
 use Rattle.merging.specs.declared.fault.WriteFault.{WriteFault}
 use Rattle.merging.specs.declared.fault.WriteFault.TheVariants.{History, Certificate, NoMemory}
-use Rattle.merging.proofs.LineLaws.{Appends-then, appends_nothing, lines_of_both}
-use Rattle.merging.proofs.RunLaws.{take_next, events_from-push, lines_from-push}
+use Rattle.merging.proofs.LineLaws.{appends_nothing, lines_of_both}
+use Rattle.merging.proofs.RunLaws.{events_from-push, lines_from-push}
+use Rattle.lemmas.proofs.Elements.{take-next_at}
+use Rattle.lemmas.proofs.Appended.{Appends-both}
 
 -- ---- a beginning of a text
 
@@ -28,7 +30,7 @@ GrowsUpTo-further rest text count old middle new before own = record {
       before.is_text ∙ ap (λ xs. before.front ++ xs) (sym (take-append-drop count rest))
       ∙ sym (append_assoc before.front (take count rest) (drop count rest))
       ∙ ap (λ xs. before.front ++ take count rest ++ xs) (sym (take_rest rest count));
-  appends = Appends-then old middle new before.front (take count rest) before.appends own;
+  appends = Appends-both old middle new before.front (take count rest) before.appends own;
 }
 
 -- with a text before it and one behind it
@@ -40,7 +42,7 @@ module _ (xs ys more : List ℕ) where
     front = xs ++ two.front;
     is_text = ap (λ zs. zs ++ more) (ap (λ zs. xs ++ zs) two.is_text ∙ sym (append_assoc xs two.front rest))
         ∙ append_assoc (xs ++ two.front) rest more;
-    appends = Appends-then first second third xs two.front one two.appends;
+    appends = Appends-both first second third xs two.front one two.appends;
   }
 
   pub HasFront-then : (first second third : Held)
@@ -119,7 +121,7 @@ module _ (events : List Happened) (stamp : ℕ) (slot : Happened) (is : slice_ge
         ap (λ es. lines_text (map event_parts es)) front.1 ∙ lines_of_both event_parts (events_from starts (take (stamp + 1) events)) front.0
             ∙ ap (λ text. text ++ lines_text (map event_parts front.0))
             (ap (λ es. lines_text (map event_parts es))
-            (ap (events_from starts) (take_next events stamp slot is) ∙ events_from-push starts (take stamp events) slot)
+            (ap (events_from starts) (take-next_at events stamp slot is) ∙ events_from-push starts (take stamp events) slot)
             ∙ lines_of_both event_parts before own),
       )
 
@@ -134,7 +136,7 @@ module _ (events : List Happened) (stamp : ℕ) (slot : Happened) (is : slice_ge
         ap (λ ls. lines_text (map line_parts ls)) front.1 ∙ lines_of_both line_parts (lines_from returns starts (take (stamp + 1) events)) front.0
             ∙ ap (λ text. text ++ lines_text (map line_parts front.0))
             (ap (λ ls. lines_text (map line_parts ls))
-            (ap (lines_from returns starts) (take_next events stamp slot is) ∙ lines_from-push returns starts (take stamp events) slot)
+            (ap (lines_from returns starts) (take-next_at events stamp slot is) ∙ lines_from-push returns starts (take stamp events) slot)
             ∙ lines_of_both line_parts before own),
       )
 

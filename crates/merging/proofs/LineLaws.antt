@@ -11,30 +11,19 @@ use Rattle.rmm_spec.specs.CommandText.{reply_parts, reply_text}
 use Rattle.rmm_spec.specs.Text.{line_text}
 use Rattle.rmm_spec.specs.declared.line.Line.TheVariants.{Keep, Unfinished}
 use Rattle.rmm_spec.specs.declared.reply.Reply.{Reply}
+use Rattle.text_writers.proofs.LineTexts.{line_text-unfinished}
 
 pub line_text-kept : (cpu number : ℕ) → line_text (line_parts (Keep cpu number)) ≡ head_text 107 cpu number
 unfolding line_parts head_text
 line_text-kept cpu number = refl
 
-pub line_text-claimed : (cpu number : ℕ) (given : Reply)
-    → line_text (line_parts (Unfinished cpu number given)) ≡ head_text 117 cpu number ++ 32 ∷ reply_text given
-unfolding line_parts
-line_text-claimed cpu number given = line_text-head 117 cpu number (reply_parts given) (reply_parts-some given)
-
-pub ruleset line_texts = (event_text-called, event_text-returned, line_text-kept, line_text-claimed)
+pub ruleset line_texts = (event_text-called, event_text-returned, line_text-kept, line_text-unfinished)
 
 -- ---- what a writer holds, grown by one text after another
 
 pub appends_nothing : (known : Option (List ℕ)) → Appends known known []
 appends_nothing None = tt
 appends_nothing (Some xs) = sym (append-nil xs)
-
-pub Appends-then : (first second third : Option (List ℕ)) (xs ys : List ℕ)
-    → Appends first second xs → Appends second third ys → Appends first third (xs ++ ys)
-Appends-then None second third xs ys one two = tt
-Appends-then (Some first) None third xs ys one two = absurd one
-Appends-then (Some first) (Some second) None xs ys one two = absurd two
-Appends-then (Some first) (Some second) (Some third) xs ys one two = two ∙ ap (λ zs. zs ++ ys) one ∙ append_assoc first xs ys
 
 -- the lines of some things, and of more
 pub lines_of_both : {X : Type 0} (parts : X → List (List ℕ)) (xs ys : List X)

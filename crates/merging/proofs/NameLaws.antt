@@ -8,6 +8,7 @@ use Rattle.rmm_spec.specs.declared.version.Version.TheVariants.{Large}
 use Rattle.rmm_spec.specs.HistoryText.{granule_limit}
 use Rattle.merging.specs.Laws.{AreApart, AreBelow}
 use Rattle.merging.specs.Names.{number_in, added, names_from}
+use Rattle.lemmas.proofs.Options.{some_value, none_of}
 
 -- ---- numbers behind one more name
 
@@ -97,14 +98,6 @@ numbers-push names address old new were none are a =
 
 -- ---- names that are added
 
-some_number : (o : Option ℕ) → is_some o ≡ true → (n : ℕ) × (o ≡ Some n)
-some_number None e = absurd cc
-some_number (Some n) e = (n, refl)
-
-pub none_number : (o : Option ℕ) → is_some o ≡ false → o ≡ None
-none_number None e = refl
-none_number (Some n) e = absurd cc
-
 pub added-new : (names : List ℕ) (address : ℕ) → is_some (number_in names address) ≡ false → added names address ≡ names ++ address ∷ []
 added-new names address new = ap (λ b. if b then names else names ++ address ∷ []) new
 
@@ -123,7 +116,7 @@ IsSome-added names address = by_test (is_some (number_in names address)) refl
     by_test true old = ap (λ ns. is_some (number_in ns address)) (added-old names address old) ∙ old
     by_test false new =
         ap (λ ns. is_some (number_in ns address)) (added-new names address new)
-        ∙ ap is_some (number_in-push names address address (none_number (number_in names address) new))
+        ∙ ap is_some (number_in-push names address address (none_of (number_in names address) new))
         ∙ IsSome-if (address == address) (length names) (number_in names address) (λ apart. absurd (eqb-false address address apart refl))
 
 pub IsSome-kept : (names : List ℕ) (address other : ℕ) → IsSome (number_in names other) → IsSome (number_in (added names address) other)
@@ -133,7 +126,7 @@ IsSome-kept names address other some = by_test (is_some (number_in names address
     by_test true old = ap (λ ns. is_some (number_in ns other)) (added-old names address old) ∙ some
     by_test false new =
         ap (λ ns. is_some (number_in ns other)) (added-new names address new)
-        ∙ ap is_some (number_in-push names address other (none_number (number_in names address) new))
+        ∙ ap is_some (number_in-push names address other (none_of (number_in names address) new))
         ∙ IsSome-if (address == other) (length names) (number_in names other) (λ apart. some)
 
 IsSome-kept_all : (names addresses : List ℕ) (other : ℕ) → IsSome (number_in names other) → IsSome (number_in (names_from names addresses) other)
@@ -169,8 +162,8 @@ names_from-append names (address ∷ addresses) more = names_from-append (added 
 
 pub AreApart-names : (names : List ℕ) (granules : ℕ) → AreApart names granules
 AreApart-names names granules address other named other_named same =
-    let own = some_number (number_in names address) named in
-    let its = some_number (number_in names other) other_named in
+    let own = some_value (number_in names address) named in
+    let its = some_value (number_in names other) other_named in
     let left : 4096 * unwrap_or (number_in names address) granules ≡ 4096 * own.0 = ap (λ o. 4096 * unwrap_or o granules) own.1 in
     let right : 4096 * unwrap_or (number_in names other) granules ≡ 4096 * its.0 = ap (λ o. 4096 * unwrap_or o granules) its.1 in
     let equal : its.0 ≡ own.0 = omega (arith, left, right, same) in
@@ -178,6 +171,6 @@ AreApart-names names granules address other named other_named same =
 
 pub AreBelow-names : (names : List ℕ) (granules : ℕ) → AreBelow names granules
 AreBelow-names names granules address named few =
-    let own = some_number (number_in names address) named in
+    let own = some_value (number_in names address) named in
     let is : 4096 * unwrap_or (number_in names address) granules ≡ 4096 * own.0 = ap (λ o. 4096 * unwrap_or o granules) own.1 in
     omega (arith, is, few, number_in-below names address own.0 own.1)

@@ -21,8 +21,8 @@ use Rattle.merging.specs.declared.naming.NamingFault.{NamingFault}
 use Rattle.merging.specs.declared.naming.NamingFault.TheVariants as fault
 use Rattle.merging.specs.declared.naming.Naming.{Naming}
 use Rattle.merging.specs.declared.naming.Naming.TheVariants.{AsRecorded, ByNames}
-use Rattle.merging.proofs.RunLaws.{take_next}
 use Rattle.merging.proofs.StepLaws.{cut_at}
+use Rattle.lemmas.proofs.Elements.{take-next_at}
 
 pub lasts_after-push : (lasts : ℕ → Option FunctionId) (slots : List Happened) (slot : Happened)
     → lasts_after lasts (slots ++ slot ∷ []) ≡ lasts_with (lasts_after lasts slots) slot
@@ -117,12 +117,12 @@ AreReturns-named returns naming granules slots are = record {
 pub lasts_after-next : (slots : List Happened) (place : ℕ) (slot : Happened) → slice_get slots place ≡ Some slot
     → lasts_after no_lasts (take (place + 1) slots) ≡ lasts_with (lasts_after no_lasts (take place slots)) slot
 lasts_after-next slots place slot is =
-    ap (lasts_after no_lasts) (take_next slots place slot is) ∙ lasts_after-push no_lasts (take place slots) slot
+    ap (lasts_after no_lasts) (take-next_at slots place slot is) ∙ lasts_after-push no_lasts (take place slots) slot
 
 pub names_of-next : (memory : ℕ) (slots : List Happened) (place : ℕ) (slot : Happened) → slice_get slots place ≡ Some slot
     → names_of memory (take (place + 1) slots)
     ≡ names_from (names_of memory (take place slots)) (moment_addresses memory (lasts_after no_lasts (take place slots) slot.cpu) slot.moment)
-names_of-next memory slots place slot is = ap (names_of memory) (take_next slots place slot is) ∙ names_of-push memory (take place slots) slot
+names_of-next memory slots place slot is = ap (names_of memory) (take-next_at slots place slot is) ∙ names_of-push memory (take place slots) slot
 
 pub HasTooMany-next : (limits : Limits) (slots : List Happened) (place : ℕ) (slot : Happened) (line : ℕ) → slice_get slots place ≡ Some slot
     → line ≡ slot.line → length (names_of limits.memory (take place slots)) ≤ limits.most

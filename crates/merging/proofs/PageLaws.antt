@@ -9,7 +9,8 @@ use Rattle.std.proofs.lemmas.Option.{none-some}
 use Rattle.spec_lemmas.proofs.Texts.{AllByRecursion-append}
 use Rattle.merging.specs.Laws.{ArePagesApart, IsNamedGranule}
 use Rattle.merging.specs.Names.{is_granule, number_in, added, names_from}
-use Rattle.merging.proofs.NameLaws.{added-new, added-old, none_number, map_none, number_in-below, number_in-apart}
+use Rattle.merging.proofs.NameLaws.{added-new, added-old, map_none, number_in-below, number_in-apart}
+use Rattle.lemmas.proofs.Options.{none_of}
 
 module _ (memory : ℕ) where
   -- names of the memory's granules, of which no two are one
@@ -49,7 +50,7 @@ module _ (memory : ℕ) where
       by_test true old = subst AreGranules (sym (added-old names address old)) are
       by_test false new = subst AreGranules (sym (added-new names address new)) (record {
         each = AllByRecursion-append (λ a. is_granule memory a ≡ true) names (address ∷ []) are.each (is, tt);
-        apart = distinct-push names address are.apart (absent names address (none_number (number_in names address) new));
+        apart = distinct-push names address are.apart (absent names address (none_of (number_in names address) new));
       })
 
   AreGranules-names_from : (names addresses : List ℕ) → AreGranules names → AllByRecursion (λ a. is_granule memory a ≡ true) addresses

@@ -14,6 +14,7 @@ use Rattle.merging.specs.Run.{start, stand_after, CanFollow, IsRun, call_count, 
 use Rattle.merging.specs.Merge.{Walked, CanMerge, IsStep, AreFew, AreReturns, IsWalkedTo}
 use Rattle.merging.specs.declared.cpu.Cpu.{Cpu}
 use Rattle.merging.proofs.CountLaws.{length-events_of, length-lines_of}
+use Rattle.lemmas.proofs.Elements.{take-next_at}
 
 pub stands_after-push : (stands : ℕ → Stand) (slots : List Happened) (slot : Happened)
     → stands_after stands (slots ++ slot ∷ []) ≡ stands_with (stands_after stands slots) slot
@@ -45,11 +46,6 @@ lines_from-push returns stands (first ∷ slots) slot =
     ∙ sym (append_assoc own (lines_from returns rest slots) (lines_of (returns slot.cpu) (stands_after rest slots slot.cpu) slot.cpu slot.moment))
 
 -- ---- the first moments, one more
-
-pub take_next : {X : Type 0} (xs : List X) (place : ℕ) (x : X) → slice_get xs place ≡ Some x → take (place + 1) xs ≡ take place xs ++ x ∷ []
-take_next xs place x is =
-    ap (λ n. take n xs) (add-one place) ∙ take-suc xs place x (slice_get_within xs place x is)
-    ∙ ap (λ y. take place xs ++ y ∷ []) (get_or_from_slice_get xs place x x is)
 
 -- what is known up to a stamp of which nothing is
 pub known_front-none : (slots : List (Option Happened)) (stamp : ℕ) → stamp ≤ length (known_front slots) → slot_at slots stamp ≡ None
@@ -151,7 +147,7 @@ pub IsWalkedTo-next : (stamp : ℕ) (slots : List Happened) (slot : Happened) (c
     → slice_get slots stamp ≡ Some slot → IsHappened slot → IsStep cpus old new slot → IsWalkedTo (stamp + 1) slots cpus new
 IsWalkedTo-next stamp slots slot cpus old new walked is happened step =
     let before = take stamp slots in
-    let next : take (stamp + 1) slots ≡ before ++ slot ∷ [] = take_next slots stamp slot is in
+    let next : take (stamp + 1) slots ≡ before ++ slot ∷ [] = take-next_at slots stamp slot is in
     let all = λ (cpu : ℕ). returns_in cpu slots in
     let stand : stand_at old.stands slot.cpu ≡ stands_after starts before slot.cpu = λ i. walked.stands i slot.cpu in
     record {

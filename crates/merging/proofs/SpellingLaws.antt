@@ -1,7 +1,6 @@
 -- The moment that a word and the parts behind it spell.
 use Rattle.std.proofs.Common.{◌≡◌, ℕ, List, [], ◌∷◌, get_or, refl, sym, ap, ◌∙◌}
 use Rattle.std.specs.Prelude.{codes}
-use Rattle.spec_lemmas.proofs.Texts.{bytes_apart}
 use Rattle.rmm_spec.specs.declared.command.Command.{Command}
 use Rattle.rmm_spec.specs.declared.reply.Reply.{Reply}
 use Rattle.rmm_spec.specs.CommandText.{IsCommand, IsReply, command_parts, reply_parts}
@@ -10,6 +9,7 @@ use Rattle.merging.specs.SeenEvents.{IsMomentOf}
 use Rattle.merging.specs.Word.{word_text}
 use Rattle.merging.specs.declared.line.Word.{Word}
 use Rattle.merging.specs.declared.line.Word.TheVariants as word
+use Rattle.lemmas.proofs.Tests.{keys_apart}
 
 abbrev byte_at : ℕ → List (List ℕ) → ℕ
 byte_at place parts = get_or (get_or parts 0 (codes "")) place 0
@@ -32,22 +32,22 @@ module _ (parts : List (List ℕ)) where
   unfolding moment_parts
   no_call none (Call command) of_moment =
       none command of_moment.is_moment (let same : codes "call" ∷ parts ≡ codes "call" ∷ command_parts command = of_moment.spelled in cc)
-  no_call none (Commit given) of_moment = absurd (bytes_apart 97 111 refl (ap (byte_at 1) of_moment.spelled))
-  no_call none (Return given) of_moment = absurd (bytes_apart 99 114 refl (ap (byte_at 0) of_moment.spelled))
+  no_call none (Commit given) of_moment = absurd (keys_apart 97 111 refl (ap (byte_at 1) of_moment.spelled))
+  no_call none (Return given) of_moment = absurd (keys_apart 99 114 refl (ap (byte_at 0) of_moment.spelled))
 
   pub no_commit : ((given : Reply) → IsReply given → parts ≡ reply_parts given → ⊥) → (moment : Moment)
       → IsMomentOf (codes "commit" ∷ parts) moment → ⊥
   unfolding moment_parts
-  no_commit none (Call command) of_moment = absurd (bytes_apart 111 97 refl (ap (byte_at 1) of_moment.spelled))
+  no_commit none (Call command) of_moment = absurd (keys_apart 111 97 refl (ap (byte_at 1) of_moment.spelled))
   no_commit none (Commit given) of_moment =
       none given of_moment.is_moment (let same : codes "commit" ∷ parts ≡ codes "commit" ∷ reply_parts given = of_moment.spelled in cc)
-  no_commit none (Return given) of_moment = absurd (bytes_apart 99 114 refl (ap (byte_at 0) of_moment.spelled))
+  no_commit none (Return given) of_moment = absurd (keys_apart 99 114 refl (ap (byte_at 0) of_moment.spelled))
 
   pub no_return : ((given : Reply) → IsReply given → parts ≡ reply_parts given → ⊥) → (moment : Moment)
       → IsMomentOf (codes "return" ∷ parts) moment → ⊥
   unfolding moment_parts
-  no_return none (Call command) of_moment = absurd (bytes_apart 114 99 refl (ap (byte_at 0) of_moment.spelled))
-  no_return none (Commit given) of_moment = absurd (bytes_apart 114 99 refl (ap (byte_at 0) of_moment.spelled))
+  no_return none (Call command) of_moment = absurd (keys_apart 114 99 refl (ap (byte_at 0) of_moment.spelled))
+  no_return none (Commit given) of_moment = absurd (keys_apart 114 99 refl (ap (byte_at 0) of_moment.spelled))
   no_return none (Return given) of_moment =
       none given of_moment.is_moment (let same : codes "return" ∷ parts ≡ codes "return" ∷ reply_parts given = of_moment.spelled in cc)
 

@@ -11,17 +11,7 @@ use Rattle.merging.specs.SeenEvents.{IsLineOf, IsNoLine, IsSizesOf}
 use Rattle.merging.specs.Table.{Happened, Table, slot_at, happened, ArePlaced, IsPut}
 use Rattle.merging.specs.declared.event_fault.EventsFault.TheVariants.{NoMemory}
 use Rattle.merging.proofs.GrammarLaws.{begun, pushed, bad_line, line_too_many, unfinished_line}
-use Rattle.lemmas.proofs.Elements.{slice_get-append, slice_get-push}
-
--- an element of a list with one more is an earlier one, or that one
-slice_get-push_cases : {X : Type 0} (xs : List X) (x : X) (place : ℕ) (y : X) → slice_get (xs ++ x ∷ []) place ≡ Some y
-    → (slice_get xs place ≡ Some y) ⊎ ((place ≡ length xs) × (x ≡ y))
-slice_get-push_cases [] x zero y is = inr (refl, cc)
-slice_get-push_cases [] x (suc place) y is = absurd (none-some y is)
-slice_get-push_cases (first ∷ xs) x zero y is = inl is
-slice_get-push_cases (first ∷ xs) x (suc place) y is =
-    ⊎_elim (λ (earlier : slice_get xs place ≡ Some y). inl earlier) (λ (last : (place ≡ length xs) × (x ≡ y)). inr (ap suc last.0, last.1))
-    (slice_get-push_cases xs x place y is)
+use Rattle.lemmas.proofs.Elements.{slice_get-append, slice_get-push, slice_get-push_cases}
 
 -- one more event is placed where none was
 pub ArePlaced-put : (events : List Recorded) (event : Recorded) (count : ℕ) (slots new : List (Option Happened))

@@ -15,8 +15,10 @@ use Rattle.merging.specs.Table.{IsHappened}
 use Rattle.merging.specs.Merge.{Merge, CanMerge, GrowsByHistory, GrowsByCertificate}
 use Rattle.merging.specs.Run.{Phase, Idle, Called, Committed, Fits, IsRun, event_count, events_merged, lines_merged}
 use Rattle.merging.proofs.CountLaws.{open_count, AreCounted, AreCounted-step, CanFollow-call, CanFollow-return, calls-lt, IsLine-commit, length-events_of}
-use Rattle.merging.proofs.RunLaws.{take_next, events_from-push, lines_from-push}
-use Rattle.merging.proofs.LineLaws.{Appends-then, lines_of_both}
+use Rattle.merging.proofs.RunLaws.{events_from-push, lines_from-push}
+use Rattle.merging.proofs.LineLaws.{lines_of_both}
+use Rattle.lemmas.proofs.Elements.{take-next_at}
+use Rattle.lemmas.proofs.Appended.{Appends-both}
 
 AreCounted-start : AreCounted [] starts
 AreCounted-start = record { events_of_cpu = λ cpu. refl; returns = λ cpu. refl }
@@ -122,7 +124,7 @@ GrowsByHistory-written merge first second third is_config can head rest =
       text = lines_text (config_parts merge.config ∷ lines);
       is_text = record { is_history = IsHistory-merged merge.config merge.events is_config can; is_text = refl };
       appends = subst (Appends first third)
-          (sym (lines_text-append (config_parts merge.config ∷ []) lines)) (Appends-then first second third _ _ head rest);
+          (sym (lines_text-append (config_parts merge.config ∷ []) lines)) (Appends-both first second third _ _ head rest);
     }
 
 pub GrowsByCertificate-written : (merge : Merge) (first second : Option (List ℕ)) → CanMerge merge.config.cpus merge.events
@@ -141,9 +143,9 @@ module _ (first second third : Option (List ℕ)) (events : List Happened) (stam
   history-next before own =
       let stand = stands_after starts (take stamp events) slot.cpu in
       subst (λ (es : List Event). Appends first third (lines_text (map event_parts es)))
-      (sym (ap (events_from starts) (take_next events stamp slot is) ∙ events_from-push starts (take stamp events) slot))
+      (sym (ap (events_from starts) (take-next_at events stamp slot is) ∙ events_from-push starts (take stamp events) slot))
       (subst (Appends first third) (sym (lines_of_both event_parts (events_from starts (take stamp events)) (events_of stand slot.cpu slot.moment)))
-      (Appends-then first second third _ _ before own))
+      (Appends-both first second third _ _ before own))
 
   pub certificate-next : (returns : ℕ → ℕ) → Appends first second (lines_text (map line_parts (lines_from returns starts (take stamp events))))
       → Appends second third
@@ -152,7 +154,7 @@ module _ (first second third : Option (List ℕ)) (events : List Happened) (stam
   certificate-next returns before own =
       let stand = stands_after starts (take stamp events) slot.cpu in
       subst (λ (ls : List Line). Appends first third (lines_text (map line_parts ls)))
-      (sym (ap (lines_from returns starts) (take_next events stamp slot is) ∙ lines_from-push returns starts (take stamp events) slot))
+      (sym (ap (lines_from returns starts) (take-next_at events stamp slot is) ∙ lines_from-push returns starts (take stamp events) slot))
       (subst (Appends first third)
       (sym (lines_of_both line_parts (lines_from returns starts (take stamp events)) (lines_of (returns slot.cpu) stand slot.cpu slot.moment)))
-      (Appends-then first second third _ _ before own))
+      (Appends-both first second third _ _ before own))

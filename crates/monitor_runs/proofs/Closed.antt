@@ -14,7 +14,7 @@ use Rattle.monitor.specs.View.{MonitorView}
 use Rattle.std.proofs.lemmas.Option.{slice_get_within}
 use Rattle.monitor_runs.specs.ThreadRun.{IsThreadRun, MayDisagree}
 use Rattle.monitor_runs.specs.Worked.{HasBegun, HaveWorked}
-use Rattle.monitor_runs.proofs.Waiting.{is_there}
+use Rattle.lemmas.proofs.Elements.{element_at}
 
 -- what a CPU has begun is said of the scenario's machine
 begun-of : (monitor : MonitorView) (scenario : Scenario) (cpu : ℕ) (own : List Event) (token : TokenView) → monitor.config ≡ scenario.config
@@ -36,7 +36,7 @@ IsThreadRun-from monitor scenario tokens passes history lines is_config is_queue
   linearization = subst (λ (c : Config). IsLinearization (record { config = c; events = history.events }) lines)
       (is_config ∙ sym same) journal.linearization;
   each = λ cpu token at.
-      let pass = is_there passes cpu (omega (arith, slice_get_within tokens cpu token at, worked.token_count, worked.pass_count)) in
+      let pass = element_at passes cpu (omega (arith, slice_get_within tokens cpu token at, worked.token_count, worked.pass_count)) in
       let has = worked.each cpu token pass.0 at pass.1 in
       begun-of monitor scenario cpu (subhistory_of cpu history.events) token is_config is_queue
       (subst (λ own. HasBegun (get_or scenario.programs cpu []) monitor.capacity monitor.config.cpus cpu own token) (sym (whole cpu pass.0 pass.1))
@@ -51,7 +51,7 @@ MayDisagree-from monitor scenario tokens passes entries is_config is_queue worke
   tokens = tokens;
   count = worked.token_count ∙ ap (λ (c : Config). c.cpus) is_config;
   each = λ cpu token at.
-      let pass = is_there passes cpu (omega (arith, slice_get_within tokens cpu token at, worked.token_count, worked.pass_count)) in
+      let pass = element_at passes cpu (omega (arith, slice_get_within tokens cpu token at, worked.token_count, worked.pass_count)) in
       (pass.0.events, begun-of monitor scenario cpu pass.0.events token is_config is_queue (worked.each cpu token pass.0 at pass.1).begun);
   entries = entries;
   disagree = subst (λ (c : Config). Disagree c tokens entries) is_config disagree;

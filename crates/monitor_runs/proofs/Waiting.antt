@@ -18,16 +18,10 @@ use Rattle.monitor.specs.Cpus.{AreCpus}
 use Rattle.monitor.specs.View.{MonitorView}
 use Rattle.monitor.proofs.CpuLists.{pairs-popped}
 use Rattle.monitor_runs.specs.Worked.{HasWorked, AreWaiting, IsLast, HaveWorked, promised}
-use Rattle.lemmas.proofs.Elements.{slice_get-append, slice_get-push, slice_get-push_cases, map-push}
+use Rattle.lemmas.proofs.Elements.{slice_get-append, slice_get-push, slice_get-push_cases, map-push, element_at}
+use Rattle.spec_lemmas.proofs.Texts.{commands_at}
 
 -- ---- what a scenario says of its programs
-
--- the commands of each program have texts
-have_texts : (programs : List (List Command)) (cpu : ℕ) → AllByRecursion (AllByRecursion IsCommand) programs
-    → AllByRecursion IsCommand (get_or programs cpu [])
-have_texts [] cpu have = tt
-have_texts (program ∷ programs) zero have = have.0
-have_texts (program ∷ programs) (suc cpu) have = have_texts programs cpu have.1
 
 abbrev count_all : List (List Command) → ℕ
 count_all programs = sum (map length programs)
@@ -87,7 +81,7 @@ waiting-last monitor scenario tokens passes given token pass program limits wait
         paired = pairs.0;
         fresh = fresh.1 ∙ ap before_commits (sym same_cpu);
         before = before ∙ ap (λ k. before_calls monitor.queue monitor.config.cpus k) (sym same_cpu);
-        have_texts = subst (AllByRecursion IsCommand) (sym same_program) (have_texts scenario.programs count limits.commands);
+        commands_at = subst (AllByRecursion IsCommand) (sym same_program) (commands_at scenario.programs count limits.commands);
         few = omega (arith, ap length same_program, fewer scenario.programs count, limits.few);
       };
       same_cpu = same_cpu;
@@ -198,10 +192,6 @@ worked-push monitor programs count tokens passes token pass worked more = record
         (subst (λ x. HasWorked monitor count (get_or programs count []) x p) last.1
         (subst (λ x. HasWorked monitor count (get_or programs count []) token x) pass_last.1 more))
 
--- what is there at a place within a list
-pub is_there : {X : Type 0} (xs : List X) (place : ℕ) → place < length xs → (x : X) × (slice_get xs place ≡ Some x)
-is_there xs place within = elim (slice_get_cases xs place).1 [ inl there ↦ (there.0, there.2) | inr past ↦ absurd (omega (arith, past.0, within)) ]
-
 -- they are the CPUs that a close asks for
 pub worked-cpus : (monitor : MonitorView) (programs : List (List Command)) (tokens : List TokenView) (passes : List CpuView)
     → HaveWorked monitor programs monitor.config.cpus tokens passes → AreCpus monitor tokens passes
@@ -212,7 +202,7 @@ worked-cpus monitor programs tokens passes worked = record {
   };
   count = worked.token_count;
   numbered = λ cpu token at.
-      let pass = is_there passes cpu (omega (arith, slice_get_within tokens cpu token at, worked.token_count, worked.pass_count)) in
+      let pass = element_at passes cpu (omega (arith, slice_get_within tokens cpu token at, worked.token_count, worked.pass_count)) in
       (worked.each cpu token pass.0 at pass.1).same_cpu;
 }
 
@@ -242,6 +232,6 @@ worked-room monitor scenario tokens passes limits worked =
     by : (cpu : ℕ) (pass : CpuView) → slice_get passes cpu ≡ Some pass → length pass.events
         ≤ length (get_or scenario.programs cpu []) + length (get_or scenario.programs cpu [])
     by cpu pass at =
-        let token = is_there tokens cpu (omega (arith, slice_get_within passes cpu pass at, worked.token_count, worked.pass_count)) in
+        let token = element_at tokens cpu (omega (arith, slice_get_within passes cpu pass at, worked.token_count, worked.pass_count)) in
         let has = worked.each cpu token.0 pass token.1 at in
         omega (arith, has.few, has.begun.within.2)

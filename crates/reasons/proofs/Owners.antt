@@ -13,7 +13,6 @@ use Rattle.rmm_spec.specs.declared.tag.Ripas.{Ripas}
 use Rattle.rmm_spec.specs.Cell.{put}
 use Rattle.rmm_spec.specs.Table.{TableRecord, place_number}
 use Rattle.rmm_laws.proofs.Ties.{tied-once, tied-tag}
-use Rattle.rmm_laws.proofs.Finds.{granule-number}
 use Rattle.rmm_laws.proofs.ShapeTies.{entry_leaf-some}
 use Rattle.spec_machine.specs.View.{tables_at}
 use Rattle.spec_machine.specs.declared.machine.Machine.{Machine}
@@ -21,6 +20,7 @@ use Rattle.spec_machine.proofs.Machines.{leaf-held, leaf-stands, machine_sound, 
 use Rattle.reasons.specs.declared.owner_rows.OwnerRow.{OwnerRow}
 use Rattle.reasons.specs.Owners.{AreGiven, AreTied, Assigns, CellGives, Gives, IsGivenBelow, IsPageOf}
 use Rattle.reasons.proofs.OwnerRows.{length-owner_rows, row_of}
+use Rattle.spec_lemmas.proofs.Lookups.{granule-number}
 
 -- ---- what is looked up
 

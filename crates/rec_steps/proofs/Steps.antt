@@ -29,6 +29,7 @@ use Rattle.rmm_spec.specs.Update.{with_realm, with_rec}
 use Rattle.rec_steps.specs.Answers.{answer_at, enter_rows, change_at, realm_after, rec_after}
 use Rattle.rec_steps.specs.Held.{IsHeld}
 use Rattle.rec_steps.specs.declared.step.RecStep.{RecStep}
+use Rattle.spec_lemmas.proofs.Lookups.{with_realm-same}
 
 -- ---- records
 
@@ -53,9 +54,6 @@ put_same : {A : Type 0} (f : ℕ → Option A) (place : ℕ) (a : A) → f place
     → (if b then Some a else f other) ≡ f other
 put_same f place a held other false apart = refl
 put_same f place a held other true same = sym held ∙ ap f (sym (eqb-true other place same))
-
-with_realm-same : (s : State) (rd : ℕ) (realm : RealmRecord) → s.realm rd ≡ Some realm → with_realm s rd realm ≡ s
-with_realm-same s rd realm held = λ i. record s { realm = λ other. put_same s.realm rd realm held other (other == rd) refl i }
 
 with_rec-same : (s : State) (address : ℕ) (rec : RecRecord) → s.rec address ≡ Some rec → with_rec s address rec ≡ s
 with_rec-same s address rec held = λ i. record s { rec = λ other. put_same s.rec address rec held other (other == address) refl i }

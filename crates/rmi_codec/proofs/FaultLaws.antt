@@ -6,11 +6,12 @@ use Rattle.std.proofs.lemmas.List.{get_or_at, length-append}
 use Rattle.rmm_spec.specs.declared.function_id.FunctionId.{FunctionId}
 use Rattle.rmm_spec.specs.Function.{number_of, word_count}
 use Rattle.rmm_spec.specs.Text.{decimal, word, fixed_hex}
-use Rattle.spec_lemmas.proofs.Texts.{bytes_apart}
 use Rattle.rmi_codec.specs.declared.fault.CodecFault.{CodecFault}
 use Rattle.rmi_codec.specs.declared.fault.CodecFault.TheVariants.{UnknownNumber, WordCount, BadWord, BadSpacing, BadForm}
 use Rattle.rmi_codec.specs.Faults.{IsNoWord, IsNoByte, IsCommandFault, IsReplyFault, IsPartFault, IsWordsFault, IsSmallFault, IsEndFault}
 use Rattle.rmi_codec.proofs.PartLaws.{word_count-le}
+use Rattle.lemmas.proofs.Tests.{keys_apart}
+use Rattle.lemmas.proofs.Members.{Contains-tail}
 
 -- a part that stands behind others is one of them all
 pub Any-among : {X : Type 0} (P : X → Type 0) (front : List X) (x : X) (rest : List X) → P x → Any P (front ++ x ∷ rest)
@@ -63,9 +64,6 @@ IsSmallFault-from_part BadForm parts none h = h
 Any-cons : {X : Type 0} (P : X → Type 0) (x : X) (xs : List X) → Any P xs → Any P (x ∷ xs)
 Any-cons P x xs h = (h.0 + 1, h.1, omega (arith, h.2), rw (add-one h.0) h.3, h.4)
 
-Contains-cons : {X : Type 0} (x y : X) (xs : List X) → Contains xs y → Contains (x ∷ xs) y
-Contains-cons x y xs h = (h.0 + 1, omega (arith, h.1), rw (add-one h.0) h.2)
-
 -- a command's function takes another count of words
 pub WordCount-from : (f : FunctionId) (p : List ℕ) (rest parts : List (List ℕ))
     → parts ≡ p ∷ rest → p ≡ fixed_hex 8 (number_of f) → length rest ≢ word_count f → IsCommandFault WordCount parts
@@ -81,7 +79,7 @@ IsCommandFault-from_words f p rest parts told next is (inl h) =
 IsCommandFault-from_words f p rest parts told next is (inr (inl h)) =
     let P : CodecFault → Type 0 = λ e. IsCommandFault e parts in
     let Q : List (List ℕ) → Type 0 = λ ps. Contains ps [] in
-    subst P (sym h.0) (subst Q (sym next) (Contains-cons p [] rest h.1))
+    subst P (sym h.0) (subst Q (sym next) (Contains-tail p rest [] h.1))
 IsCommandFault-from_words f p rest parts told next is (inr (inr h)) =
     let P : CodecFault → Type 0 = λ e. IsCommandFault e parts in
     let many = h.1 in
@@ -95,7 +93,7 @@ IsReplyFault-from_words rest told (inl h) =
     subst P (sym h.0) (rest, inl (refl, h.1))
 IsReplyFault-from_words rest told (inr (inl h)) =
     let P : CodecFault → Type 0 = λ e. IsReplyFault e (codes "ok" ∷ rest) in
-    subst P (sym h.0) (Contains-cons (codes "ok") [] rest h.1)
+    subst P (sym h.0) (Contains-tail (codes "ok") rest [] h.1)
 IsReplyFault-from_words rest told (inr (inr h)) =
     let P : CodecFault → Type 0 = λ e. IsReplyFault e (codes "ok" ∷ rest) in
     let many = h.1 in
@@ -103,8 +101,8 @@ IsReplyFault-from_words rest told (inr (inr h)) =
     let tails : rest ≡ others = ap (λ ps. drop 1 ps) e in
     let form-is = ap (λ ps. get_or (get_or ps 0 []) 0 0) e in (
       (λ _. omega (arith, ap length tails)),
-      (λ err. absurd (bytes_apart 111 101 refl (form-is ∙ ap (λ bytes. get_or bytes 0 0) err))),
-      (λ misplaced. absurd (bytes_apart 111 109 refl (form-is ∙ ap (λ bytes. get_or bytes 0 0) misplaced))),
+      (λ err. absurd (keys_apart 111 101 refl (form-is ∙ ap (λ bytes. get_or bytes 0 0) err))),
+      (λ misplaced. absurd (keys_apart 111 109 refl (form-is ∙ ap (λ bytes. get_or bytes 0 0) misplaced))),
     ))
 
 -- a refusal has another count of parts than a status and an index
@@ -112,9 +110,9 @@ err_form : (rest : List (List ℕ)) → length rest ≢ 2 → IsReplyFault BadFo
 err_form rest count = λ form others e.
     let tails : rest ≡ others = ap (λ ps. drop 1 ps) e in
     let form-is = ap (λ ps. get_or (get_or ps 0 []) 0 0) e in (
-      (λ ok. absurd (bytes_apart 101 111 refl (form-is ∙ ap (λ bytes. get_or bytes 0 0) ok))),
+      (λ ok. absurd (keys_apart 101 111 refl (form-is ∙ ap (λ bytes. get_or bytes 0 0) ok))),
       (λ _ two. count (ap length tails ∙ two)),
-      (λ misplaced. absurd (bytes_apart 101 109 refl (form-is ∙ ap (λ bytes. get_or bytes 0 0) misplaced))),
+      (λ misplaced. absurd (keys_apart 101 109 refl (form-is ∙ ap (λ bytes. get_or bytes 0 0) misplaced))),
     )
 
 -- a fault of a status is one of the reply
@@ -122,7 +120,7 @@ pub IsReplyFault-from_status : (told : CodecFault) (rest : List (List ℕ)) → 
 IsReplyFault-from_status UnknownNumber rest h = h
 IsReplyFault-from_status WordCount rest h = h
 IsReplyFault-from_status BadWord rest h = (rest, inr (refl, h))
-IsReplyFault-from_status BadSpacing rest h = Contains-cons (codes "err") [] rest h
+IsReplyFault-from_status BadSpacing rest h = Contains-tail (codes "err") rest [] h
 IsReplyFault-from_status BadForm rest h = err_form rest (λ two. omega (arith, ap length h))
 
 -- and so is one of an index behind it
@@ -135,7 +133,7 @@ IsReplyFault-from_index BadWord status parts rest next h =
     (parts, inr (refl, subst Q (sym next) (Any-cons IsNoByte status rest h)))
 IsReplyFault-from_index BadSpacing status parts rest next h =
     let Q : List (List ℕ) → Type 0 = λ ps. Contains ps [] in
-    Contains-cons (codes "err") [] parts (subst Q (sym next) (Contains-cons status [] rest h))
+    Contains-tail (codes "err") parts [] (subst Q (sym next) (Contains-tail status rest [] h))
 IsReplyFault-from_index BadForm status parts rest next h = err_form parts (λ two. omega (arith, ap length next, ap length h))
 
 some_from : (rest : List (List ℕ)) → rest ≢ [] → 0 < length rest
@@ -150,7 +148,7 @@ IsReplyFault-from_err_end WordCount status index parts mid rest first second h =
 IsReplyFault-from_err_end BadWord status index parts mid rest first second h = absurd h
 IsReplyFault-from_err_end BadSpacing status index parts mid rest first second h =
     let Q : List (List ℕ) → Type 0 = λ ps. Contains ps [] in
-    Contains-cons (codes "err") [] parts (subst Q (sym first) (Contains-cons status [] mid (subst Q (sym second) (Contains-cons index [] rest h))))
+    Contains-tail (codes "err") parts [] (subst Q (sym first) (Contains-tail status mid [] (subst Q (sym second) (Contains-tail index rest [] h))))
 IsReplyFault-from_err_end BadForm status index parts mid rest first second h =
     err_form parts (λ two. omega (arith, ap length first, ap length second, some_from rest h))
 
@@ -159,11 +157,11 @@ pub IsReplyFault-from_end : (told : CodecFault) (rest : List (List ℕ)) → IsE
 IsReplyFault-from_end UnknownNumber rest h = h
 IsReplyFault-from_end WordCount rest h = h
 IsReplyFault-from_end BadWord rest h = absurd h
-IsReplyFault-from_end BadSpacing rest h = Contains-cons (codes "misplaced") [] rest h
+IsReplyFault-from_end BadSpacing rest h = Contains-tail (codes "misplaced") rest [] h
 IsReplyFault-from_end BadForm rest h = λ form others e.
     let tails : rest ≡ others = ap (λ ps. drop 1 ps) e in
     let form-is = ap (λ ps. get_or (get_or ps 0 []) 0 0) e in (
-      (λ ok. absurd (bytes_apart 109 111 refl (form-is ∙ ap (λ bytes. get_or bytes 0 0) ok))),
-      (λ err. absurd (bytes_apart 109 101 refl (form-is ∙ ap (λ bytes. get_or bytes 0 0) err))),
+      (λ ok. absurd (keys_apart 109 111 refl (form-is ∙ ap (λ bytes. get_or bytes 0 0) ok))),
+      (λ err. absurd (keys_apart 109 101 refl (form-is ∙ ap (λ bytes. get_or bytes 0 0) err))),
       (λ _ over. h (tails ∙ over)),
     )

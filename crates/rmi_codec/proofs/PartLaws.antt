@@ -17,8 +17,9 @@ use Rattle.rmm_spec.specs.declared.reply.Reply.TheVariants as reply
 use Rattle.rmm_spec.specs.CommandText.{AreWords, IsReply, reply_parts}
 use Rattle.rmm_spec.specs.Function.{word_count}
 use Rattle.rmm_spec.specs.Text.{decimal, word, line_text, parts_of}
-use Rattle.spec_lemmas.proofs.Texts.{IsPart, bytes_apart, decimal-injective}
+use Rattle.spec_lemmas.proofs.Texts.{IsPart, decimal-injective}
 use Rattle.rmi_codec.specs.Spaced.{parts_behind, parts_from}
+use Rattle.lemmas.proofs.Tests.{keys_apart}
 
 abbrev is_space : ℕ → Bool
 is_space byte = byte == 32
@@ -160,20 +161,20 @@ pub reply_parts-ok : (r : Reply) (rest : List (List ℕ)) → IsReply r → code
     → (ws : ArrayVec ℕ) × (r ≡ reply.Ok ws) × (rest ≡ map word ws.items) × (length ws.items ≤ 10) × AreWords ws.items
 unfolding reply_parts
 reply_parts-ok (reply.Ok ws) rest h e = (ws, refl, ap (λ ps. drop 1 ps) e, h.0, h.1)
-reply_parts-ok (reply.Err status index) rest h e = absurd (bytes_apart 111 101 refl (ap (λ ps. get_or (get_or ps 0 []) 0 0) e))
-reply_parts-ok reply.Misplaced rest h e = absurd (bytes_apart 111 109 refl (ap (λ ps. get_or (get_or ps 0 []) 0 0) e))
+reply_parts-ok (reply.Err status index) rest h e = absurd (keys_apart 111 101 refl (ap (λ ps. get_or (get_or ps 0 []) 0 0) e))
+reply_parts-ok reply.Misplaced rest h e = absurd (keys_apart 111 109 refl (ap (λ ps. get_or (get_or ps 0 []) 0 0) e))
 
 pub reply_parts-err : (r : Reply) (rest : List (List ℕ)) → IsReply r → codes "err" ∷ rest ≡ reply_parts r
     → (status index : ℕ) × (r ≡ reply.Err status index) × (rest ≡ decimal status ∷ decimal index ∷ []) × (status < 256) × (index < 256)
 unfolding reply_parts
-reply_parts-err (reply.Ok ws) rest h e = absurd (bytes_apart 101 111 refl (ap (λ ps. get_or (get_or ps 0 []) 0 0) e))
+reply_parts-err (reply.Ok ws) rest h e = absurd (keys_apart 101 111 refl (ap (λ ps. get_or (get_or ps 0 []) 0 0) e))
 reply_parts-err (reply.Err status index) rest h e = (status, index, refl, ap (λ ps. drop 1 ps) e, h.0, h.1)
-reply_parts-err reply.Misplaced rest h e = absurd (bytes_apart 101 109 refl (ap (λ ps. get_or (get_or ps 0 []) 0 0) e))
+reply_parts-err reply.Misplaced rest h e = absurd (keys_apart 101 109 refl (ap (λ ps. get_or (get_or ps 0 []) 0 0) e))
 
 pub reply_parts-misplaced : (r : Reply) (rest : List (List ℕ)) → codes "misplaced" ∷ rest ≡ reply_parts r → (r ≡ reply.Misplaced) × (rest ≡ [])
 unfolding reply_parts
-reply_parts-misplaced (reply.Ok ws) rest e = absurd (bytes_apart 109 111 refl (ap (λ ps. get_or (get_or ps 0 []) 0 0) e))
-reply_parts-misplaced (reply.Err status index) rest e = absurd (bytes_apart 109 101 refl (ap (λ ps. get_or (get_or ps 0 []) 0 0) e))
+reply_parts-misplaced (reply.Ok ws) rest e = absurd (keys_apart 109 111 refl (ap (λ ps. get_or (get_or ps 0 []) 0 0) e))
+reply_parts-misplaced (reply.Err status index) rest e = absurd (keys_apart 109 101 refl (ap (λ ps. get_or (get_or ps 0 []) 0 0) e))
 reply_parts-misplaced reply.Misplaced rest e = (refl, ap (λ ps. drop 1 ps) e)
 
 -- a reply has one of three forms

@@ -9,7 +9,7 @@ use Rattle.std.proofs.lemmas.List.{get_or-take, get_or_at, length-append, length
 use Rattle.std.proofs.lemmas.List.Elements.{All-weaker, All-from_recursion}
 use Rattle.std.proofs.lemmas.List.Splits.{slice_split_none, slice_split_at, length-slice_split}
 use Rattle.rmm_spec.specs.Text.{glyph, numeral, line_text, parts_of}
-use Rattle.spec_lemmas.proofs.Texts.{IsPlain, IsPart-from_test, glyph-IsPlain, map-glyph-plain, parts_of-line_text, numeral_some, numeral-zero, numeral-IsPart}
+use Rattle.spec_lemmas.proofs.Texts.{IsPlain, IsPart-from_test, glyph-IsPlain, map-glyph-plain, parts_of-line_text, numeral_some, numeral-zero, numeral-IsPart, not_spaces}
 use Rattle.rmi_codec.specs.Spaced.{parts_behind}
 use Rattle.rmi_codec.proofs.NumberLaws.{SpellsSoFar, SpellsSoFar-none, SpellsSoFar-first, SpellsSoFar-more, le_from_SpellsSoFar, no_numeral-at_byte, no_numeral-leading_zero}
 use Rattle.rmi_codec.proofs.PartLaws.{line_text-from_parts, parts_behind-end, parts_behind-space}
@@ -68,18 +68,13 @@ SpellsSoFar-part base line (byte ∷ part) count number inside so_far is = recor
 IsFirstPart-byte : (line part : List ℕ) (k : ℕ) → IsFirstPart line part → k < length part → get_or line k 0 ≡ get_or part k 0
 IsFirstPart-byte line part k is inside = sym (get_or-take (length part) line k 0 inside) ∙ ap (λ bytes. get_or bytes k 0) is.front
 
--- plain bytes are no spaces
-no_spaces : (bytes : List ℕ) → AllByRecursion IsPlain bytes → All (λ byte. (byte == 32) ≡ false) bytes
-no_spaces bytes plain =
-    All-weaker IsPlain (λ byte. (byte == 32) ≡ false) (λ byte is. grind (arith, nat_tests)) bytes (All-from_recursion IsPlain bytes plain)
-
 -- a part that ends at a place of a line is the first, by the test whether the place is the end
 pub cut_at : (line part : List ℕ) (end : ℕ) → AllByRecursion IsPlain part → take end line ≡ part
     → end ≤ length line → (end < length line → get_or line end 0 ≡ 32) → (b : Bool)
     → (end == length line) ≡ b → parts_of line ≡ part ∷ (if b then [] else parts_of (drop 1 (drop end line)))
 cut_at line part end plain front inside ended true test =
     let last : length line ≤ end = grind (arith, nat_tests) in
-    ap (λ bytes. parts_of bytes) (sym (take_all end line last) ∙ front) ∙ slice_split_none (λ byte. byte == 32) part (no_spaces part plain)
+    ap (λ bytes. parts_of bytes) (sym (take_all end line last) ∙ front) ∙ slice_split_none (λ byte. byte == 32) part (not_spaces part plain)
 cut_at line part end plain front inside ended false test =
     let before : end < length line = grind (arith, nat_tests) in
     let cut = drop-cons line end 0 before in
@@ -87,7 +82,7 @@ cut_at line part end plain front inside ended false test =
     cut ∙ ap (λ byte. byte ∷ drop (suc end) line) (ended before) ∙ ap (λ rest. 32 ∷ rest) (sym (ap (λ bytes. drop 1 bytes) cut)) in
     let whole : line ≡ part ++ 32 ∷ drop 1 (drop end line) =
     sym (take-append-drop end line) ∙ ap (λ bytes. bytes ++ drop end line) front ∙ ap (λ bytes. part ++ bytes) back in
-    ap (λ bytes. parts_of bytes) whole ∙ slice_split_at (λ byte. byte == 32) part 32 (drop 1 (drop end line)) (no_spaces part plain) refl
+    ap (λ bytes. parts_of bytes) whole ∙ slice_split_at (λ byte. byte == 32) part 32 (drop 1 (drop end line)) (not_spaces part plain) refl
 
 -- a number that ends at a place of a line is the first of its parts
 numeral_read : (base : ℕ) (line : List ℕ) (end number : ℕ) → 2 ≤ base → take end line ≡ numeral base number → end ≤ length line

@@ -53,11 +53,6 @@ pub some_either : {A : Type 0} (test : Bool) (x : A) (y : Option A) → IsTrue (
 some_either true x y there = refl
 some_either false x y there = there
 
--- what isn't there
-pub none_of : {A : Type 0} (found : Option A) → is_some found ≡ false → found ≡ None
-none_of None none = refl
-none_of (Some x) none = both_ways refl none
-
 -- what is left was there, and not where something was taken out
 pub left_of : {A : Type 0} (taken : Bool) (old : Option A) (x : A) → (if taken then None else old) ≡ Some x → (taken ≡ false) × (old ≡ Some x)
 left_of true old x none = nothing_there refl none

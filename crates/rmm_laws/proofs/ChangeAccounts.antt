@@ -25,8 +25,9 @@ use Rattle.rmm_laws.proofs.Claims.{IsAmong}
 use Rattle.rmm_laws.proofs.Facts.{waits_not, entry_at-table, page-last, page-entry, entry-page, page-in_use, root_covers, unlinked-root}
 use Rattle.rmm_laws.proofs.Keeps.{IsRecLike, IsPage, keeps-kept, keeps-all, same-realms, same-recs, same-tables, same-pages, with_records, records-kept, records-tag, records-leaf}
 use Rattle.rmm_laws.proofs.Owners.{IsKept, Accounts}
-use Rattle.rmm_laws.proofs.Tests.{kept_unless, some_value, there, same_value, spot_parts, moved}
+use Rattle.rmm_laws.proofs.Tests.{kept_unless, there, same_value, spot_parts, moved}
 use Rattle.rmm_laws.proofs.Ties.{IsUnused}
+use Rattle.lemmas.proofs.Options.{some_value}
 
 -- the root of each realm, and the parts of each REC
 abbrev pub roots_at : State → ℕ → ℕ

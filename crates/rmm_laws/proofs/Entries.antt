@@ -6,13 +6,9 @@ use Rattle.rmm_spec.specs.declared.entry.Entry.TheVariants.{Table, AssignedNs}
 use Rattle.rmm_spec.specs.Walk.{linked_entry, is_live, is_in_use, has_entry}
 use Rattle.rmm_spec.specs.Applicable.{IsVacant}
 use Rattle.rmm_laws.proofs.Searches.{any_below-false}
+use Rattle.lemmas.proofs.Options.{value_there}
 
 -- ---- what stands above a leaf or a link
-
--- what is there has a value
-pub value_there : {A : Type 0} (found : Option A) → IsTrue (is_some found) → (x : A) × (found ≡ Some x)
-value_there None there = both_ways there refl
-value_there (Some x) there = (x, refl)
 
 -- a leaf is of a realm that stands, and fits it
 pub leaf_fits : (s : State) → IsSound s → (rd level number : ℕ) (e : Entry) → s.leaf rd level number ≡ Some e

@@ -11,13 +11,8 @@ use Rattle.rmm_spec.specs.Sound.{IsLeafOf}
 use Rattle.rmm_laws.proofs.Cases.{choice}
 use Rattle.rmm_laws.proofs.Finds.{AreFound, IsPlaced, same_place}
 use Rattle.rmm_laws.proofs.Leaves.{leaf-entries_here, leaf-table_here, leaf-entries_elsewhere}
-use Rattle.rmm_laws.proofs.Slices.{slice_get-set_same, slice_get-set_other, IsStretch, ripas-get, ripas-is_link, entry_leaf-of, entry_leaf-ripas}
-use Rattle.rmm_laws.proofs.ShapeTies.{entry_leaf}
-
--- a leaf is no link
-pub leaf-no_link : (e : Entry) (r : RealmRecord) (level number : ℕ) → IsLeafOf e r level number → is_table e ≡ false
-leaf-no_link (Table granule) r level number fits = absurd fits
-leaf-no_link _ r level number fits = refl
+use Rattle.rmm_laws.proofs.Slices.{slice_get-set_same, slice_get-set_other, IsStretch, ripas-get, ripas-is_link, entry_leaf-ripas}
+use Rattle.rmm_laws.proofs.ShapeTies.{entry_leaf, entry_leaf-some}
 
 pub no_link-child : {A : Type 0} (e : Entry) (child : ℕ) → is_table e ≡ false → e ≡ Table child → A
 no_link-child e child leaf same = both_ways (ap is_table same) leaf
@@ -100,7 +95,7 @@ replaced_entries granules tables granule t rd level number e found held placed w
           (λ hit. spot_hit rd level number other l n hit (λ here at first.
           (λ i. now (here i) (at i) (first i))
           ∙ leaf-set_here granules tables granule t rd level number e found held placed
-          ∙ entry_leaf-of (slice_set t.entries (number % 512) e) (number % 512) e (slice_get-set_same t.entries (number % 512) e below) leaf))
+          ∙ entry_leaf-some (slice_set t.entries (number % 512) e) (number % 512) e (slice_get-set_same t.entries (number % 512) e below) leaf))
           (λ miss. leaf-set_elsewhere granules tables granule t rd level number e found held placed other l n miss);
     }
 

@@ -1,5 +1,5 @@
 -- The commits of one more line, and the state that the first lines of a run lead to.
-use Rattle.rmm_laws.proofs.Common.{◌++◌, ◌∷◌, ◌≡◌, IsRun, JournalEntry, List, Reply, Some, State, Step, [], subst, suc, sym, zero, ℕ}
+use Rattle.rmm_laws.proofs.Common.{◌++◌, ◌∷◌, ◌≡◌, IsRun, JournalEntry, List, Reply, Some, State, Step, [], subst, suc, sym, zero, ℕ, ◌∙◌}
 use Rattle.std.proofs.Common.{take}
 use Rattle.std.specs.List.{slice_get}
 use Rattle.std.proofs.lemmas.Option.{none-some, same_Some}
@@ -22,7 +22,7 @@ AreEntriesOf-push events (l ∷ lines) (e ∷ entries) line entry claimed last =
     (claimed.0, AreEntriesOf-push events lines entries line entry claimed.1 last)
 
 -- the same commit leads to the same state
-same_step : (old : State) (entry other : JournalEntry) (new next : State) → SameEntries entry other
+pub same_step : (old : State) (entry other : JournalEntry) (new next : State) → SameEntries entry other
     → Step old entry.cpu entry.command entry.given new → Step old other.cpu other.command other.given next → new ≡ next
 same_step old entry other new next same here there =
     let there2 : Step old entry.cpu entry.command entry.given next =
@@ -48,3 +48,15 @@ not-IsRefused events one (l ∷ lines) (e ∷ entries) start last claimed run (s
     let same = same_step start e b run.0 led.0 (same_entry events one l e b claimed.0 before.0) run.1 led.1 in
     not-IsRefused events one lines entries led.0 last claimed.1 (subst (λ (s : State). IsRun s entries last) same run.2)
     index line earlier old is before.1 led.2 refused
+
+-- lines lead to one state
+pub same_state : (events : List Event) → HasOnePlaces events → (lines : List Line) (es fs : List JournalEntry) (start one other : State)
+    → AreEntriesOf events lines es → IsRun start es one → AreEntriesOf events lines fs → IsRun start fs other → one ≡ other
+same_state events places [] [] [] start one other here run there ran = run ∙ sym ran
+same_state events places [] (e ∷ es) fs start one other here run there ran = absurd here
+same_state events places [] [] (f ∷ fs) start one other here run there ran = absurd there
+same_state events places (l ∷ lines) [] fs start one other here run there ran = absurd here
+same_state events places (l ∷ lines) (e ∷ es) [] start one other here run there ran = absurd there
+same_state events places (l ∷ lines) (e ∷ es) (f ∷ fs) start one other here run there ran =
+    let same = same_step start e f run.0 ran.0 (same_entry events places l e f here.0 there.0) run.1 ran.1 in
+    same_state events places lines es fs ran.0 one other here.1 (subst (λ (s : State). IsRun s es one) same run.2) there.1 ran.2

@@ -10,7 +10,8 @@ use Rattle.rmm_spec.specs.declared.tag.Ripas.TheVariants.{Empty}
 use Rattle.rmm_spec.specs.Walk.{table_size, full, is_table, linked_entry, entry_at, is_live, is_in_use, has_link, has_entry}
 use Rattle.rmm_spec.specs.Step.Terms.{is_space}
 use Rattle.rmm_laws.proofs.Searches.{any_below-false}
-use Rattle.rmm_laws.proofs.Tests.{some_value, there}
+use Rattle.rmm_laws.proofs.Tests.{there}
+use Rattle.lemmas.proofs.Options.{some_value}
 
 -- ---- records
 
@@ -105,7 +106,7 @@ below_one zero unit below = refl
 below_one (suc n) unit below = absurd (omega arith)
 
 -- a table of the root's level is the root
-root-first : (s : State) (rd number granule : ℕ) (r : RealmRecord)
+pub root-first : (s : State) (rd number granule : ℕ) (r : RealmRecord)
     → IsSound s → s.realm rd ≡ Some r → s.table rd r.start_level number ≡ Some granule → number ≡ 0
 root-first s rd number granule r sound is table =
     let owner = sound.tables.owned rd r.start_level number granule table in

@@ -7,6 +7,7 @@ use Rattle.rmm_spec.specs.Update.{is_same_entry}
 use Rattle.rmm_spec.specs.Flat.{found_below, is_table_of}
 use Rattle.rmm_spec.specs.Shape.{HoldsTable}
 use Rattle.rmm_laws.proofs.Cases.{nothing_there, spot_itself}
+use Rattle.spec_lemmas.proofs.Lookups.{granule-number}
 
 -- ---- searches
 
@@ -52,15 +53,6 @@ found_below-new n old new k below is others none =
     by false apart j at found within passes =
         let old_passes : IsTrue (old j) = sym (others j (λ same. both_ways (eq-eqb _ k (at ∙ same)) apart)) ∙ passes in
         let bad = found_below-some n old j within old_passes in nothing_there none bad.1
-
--- a granule's address by its number
-pub granule-number : (granules address : ℕ) → IsTrue (is_granule granules address) → (address / 4096 < granules) × (address ≡ (address / 4096) * 4096)
-unfolding is_granule
-granule-number granules address is =
-    let parts = and_parts (address % 4096 == 0) (nat_lt address (granules * 4096)) is in
-    let multiple : address % 4096 ≡ 0 = eqb-true (address % 4096) 0 parts.0 in
-    let below : address < granules * 4096 = grind (arith, nat_tests, parts.1) in
-    (omega arith, omega arith)
 
 -- ---- tables by their places
 

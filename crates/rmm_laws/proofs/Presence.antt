@@ -8,7 +8,7 @@ use Rattle.rmm_spec.specs.Ownership.{IsTied}
 use Rattle.rmm_spec.specs.Sound.{has_aux}
 use Rattle.rmm_spec.specs.Walk.{full, reach, table_number}
 use Rattle.spec_lemmas.proofs.WalkLaws.{reach-is_walk}
-use Rattle.rmm_laws.proofs.Entries.{value_there, leaf_fits, fitting_leaf, entry-leaf, entry-link}
+use Rattle.rmm_laws.proofs.Entries.{leaf_fits, fitting_leaf, entry-leaf, entry-link}
 use Rattle.rmm_laws.proofs.Searches.{rec_there, inside_runs}
 use Rattle.rmm_laws.specs.Presence.{HasEntry, HasWhatRowsRead}
 use Rattle.rmm_laws.proofs.Accepts.{sound-root}
@@ -16,6 +16,7 @@ use Rattle.rmm_laws.proofs.Isolation.{run-owned}
 use Rattle.rmm_laws.proofs.Owners.{AreOwned}
 use Rattle.rmm_laws.proofs.Tests.{there}
 use Rattle.rmm_laws.proofs.Ties.{tied-tag, aux-has_aux}
+use Rattle.lemmas.proofs.Options.{value_there}
 
 -- a REC_AUX granule is tied to a realm by a REC
 aux_there : (held : List Claim) (s : State) (granule : ℕ) → IsSound s → AreOwned held s → IsTrue (has_tag s granule RecAux)

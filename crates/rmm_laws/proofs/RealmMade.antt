@@ -9,10 +9,11 @@ use Rattle.rmm_spec.specs.Lookup.{has_vmid, is_owned_by}
 use Rattle.rmm_spec.specs.Change.{new_realm}
 use Rattle.rmm_spec.specs.Step.Terms.{is_space}
 use Rattle.rmm_spec.specs.Sound.{IsTableOf}
-use Rattle.rmm_laws.proofs.Cases.{by_address, by_spot, nothing_there, spot_itself, spot_other, spot_level, at_itself, some_either, none_of, left_of, left_at}
+use Rattle.rmm_laws.proofs.Cases.{by_address, by_spot, nothing_there, spot_itself, spot_other, spot_level, at_itself, some_either, left_of, left_at}
 use Rattle.rmm_laws.proofs.Kept.{recs_kept}
 use Rattle.rmm_laws.proofs.Spaces.{root_is_table, root_leaf}
 use Rattle.rmm_laws.proofs.Tags.{AreOther, has_tag-here, has_tag-elsewhere, has_tag-beside, has_tag-gone, has_tag-other, tags_apart}
+use Rattle.lemmas.proofs.Options.{none_of}
 
 -- What has no realm has no tables and leaves, so who has one is another.
 pub record IsElsewhere (s : State) (rd : ℕ) : Type 0 where

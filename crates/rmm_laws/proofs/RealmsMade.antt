@@ -1,5 +1,5 @@
 -- A realm is made with its root, or is gone with it.
-use Rattle.rmm_laws.proofs.ShapeCommon.{◌%◌, ◌*◌, ◌+◌, ◌-◌, ◌/◌, ◌<◌, ◌==◌, ◌∙◌, ◌≡◌, ◌≤◌, Bool, Config, Delegated, IsShaped, IsSound, None, Option, Rd, RealmRecord, Rtt, Some, State, Table, TableRecord, Whole, ap, arith, both_ways, by_address, cells_changed, changed, eq-eqb, eqb-true, false, false_from_ne_true, flat_state, if◌then◌else◌, inl, inr, is_same_table, is_table, leaf_in_tables, none-some, option_and_then, place_number, places_changed, put, put-elsewhere, put-here, realm_at, realm_in, realm_there, realms_of, rec_in, recs_of, refl, same_Some, side_changed, slice_get, spot_hit, subst, suc, sym, table_granule, table_in, tables_of, tags_of, true, value_there, zero, ℕ}
+use Rattle.rmm_laws.proofs.ShapeCommon.{◌%◌, ◌*◌, ◌+◌, ◌-◌, ◌/◌, ◌<◌, ◌==◌, ◌∙◌, ◌≡◌, ◌≤◌, Bool, Config, Delegated, IsShaped, IsSound, None, Option, Rd, RealmRecord, Rtt, Some, State, Table, TableRecord, Whole, ap, arith, both_ways, by_address, cells_changed, changed, eq-eqb, eqb-true, false, false_from_ne_true, flat_state, if◌then◌else◌, inl, inr, is_same_table, is_table, leaf_in_tables, none-some, option_and_then, place_number, places_changed, put, put-elsewhere, put-here, realm_at, realm_in, realm_there, realms_of, rec_in, recs_of, refl, same_Some, side_changed, slice_get, spot_hit, subst, suc, sym, table_granule, table_in, tables_of, tags_of, true, zero, ℕ, value_there}
 use Rattle.std.proofs.Common.{◌^◌, ◌⊎◌, nat_lt, ◌++◌, replicate, ne_eqb}
 use Rattle.std.proofs.lemmas.Bool.{false≢true, cases_order}
 use Rattle.std.proofs.lemmas.Nat.{pow_pos, div-mul-add}
@@ -24,6 +24,7 @@ use Rattle.rmm_laws.proofs.Leaves.{CanPutIn, table-put, leaf-put, table-put_keep
 use Rattle.rmm_laws.proofs.Slices.{halves, halves-all}
 use Rattle.rmm_laws.proofs.ShapeTies.{entry_leaf, AreListed, IsTied-shaped, well_shaped-is_sound}
 use Rattle.spec_lemmas.proofs.Maps.{put-same}
+use Rattle.rmm_laws.proofs.Facts.{root-first}
 
 -- ---- a new root
 
@@ -168,18 +169,6 @@ Makes-realm_made config w rd root width level vmid algo shaped can =
 
 -- ---- a realm whose root links to no table has no other
 
--- at the root's level it is the root
-root_alone : (s : State) (rd n g : ℕ) (r : RealmRecord) → IsSound s → s.realm rd ≡ Some r → s.table rd r.start_level n ≡ Some g → n ≡ 0
-unfolding table_size
-root_alone s rd n g r sound at there =
-    let owner = sound.tables.owned rd r.start_level n g there in
-    let same : owner.0 ≡ r = same_Some owner.0 r (sym owner.1 ∙ at) in
-    let inside : n * table_size r.start_level < full r = subst (λ (q : RealmRecord). n * table_size r.start_level < full q) same owner.2.inside in
-    elim (space_cases r.width r.start_level (sound.realms.spaces rd r at)) [
-      | inl small ↦ (let below : n * 2 ^ 39 < 2 ^ 39 = rw (small.0, small.1) at inside in omega arith)
-      | inr large ↦ (let below : n * 2 ^ 48 < 2 ^ 48 = rw (large.0, large.1) at inside in omega arith)
-    ]
-
 -- below it there is none
 none_below : (s : State) (rd : ℕ) (r : RealmRecord) → IsSound s → s.realm rd ≡ Some r → has_link s rd r.start_level 0 ≡ false
     → (k n : ℕ) (found : Option ℕ) → s.table rd (suc k + r.start_level) n ≡ found → found ≡ None
@@ -189,7 +178,7 @@ none_below s rd r sound at unlinked zero n (Some g) there =
     let level : suc zero + r.start_level ≡ suc r.start_level = omega arith in
     let here : s.table rd (suc r.start_level) n ≡ Some g = ap (λ l. s.table rd l n) (sym level) ∙ there in
     let above = value_there (s.table rd r.start_level (n / 512)) (sound.tables.below rd r.start_level n g r here at (omega arith)) in
-    let first : n / 512 ≡ 0 = root_alone s rd (n / 512) above.0 r sound at above.1 in
+    let first : n / 512 ≡ 0 = root-first s rd (n / 512) above.0 r sound at above.1 in
     let none : is_table (entry_at s rd r.start_level (512 * 0 + n)) ≡ false =
     any_below-false 512 (λ k. is_table (entry_at s rd r.start_level (512 * 0 + k))) unlinked n (omega arith) in
     let number : 512 * 0 + n ≡ n = omega arith in
@@ -219,7 +208,7 @@ lone_root s rd l n g r sound at unlinked there = by cases
     ]
 
     by : (l ≡ r.start_level) ⊎ ((k : ℕ) × (l ≡ suc k + r.start_level)) → (l ≡ r.start_level) × (n ≡ 0)
-    by (inl same) = (same, root_alone s rd n g r sound at (ap (λ x. s.table rd x n) (sym same) ∙ there))
+    by (inl same) = (same, root-first s rd n g r sound at (ap (λ x. s.table rd x n) (sym same) ∙ there))
     by (inr deeper) =
         nothing_there (none_below s rd r sound at unlinked deeper.0 n (s.table rd (suc deeper.0 + r.start_level) n) refl)
         (ap (λ x. s.table rd x n) (sym deeper.1) ∙ there)

@@ -15,10 +15,10 @@ use Rattle.rmm_laws.proofs.Searches.{rec_there}
 use Rattle.rmm_laws.specs.Whole.{cell_with_realm, side_without_rec}
 use Rattle.rmm_laws.proofs.Cells.{views_of, views_put, views_of-put, IsAt-cell, tag-cell, cell-aux}
 use Rattle.rmm_laws.proofs.Counts.{count_below-same, count_below-one}
-use Rattle.rmm_laws.proofs.Finds.{granule-number}
 use Rattle.rmm_laws.proofs.ShapeKept.{Makes, AreLike, like_put, ArePlaced-like, IsPlain, plain-delegated, plain-aux, views_put-plain, views_put-realm, delegated_there, rd_there, rec_cell_there}
 use Rattle.rmm_laws.proofs.ShapeTies.{AreListed, AreInside, IsTied-shaped, well_shaped-is_sound}
 use Rattle.spec_lemmas.proofs.Maps.{put-same}
+use Rattle.spec_lemmas.proofs.Lookups.{granule-number}
 
 -- ---- granules that hold nothing
 

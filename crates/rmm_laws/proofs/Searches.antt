@@ -4,6 +4,7 @@ use Rattle.std.proofs.Common.{◌%◌, ◌⊎◌, unwrap_or}
 use Rattle.std.proofs.lemmas.Bool.{or_parts}
 use Rattle.std.proofs.lemmas.Bool.Decides.{nat_tests}
 use Rattle.rmm_spec.specs.Lookup.{is_granule, any_below, greatest_below, is_inside, rec_inside, is_vmid_used, has_vmid, has_rec, is_owned_by}
+use Rattle.spec_lemmas.proofs.Lookups.{granule-number}
 
 -- ---- searches
 
@@ -28,15 +29,6 @@ greatest_below-by n passes false gone any earlier = rw gone (earlier (rw gone at
 pub greatest_below-passes : (n : ℕ) (passes : ℕ → Bool) → IsTrue (any_below n passes) → IsTrue (passes (greatest_below n passes))
 greatest_below-passes zero passes any = both_ways any refl
 greatest_below-passes (suc n) passes any = greatest_below-by n passes _ refl any (greatest_below-passes n passes)
-
--- a granule's address by its number
-granule-number : (granules g : ℕ) → IsTrue (is_granule granules g) → (g / 4096 < granules) × (g ≡ (g / 4096) * 4096)
-unfolding is_granule
-granule-number granules g is =
-    let parts = and_parts (g % 4096 == 0) (nat_lt g (granules * 4096)) is in
-    let multiple : g % 4096 ≡ 0 = eqb-true (g % 4096) 0 parts.0 in
-    let below : g < granules * 4096 = grind (arith, nat_tests, parts.1) in
-    (omega arith, omega arith)
 
 -- a map that has values at granules alone, where a search finds none that passes
 none_passes : {A : Type 0} (granules : ℕ) (found : ℕ → Option A) (passes : Option A → Bool) → passes None ≡ false

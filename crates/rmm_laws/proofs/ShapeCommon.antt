@@ -15,7 +15,7 @@ pub use Rattle.rmm_spec.specs.declared.{entry.Entry.Entry, entry.Entry.TheVarian
 pub use Rattle.lemmas.proofs.Tests.{both_ways}
 pub use Rattle.spec_lemmas.proofs.Maps.{put-elsewhere, put-here}
 pub use Rattle.rmm_laws.proofs.Cases.{by_address, spot_hit}
-pub use Rattle.rmm_laws.proofs.Entries.{value_there}
 pub use Rattle.rmm_laws.proofs.Searches.{realm_there}
 unfoldable pub use Rattle.rmm_laws.specs.{Whole.cells_changed, Whole.places_changed, Whole.side_changed}
 pub use Rattle.rmm_laws.specs.Whole.{IsShaped, Whole}
+pub use Rattle.lemmas.proofs.Options.{value_there}

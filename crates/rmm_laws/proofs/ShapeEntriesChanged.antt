@@ -1,5 +1,5 @@
 -- Entries of one table are changed, with the tag of a page and with records.
-use Rattle.rmm_laws.proofs.ShapeCommon.{◌*◌, ◌+◌, ◌/◌, ◌∙◌, ◌≡◌, Cell, Config, Delegated, Entry, IsShaped, IsSound, List, None, Option, Rd, RealmRecord, Rec, RecRecord, Rtt, Some, State, Table, TableRecord, Whole, ap, by_address, cells_changed, changed, flat_state, inl, inr, none-some, place_number, places_changed, put, realm_at, realm_in, realms_of, rec_in, recs_of, refl, same_Some, side_changed, slice_get, subst, suc, sym, table_granule, table_in, tables_of, value_there, ℕ}
+use Rattle.rmm_laws.proofs.ShapeCommon.{◌*◌, ◌+◌, ◌/◌, ◌∙◌, ◌≡◌, Cell, Config, Delegated, Entry, IsShaped, IsSound, List, None, Option, Rd, RealmRecord, Rec, RecRecord, Rtt, Some, State, Table, TableRecord, Whole, ap, by_address, cells_changed, changed, flat_state, inl, inr, none-some, place_number, places_changed, put, realm_at, realm_in, realms_of, rec_in, recs_of, refl, same_Some, side_changed, slice_get, subst, suc, sym, table_granule, table_in, tables_of, ℕ, value_there}
 use Rattle.rmm_spec.specs.declared.change.Change.TheVariants.{EntriesChanged}
 use Rattle.rmm_spec.specs.declared.change.EntryChange.{EntryChange}
 use Rattle.rmm_spec.specs.declared.change.EntryChange.TheVariants.{Replaced, RipasSet}
@@ -11,10 +11,10 @@ use Rattle.rmm_spec.specs.Lookup.{rec_at}
 use Rattle.rmm_spec.specs.Change.{with_realm_change, with_rec_change, with_tag_change, with_entry_change}
 use Rattle.rmm_spec.specs.Applicable.{CanChangeEntries, CanChangeRealm, CanChangeRec}
 use Rattle.rmm_spec.specs.Cell.{Data}
-use Rattle.rmm_laws.proofs.Entries.{leaf_there}
+use Rattle.rmm_laws.proofs.Entries.{leaf_there, fitting_leaf}
 use Rattle.rmm_laws.specs.Whole.{cell_with_tag, cell_with_realm, cell_with_rec, cells_with_entries, cells_with_tag_change, cells_with_realm_change, cells_with_rec_change, changed_at, table_changed, entries_changed}
 use Rattle.rmm_laws.proofs.Cells.{Views, views_of, tag-cell, cell-data, cell-table}
-use Rattle.rmm_laws.proofs.EntriesSet.{with_entries, IsRewritten, leaf-no_link, replaced_entries, ripas_entries}
+use Rattle.rmm_laws.proofs.EntriesSet.{with_entries, IsRewritten, replaced_entries, ripas_entries}
 use Rattle.rmm_laws.proofs.Finds.{table_granule-holds, table_granule-kept}
 use Rattle.rmm_laws.proofs.ShapeKept.{Makes, plain-delegated, plain-data, AreListed-like, ArePlaced-like, delegated_there, rd_there, rec_cell_there}
 use Rattle.rmm_laws.proofs.Leaves.{ArePlaced-entries}
@@ -123,7 +123,7 @@ entry_change_is config cells rd level (Replaced number entry) page placed can =
       is_held = held.is_held;
       rewritten = replaced_entries config.granules (tables_of cells) found.0 held.table rd level number entry placed.found held.is_held
           (record { is_realm = held.is_realm; is_level = held.is_level; is_number = held.is_number }) (placed.whole found.0 held.table held.is_held)
-          (leaf-no_link entry _ level number can.0.kind);
+          (fitting_leaf entry _ level number can.0.kind);
     }
 entry_change_is config cells rd level (RipasSet first last ripas) page placed can =
     let found = value_there (table_granule config.granules (tables_of cells) rd level (first / 512)) can.0.table in

@@ -16,6 +16,7 @@ use Rattle.rmm_laws.specs.Whole.{cell_with_realm, cell_with_rec, cells_with_real
 use Rattle.rmm_laws.proofs.Cells.{Views, views_of, views_of-put, IsAt-cell}
 use Rattle.rmm_laws.proofs.ShapeTies.{AreInside, IsTied-shaped, well_shaped-is_sound}
 use Rattle.rmm_laws.proofs.ShapeKept.{Makes, AreLike, AreOwnedAlike, like_put, like_same, alike_put, IsTied-records, rd_there, rec_cell_there, views_put-realm, views_put-rec}
+use Rattle.lemmas.proofs.Options.{value_there}
 
 -- ---- cells
 
@@ -179,10 +180,6 @@ inside_left places recs a cpu old new there on out inside other rec rd = (
       ∙ at) runs.is_rec,
 )
 
-some_is : {A : Type 0} (found : Option A) → IsTrue (is_some found) → (x : A) × (found ≡ Some x)
-some_is None there = both_ways there refl
-some_is (Some x) there = (x, refl)
-
 none_is : {A : Type 0} (found : Option A) → IsTrue (is_none found) → found ≡ None
 none_is None there = refl
 none_is (Some x) there = both_ways there refl
@@ -197,7 +194,7 @@ updated_inside (rec_update.Entered cpu) config cells places a old sound there ca
     inside_entered places (recs_of cells) a cpu old _ there refl
     (none_is old.cpu can.0) refl (none_runs (flat_state config cells) cpu sound can.1) inside
 updated_inside rec_update.Exited config cells places a old sound there can inside =
-    let on = some_is old.cpu can in
+    let on = value_there old.cpu can in
     subst (λ o. AreInside (places_left places o) (put (recs_of cells) a (Some (rec_updated rec_update.Exited old)))) (sym on.1)
     (inside_left places (recs_of cells) a on.0 old _ there on.1 refl inside)
 updated_inside (rec_update.RipasRequested base top ripas) config cells places a old sound there can inside =

@@ -1,5 +1,5 @@
 -- A well-shaped whole is one that stands for a sound state and whose side table, tables and places are tied to it.
-use Rattle.rmm_laws.proofs.ShapeCommon.{◌%◌, ◌*◌, ◌+◌, ◌/◌, ◌<◌, ◌∙◌, ◌≡◌, ◌≤◌, Bool, Cell, Config, CpuPlace, Entry, IsSound, IsTrue, List, None, Option, RealmRecord, RecRecord, Some, Table, TableRecord, ap, arith, both_ways, eqb-true, false, flat_state, if◌then◌else◌, inl, inr, is_granule, is_table, leaf_in_tables, length, none-some, option_and_then, place_number, realms_of, recs_of, refl, same_Some, slice_get, subst, suc, sym, table_granule, table_in, tables_of, tag_of, true, value_there, ℕ}
+use Rattle.rmm_laws.proofs.ShapeCommon.{◌%◌, ◌*◌, ◌+◌, ◌/◌, ◌<◌, ◌∙◌, ◌≡◌, ◌≤◌, Bool, Cell, Config, CpuPlace, Entry, IsSound, IsTrue, List, None, Option, RealmRecord, RecRecord, Some, Table, TableRecord, ap, arith, both_ways, eqb-true, false, flat_state, if◌then◌else◌, inl, inr, is_granule, is_table, leaf_in_tables, length, none-some, option_and_then, place_number, realms_of, recs_of, refl, same_Some, slice_get, subst, suc, sym, table_granule, table_in, tables_of, tag_of, true, ℕ, value_there}
 use Rattle.std.proofs.Common.{◌↔◌, ◌⊎◌, ◌||◌, is_some}
 use Rattle.std.proofs.lemmas.Bool.{false≢true, or_left, or_right}
 use Rattle.std.proofs.lemmas.Option.{option_and_then_some, slice_get_cases}
@@ -157,7 +157,7 @@ runs_on-parts recs cpu g (Some c) at runs = (c.owner, record { it = c; is_rec = 
     on None is = absurd (false≢true is)
     on (Some other) is = ap Some (eqb-true other cpu is)
 
-same_inside : (a b c d : ℕ) → Inside a b ≡ Inside c d → a ≡ c
+pub same_inside : (a b c d : ℕ) → Inside a b ≡ Inside c d → a ≡ c
 same_inside a b c d same = cc
 
 recs-sound : (config : Config) (side : Side) (places : ℕ → CpuPlace) (cells : ℕ → Cell) → IsWellShaped config side places cells

@@ -1,5 +1,5 @@
 -- A whole that stands for a sound state, and is tied to it, is well shaped.
-use Rattle.rmm_laws.proofs.ShapeCommon.{◌%◌, ◌*◌, ◌+◌, ◌/◌, ◌<◌, ◌∙◌, ◌≡◌, ◌≤◌, Cell, Config, CpuPlace, Entry, IsSound, Option, RealmRecord, Some, Table, TableRecord, ap, arith, both_ways, false, flat_state, inl, inr, is_table, leaf_in_tables, place_number, realms_of, recs_of, refl, same_Some, slice_get, subst, suc, sym, table_granule, tables_of, value_there, ℕ}
+use Rattle.rmm_laws.proofs.ShapeCommon.{◌%◌, ◌*◌, ◌+◌, ◌/◌, ◌<◌, ◌∙◌, ◌≡◌, ◌≤◌, Cell, Config, CpuPlace, Entry, IsSound, Option, RealmRecord, Some, Table, TableRecord, ap, arith, both_ways, false, flat_state, inl, inr, is_table, leaf_in_tables, place_number, realms_of, recs_of, refl, same_Some, slice_get, subst, suc, sym, table_granule, tables_of, ℕ, value_there}
 use Rattle.std.proofs.lemmas.Option.{slice_get_within}
 use Rattle.rmm_spec.specs.declared.entry.Entry.TheVariants.{Assigned}
 use Rattle.rmm_spec.specs.declared.tag.Ripas.{Ripas}

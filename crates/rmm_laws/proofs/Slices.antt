@@ -116,9 +116,6 @@ ripas-is_link ripas _ child same = same
 
 -- ---- as leaves
 
-pub entry_leaf-of : (entries : List Entry) (i : ℕ) (e : Entry) → slice_get entries i ≡ Some e → is_table e ≡ false → entry_leaf entries i ≡ Some e
-entry_leaf-of entries i e at leaf = rw at (rw leaf refl)
-
 pub entry_leaf-link : (entries : List Entry) (i : ℕ) (child : ℕ) → slice_get entries i ≡ Some (Table child) → entry_leaf entries i ≡ None
 entry_leaf-link entries i child at = rw at refl
 

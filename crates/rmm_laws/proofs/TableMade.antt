@@ -4,9 +4,10 @@ use Rattle.std.proofs.Common.{◌||◌, add-one}
 use Rattle.rmm_spec.specs.Update.{with_table, without_table, is_same_entry}
 use Rattle.rmm_spec.specs.Sound.{IsTableOf}
 use Rattle.rmm_spec.specs.Applicable.{IsVacant}
-use Rattle.rmm_laws.proofs.Cases.{by_spot, nothing_there, spot_hit, spot_level, some_either, none_of, left_of, by_two}
+use Rattle.rmm_laws.proofs.Cases.{by_spot, nothing_there, spot_hit, spot_level, some_either, left_of, by_two}
 use Rattle.rmm_laws.proofs.Kept.{realms_kept, recs_kept}
 use Rattle.rmm_laws.proofs.Spaces.{copies_fit}
+use Rattle.lemmas.proofs.Options.{none_of}
 
 -- an entry that keeps no table in use names no page
 vacant_unassigned : (e : Entry) (ripas : Ripas) (granule : ℕ) → IsVacant e → e ≡ Assigned ripas granule → ⊥

@@ -1,5 +1,5 @@
 -- A table is put in below an entry of another, or is taken out.
-use Rattle.rmm_laws.proofs.ShapeCommon.{◌%◌, ◌*◌, ◌+◌, ◌-◌, ◌/◌, ◌<◌, ◌==◌, ◌∙◌, ◌≡◌, Bool, Cell, Config, Delegated, Entry, IsShaped, List, None, Option, RealmRecord, Rtt, Some, State, Table, TableRecord, Whole, ap, arith, both_ways, by_address, cells_changed, changed, eq-eqb, eqb-true, false, false_from_ne_true, flat_state, if◌then◌else◌, is_same_table, is_table, leaf_in_tables, length, none-some, place_number, places_changed, put, put-elsewhere, realm_at, realm_in, realm_there, realms_of, rec_in, recs_of, refl, same_Some, side_changed, slice_get, spot_hit, subst, suc, sym, table_granule, table_in, tables_of, tags_of, true, value_there, zero, ℕ}
+use Rattle.rmm_laws.proofs.ShapeCommon.{◌%◌, ◌*◌, ◌+◌, ◌-◌, ◌/◌, ◌<◌, ◌==◌, ◌∙◌, ◌≡◌, Bool, Cell, Config, Delegated, Entry, IsShaped, List, None, Option, RealmRecord, Rtt, Some, State, Table, TableRecord, Whole, ap, arith, both_ways, by_address, cells_changed, changed, eq-eqb, eqb-true, false, false_from_ne_true, flat_state, if◌then◌else◌, is_same_table, is_table, leaf_in_tables, length, none-some, place_number, places_changed, put, put-elsewhere, realm_at, realm_in, realm_there, realms_of, rec_in, recs_of, refl, same_Some, side_changed, slice_get, spot_hit, subst, suc, sym, table_granule, table_in, tables_of, tags_of, true, zero, ℕ, value_there}
 use Rattle.std.proofs.Common.{replicate, is_some, slice_set, ne_eqb, mul-div_cancel}
 use Rattle.std.proofs.lemmas.List.{length-set, length-replicate}
 use Rattle.std.proofs.lemmas.Nat.{pow_pos}
@@ -11,15 +11,15 @@ use Rattle.rmm_spec.specs.Walk.{table_size, table_number, entry_at}
 use Rattle.rmm_spec.specs.Applicable.{CanMakeTable, CanDestroyTable}
 use Rattle.spec_lemmas.proofs.TagLaws.{granule_from_tag}
 use Rattle.rmm_laws.proofs.Cases.{choice, left_of}
-use Rattle.rmm_laws.proofs.Entries.{leaf_there}
+use Rattle.rmm_laws.proofs.Entries.{leaf_there, fitting_leaf}
 use Rattle.rmm_laws.specs.Whole.{cell_with_entries, cells_with_entries, cells_with_table, changed_at, width_in, copied_table}
 use Rattle.rmm_laws.proofs.Cells.{views_of, views_put, views_of-put, IsAt-cell, cell-table}
-use Rattle.rmm_laws.proofs.EntriesSet.{with_entries, leaf-no_link, no_link-child, set_links, leaf-set_here, leaf-set_elsewhere}
+use Rattle.rmm_laws.proofs.EntriesSet.{with_entries, no_link-child, set_links, leaf-set_here, leaf-set_elsewhere}
 use Rattle.rmm_laws.proofs.Finds.{AreFound, IsPlaced, same_place, table_granule-holds, table_granule-kept, table_granule-taken}
 use Rattle.rmm_laws.proofs.ShapeKept.{Makes, delegated_there, views_put-table}
 use Rattle.rmm_laws.proofs.Leaves.{CanPutIn, table-put, leaf-put, table-put_keeps, AreFound-entries, ArePlaced-entries, ArePlaced-put, leaf-taken, table-taken_keeps, ArePlaced-taken}
-use Rattle.rmm_laws.proofs.Slices.{slice_get-set_same, slice_get-set_other, slice_get-copies, copies-all, entry_leaf-of, entry_leaf-link}
-use Rattle.rmm_laws.proofs.ShapeTies.{entry_leaf, number-again, ArePlaced, IsTied-shaped, well_shaped-is_sound}
+use Rattle.rmm_laws.proofs.Slices.{slice_get-set_same, slice_get-set_other, slice_get-copies, copies-all, entry_leaf-link}
+use Rattle.rmm_laws.proofs.ShapeTies.{entry_leaf, number-again, ArePlaced, IsTied-shaped, well_shaped-is_sound, entry_leaf-some}
 use Rattle.spec_lemmas.proofs.Maps.{put-same}
 
 -- ---- the table above
@@ -176,7 +176,7 @@ Makes-table_made config w rd (suc up) number rtt entry shaped can =
         ≡ (if b then Some entry
         else (if is_same_entry rd (suc up) number other (l + 1) n then None else leaf_in_tables config.granules (tables_of w.cells) other l n))
     leaves t its leaf found other l n true =
-        entry_leaf-of (replicate 512 entry) (n % 512) entry (slice_get-copies 512 entry (n % 512) (omega arith)) leaf
+        entry_leaf-some (replicate 512 entry) (n % 512) entry (slice_get-copies 512 entry (n % 512) (omega arith)) leaf
     leaves {above} t its leaf found other l n false =
         let now =
         leaf_in_tables config.granules (put (tables_of w.cells) above (Some (with_entries t (slice_set t.entries (number % 512) (Table rtt))))) in
@@ -250,7 +250,7 @@ Makes-table_destroyed config w rd (suc up) number rtt entry shaped can =
     let is_above = above_is config.granules (realms_of cells) tables rd up number above old.tables parent.1 in
     let t : TableRecord = is_above.0 in
     let its = is_above.1 in
-    let no_link : is_table entry ≡ false = leaf-no_link entry r (suc up - 1) number can.kind in
+    let no_link : is_table entry ≡ false = fitting_leaf entry r (suc up - 1) number can.kind in
     let held = table_granule-holds config.granules tables rd (suc up) number rtt can.there in
     let gone : TableRecord = held.table in
     let gone_placed : IsPlaced gone rd (suc up) number = record { is_realm = held.is_realm; is_level = held.is_level; is_number = held.is_number } in
@@ -353,7 +353,7 @@ Makes-table_destroyed config w rd (suc up) number rtt entry shaped can =
         let at : l ≡ up = omega (arith, next) in
         (λ i. now (here i) (at i) (first i))
         ∙ leaf-set_here config.granules (tables_of w.cells) above t rd up number entry found its.is_held its.placed
-        ∙ entry_leaf-of (slice_set t.entries (number % 512) entry) (number % 512) entry
+        ∙ entry_leaf-some (slice_set t.entries (number % 512) entry) (number % 512) entry
         (slice_get-set_same t.entries (number % 512) entry its.below) leaf))
         (λ miss. leaf-set_elsewhere config.granules
         (tables_of w.cells) above t rd up number entry found its.is_held its.placed other l n (level_up rd up number other l n miss))

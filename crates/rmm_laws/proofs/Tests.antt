@@ -12,11 +12,6 @@ pub kept_unless : {A : Type 0} {Q : Type 0} (P : A → Type 0) (b : Bool) (x y :
 kept_unless P true x y is hit = hit refl
 kept_unless P false x y is hit = is
 
--- what has a value is that value
-pub some_value : {A : Type 0} (found : Option A) → is_some found ≡ true → (x : A) × (found ≡ Some x)
-some_value None some = both_ways some refl
-some_value (Some x) some = (x, refl)
-
 -- what is some value is there
 pub there : {A : Type 0} {found : Option A} {x : A} → found ≡ Some x → is_some found ≡ true
 there is = rw is refl

@@ -6,6 +6,7 @@ use Rattle.rmm_spec.specs.State.{RecRecord}
 use Rattle.rmm_spec.specs.Sound.{has_aux}
 use Rattle.rmm_spec.specs.Ownership.{IsTied}
 use Rattle.rmm_laws.proofs.Tests.{there, same_value}
+use Rattle.lemmas.proofs.Tests.{or_second}
 
 -- a tag that no realm's granule has
 abbrev pub IsUnused : Tag → Type 0
@@ -31,11 +32,6 @@ role_used s _ granule realm tied unused = elim unused [ inl bad ↦ cc | inr bad
 pub tied-used : (s : State) (role : Tag) (granule realm : ℕ) → IsSound s → IsTied role s granule realm → IsUnused (s.tag granule) → ⊥
 tied-used s role granule realm sound tied unused =
     role_used s role granule realm tied (subst IsUnused (tag-has_tag s granule role (tied-tag s role granule realm sound tied)) unused)
-
--- one of two tests holds where the second does
-or_second : (a b : Bool) → b ≡ true → (a || b) ≡ true
-or_second true b second = refl
-or_second false b second = second
 
 -- a REC has the one or the other auxiliary granule
 aux_is : (r : RecRecord) (granule : ℕ) → (r.aux0 ≡ granule) ⊎ (r.aux1 ≡ granule) → (r.aux0 == granule || r.aux1 == granule) ≡ true

@@ -45,7 +45,7 @@ half_below r space = elim (space_cases r.width r.start_level space) [
 ]
 
 -- a root covers every address of its realm
-root_number : (r : RealmRecord) → IsTrue (is_space r.width r.start_level) → (ipa : ℕ) → ipa < full r → table_number r.start_level ipa ≡ 0
+pub root_number : (r : RealmRecord) → IsTrue (is_space r.width r.start_level) → (ipa : ℕ) → ipa < full r → table_number r.start_level ipa ≡ 0
 unfolding table_number table_size
 root_number r space ipa below = elim (space_cases r.width r.start_level space) [
   | inl small ↦ (let within : ipa < 2 ^ 39 = rw small.0 at below in rw small.1 (omega arith))

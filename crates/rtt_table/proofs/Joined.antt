@@ -13,6 +13,7 @@ use Rattle.rmm_spec.specs.Walk.{entry_address}
 use Rattle.rmm_spec.specs.Table.{entries_with_ripas}
 use Rattle.rtt_table.specs.declared.kind.Kind.{Kind}
 use Rattle.rtt_table.specs.Columns.{kind_of, entry_from, kind_with_ripas, joined, AreColumns}
+use Rattle.lemmas.proofs.Elements.{map-copies}
 
 -- an entry is that of its kind and its address
 pub entry_back : (e : Entry) → entry_from (kind_of e) (entry_address e) ≡ e
@@ -36,11 +37,6 @@ pub columns_held : (entries : List Entry) (kinds : List Kind) (addresses : List 
     → (length (joined kinds addresses) ≡ 512) × AreColumns (joined kinds addresses) kinds addresses
 columns_held entries kinds addresses size columns =
     subst (λ (xs : List Entry). (length xs ≡ 512) × AreColumns xs kinds addresses) (sym (joined_is entries kinds addresses columns)) (size, columns)
-
--- what copies of one element tell is copies of what it tells
-map-copies : {X Y : Type 0} (f : X → Y) (n : ℕ) (x : X) → map f (replicate n x) ≡ replicate n (f x)
-map-copies f zero x = refl
-map-copies f (suc n) x = ap (λ ys. f x ∷ ys) (map-copies f n x)
 
 -- those of copies of one entry and copies of another
 pub columns-halves : (n m : ℕ) (lower upper : Entry)

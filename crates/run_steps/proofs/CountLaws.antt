@@ -57,9 +57,3 @@ counted_few counts told place below counted =
 -- at first nothing is counted
 pub AreCounted-none : (counts : List ℕ) → counts ≡ replicate place_count 0 → AreCounted counts []
 AreCounted-none counts same place below = ap (λ (xs : List ℕ). get_or xs place 0) same ∙ get_or-replicate place_count place 0 0 below
-
--- an element that is there is the same whatever stands for one that isn't
-pub get_or-other : (xs : List ℕ) (i d e : ℕ) → i < length xs → get_or xs i d ≡ get_or xs i e
-get_or-other [] i d e within = absurd (omega arith)
-get_or-other (x ∷ xs) zero d e within = refl
-get_or-other (x ∷ xs) (suc i) d e within = get_or-other xs i d e (omega arith)

@@ -5,7 +5,7 @@ use Rattle.toml.specs.Data.{Members}
 use Rattle.rmm_spec.specs.declared.command.Command.{Command}
 use Rattle.rmm_spec.specs.CommandText.{IsCommand, command_parts, command_text}
 use Rattle.rmm_spec.specs.Text.{parts_of}
-use Rattle.spec_lemmas.proofs.Texts.{parts_of-line_text, command_parts-are_parts, command_parts-some, command_parts-injective, bytes_apart}
+use Rattle.spec_lemmas.proofs.Texts.{parts_of-line_text, command_parts-are_parts, command_parts-some, command_parts-injective}
 use Rattle.rmm_spec.specs.declared.turn.Due.{Due}
 use Rattle.rmm_spec.specs.declared.turn.Will.{Will}
 use Rattle.rmm_spec.specs.declared.turn.Will.TheVariants.{Go, GiveUp, Stop}
@@ -15,6 +15,7 @@ use Rattle.rmm_spec.specs.Scenario.{Stated, Scenario, IsStatedBy, turn_text, ver
 use Rattle.scenario.specs.ScenarioText.{IsScenarioText, StatesScenario}
 use Rattle.scenario.proofs.OneAnswer.{same_members, same_stated}
 use Rattle.scenario.proofs.TurnTexts.{turn_text-digit}
+use Rattle.lemmas.proofs.Tests.{keys_apart}
 
 -- Values that each have a text of their own are told by their texts.
 map-injective : {X Y : Type 0} (f : X → Y) (P : X → Type 0) → ((x y : X) → P x → P y → f x ≡ f y → x ≡ y)
@@ -45,9 +46,9 @@ will_text-injective Stop Stop same = refl
 will_text-injective Go GiveUp same = absurd (cc)
 will_text-injective Go Stop same = absurd (cc)
 will_text-injective GiveUp Go same = absurd (cc)
-will_text-injective GiveUp Stop same = absurd (bytes_apart 103 115 refl (ap (λ text. get_or text 1 0) same))
+will_text-injective GiveUp Stop same = absurd (keys_apart 103 115 refl (ap (λ text. get_or text 1 0) same))
 will_text-injective Stop Go same = absurd (cc)
-will_text-injective Stop GiveUp same = absurd (bytes_apart 115 103 refl (ap (λ text. get_or text 1 0) same))
+will_text-injective Stop GiveUp same = absurd (keys_apart 115 103 refl (ap (λ text. get_or text 1 0) same))
 
 turn_text-injective : (cpus : ℕ) → cpus ≤ 8 → (s t : Due) → s.cpu < cpus → t.cpu < cpus → turn_text s ≡ turn_text t → s ≡ t
 turn_text-injective cpus few s t low-s low-t same =

@@ -21,16 +21,6 @@ use Rattle.slicing.specs.Calls.{HasAnswer, IsCallAt, back_of, events_to, place_b
 use Rattle.slicing.specs.Cuts.{ReturnFits}
 use Rattle.slicing.specs.Plans.{number_at}
 
--- each call of a history has one place, and one return
-pub HasOnePlaces-history : (history : History) → IsHistory history → HasOnePlaces history.events
-HasOnePlaces-history history is_history = record {
-  one_call = λ place other cpu number command made.
-      one_call_place cpu number history.events place other command made (is_history.records cpu);
-  one_return = λ place other cpu number given told.
-      one_return_place cpu number history.events place other given told (is_history.records cpu);
-  is_known = λ cpu number. finished_is_known cpu number history.events (is_history.records cpu);
-}
-
 -- the call that is found at a place is made there
 pub made_at : (events : List Event) (place : ℕ) (c : CallAt) (at : IsCallAt events place c) → IsCalled events place c.cpu c.number at.1.0
 made_at events place c at = subst (λ (p : ℕ). IsCalled events p c.cpu c.number at.1.0) at.0 at.1.1.is_called

@@ -14,7 +14,7 @@ use Rattle.rmm_spec.specs.HistoryText.{History, IsHistory}
 use Rattle.rmm_spec.specs.Linearization.{IsCalled, IsReturned}
 use Rattle.rmm_spec.specs.Rows.{Needed}
 use Rattle.rmm_spec.specs.Step.Terms.{named}
-use Rattle.spec_lemmas.proofs.Calls.{HasOnePlaces}
+use Rattle.spec_lemmas.proofs.Calls.{HasOnePlaces, HasOnePlaces-from_history}
 use Rattle.verdict_laws.specs.Looking.{is_looking_function}
 use Rattle.verdict_laws.specs.Slices as slices
 use Rattle.verdict_laws.proofs.CallOrder.{call_before_return, returns_before_later}
@@ -24,7 +24,7 @@ use Rattle.slicing.specs.declared.plan.Plan.{Plan}
 use Rattle.slicing.specs.Calls.{HasAnswer, IsCall}
 use Rattle.slicing.specs.Cuts.{AreEarly, EventFits, FitsNumber, IsEnteredAt, IsKeptAt, IsLeftAt, KnowsOf}
 use Rattle.slicing.specs.Plans.{AreNoted, entered_at, mark_of, number_at}
-use Rattle.slicing.proofs.CallLaws.{HasOnePlaces-history, IsBack-before, each_given}
+use Rattle.slicing.proofs.CallLaws.{IsBack-before, each_given}
 use Rattle.slicing.proofs.PlanLaws.{entered_at-before, from-kept, number_at-before}
 
 module _ (history : History) (is_history : IsHistory history) (plan : Plan)
@@ -48,7 +48,7 @@ module _ (history : History) (is_history : IsHistory history) (plan : Plan)
 
   -- each call has one place, and one return
   one : HasOnePlaces history.events
-  one = HasOnePlaces-history history is_history
+  one = HasOnePlaces-from_history history is_history
 
   -- ---- what is asked of a call from the plan's first place on
 

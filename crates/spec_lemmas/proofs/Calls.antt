@@ -1,5 +1,5 @@
 -- Calls and their places: each call has one place and one return, so what is said of a call is determined.
-use Rattle.std.proofs.Common.{◌≡◌, ℕ, List, Some, sym, ◌∙◌, ap}
+use Rattle.std.proofs.Common.{◌≡◌, ℕ, List, Some, sym, ◌∙◌, ap, [], ◌∷◌, ◌++◌, ◌⊎◌, inl, inr}
 use Rattle.std.specs.List.{slice_get}
 use Rattle.rmm_spec.specs.declared.command.Command.{Command}
 use Rattle.rmm_spec.specs.declared.event.Event.{Event}
@@ -8,7 +8,10 @@ use Rattle.rmm_spec.specs.declared.line.Line.{Line}
 use Rattle.rmm_spec.specs.declared.line.Line.TheVariants.{Keep, Unfinished}
 use Rattle.rmm_spec.specs.declared.reply.Reply.{Reply}
 use Rattle.rmm_spec.specs.Run.{JournalEntry}
-use Rattle.rmm_spec.specs.Linearization.{IsCalled, IsReturned, IsKnown, IsFinished, IsReplyOf, IsEntryOf, cpu_named, number_named}
+use Rattle.rmm_spec.specs.Linearization.{IsCalled, IsReturned, IsKnown, IsFinished, IsReplyOf, IsEntryOf, cpu_named, number_named, IsNamed}
+use Rattle.rmm_spec.specs.HistoryText.{History, IsHistory}
+use Rattle.spec_lemmas.proofs.Places.{one_call_place, one_return_place, finished_is_known}
+use Rattle.lemmas.proofs.Elements.{slice_get_push_cases}
 
 -- each call has one place and at most one return, and no return is of a call that nobody made
 pub record HasOnePlaces (events : List Event) : Type 0 where
@@ -70,3 +73,19 @@ same_entry events one line entry other here there = record {
       (number_named line) entry.command other.command here.is_called there.is_called;
   given = same_reply events one line entry.given other.given here.given there.given;
 }
+
+-- a history has one place for each call and each return
+pub HasOnePlaces-from_history : (history : History) → IsHistory history → HasOnePlaces history.events
+HasOnePlaces-from_history history is_history = record {
+  one_call = λ place other cpu number command made. one_call_place cpu number history.events place other command made (is_history.records cpu);
+  one_return = λ place other cpu number given told. one_return_place cpu number history.events place other given told (is_history.records cpu);
+  is_known = λ cpu number. finished_is_known cpu number history.events (is_history.records cpu);
+}
+
+-- there is no other
+pub IsNamed-push_cases : (lines : List Line) (line : Line) (cpu number : ℕ) → IsNamed (lines ++ line ∷ []) cpu number
+    → IsNamed lines cpu number ⊎ ((cpu_named line ≡ cpu) × (number_named line ≡ number))
+IsNamed-push_cases lines line cpu number named = elim (slice_get_push_cases lines line named.0 named.1 named.2) [
+  | inl old ↦ inl (named.0, named.1, old, named.3, named.4)
+  | inr new ↦ inr (sym (ap cpu_named new.1) ∙ named.3, sym (ap number_named new.1) ∙ named.4)
+]

@@ -17,3 +17,4 @@ pub mod LineOf
 pub mod TableSearches
 pub mod FlatTables
 pub mod WalkPaths
+pub mod Lookups

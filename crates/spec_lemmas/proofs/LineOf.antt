@@ -11,7 +11,7 @@ use Rattle.rmm_spec.specs.declared.reply.Reply.{Reply}
 use Rattle.rmm_spec.specs.Linearization.{IsReturned, IsFinished}
 use Rattle.rmm_spec.specs.World.{Commitment, is_return_of, line_for}
 
-is_return_of-returned : (cpu number : ℕ) (given : Reply) → is_return_of cpu number (Returned cpu number given) ≡ true
+pub is_return_of-returned : (cpu number : ℕ) (given : Reply) → is_return_of cpu number (Returned cpu number given) ≡ true
 is_return_of-returned cpu number given = rw (eq-eqb cpu cpu refl, eq-eqb number number refl) refl
 
 -- a recorded return keeps the line

@@ -7,6 +7,7 @@ use Rattle.std.proofs.lemmas.Option.{slice_get_within, get_or_from_slice_get, sl
 use Rattle.std.proofs.lemmas.List.Elements.{All-contains, All-contains_itself, All-filter, All-map, All-weaker}
 use Rattle.rmm_spec.specs.Cell.{Cell, put}
 use Rattle.rmm_spec.specs.Local.{HeldCell, granules_held, put_all}
+use Rattle.lemmas.proofs.Members.{Contains-head, Contains-tail}
 
 -- nothing is in an empty list
 pub Contains-nil : {X : Type 0} (x : X) → Contains [] x → ⊥
@@ -90,13 +91,6 @@ cell_held cells taken granule has = Contains-map (λ (g : ℕ). record { granule
 pub granules_held-cells_at : (cells : ℕ → Cell) (taken : List ℕ) → granules_held (cells_at cells taken) ≡ taken
 granules_held-cells_at cells [] = refl
 granules_held-cells_at cells (granule ∷ taken) = ap (λ rest. granule ∷ rest) (granules_held-cells_at cells taken)
-
--- the head and the others of a list are its members
-pub Contains-head : {X : Type 0} (x : X) (xs : List X) → Contains (x ∷ xs) x
-Contains-head x xs = (0, omega arith, refl)
-
-pub Contains-tail : {X : Type 0} (x : X) (xs : List X) (y : X) → Contains xs y → Contains (x ∷ xs) y
-Contains-tail x xs y has = (suc has.0, omega (arith, has.1), has.2)
 
 -- a granule that isn't among those put in keeps its cell
 pub put_all-other : (held : List HeldCell) (cells : ℕ → Cell) (granule : ℕ) → (Contains (granules_held held) granule → ⊥)

@@ -302,3 +302,8 @@ pub call_is_event : (history : History) (place cpu number : ℕ) (command : Comm
     → IsCalled history.events place cpu number command → (cpu < history.config.cpus) × IsCommand command
 call_is_event history place cpu number command is_history is_called =
     IsEvent-slice_get history.config.cpus history.events place (Called cpu number command) is_history.events is_called
+
+-- an event that has a text is of one of the CPUs
+pub cpu_below : (cpus : ℕ) (event : Event) → IsEvent cpus event → cpu_of event < cpus
+cpu_below cpus (Called cpu number command) is_event = is_event.0
+cpu_below cpus (Returned cpu number given) is_event = is_event.0

@@ -18,12 +18,13 @@ use Rattle.rmm_spec.specs.declared.line.Line.TheVariants.{Keep, Unfinished}
 use Rattle.rmm_spec.specs.declared.reply.Reply.{Reply}
 use Rattle.rmm_spec.specs.declared.reply.Reply.TheVariants as reply
 use Rattle.rmm_spec.specs.CertificateText.{line_parts}
-use Rattle.rmm_spec.specs.CommandText.{command_parts, reply_parts}
+use Rattle.rmm_spec.specs.CommandText.{command_parts, reply_parts, IsCommand}
 use Rattle.rmm_spec.specs.Function.{functions, number_of}
 use Rattle.rmm_spec.specs.declared.version.Version.{Version}
 use Rattle.rmm_spec.specs.declared.version.Version.TheVariants.{One, Two, Large}
 use Rattle.rmm_spec.specs.HistoryText.{Config, mark, config_parts, event_parts}
 use Rattle.rmm_spec.specs.Text.{glyph, numeral, decimal, word, fixed_hex, line_text, parts_of}
+use Rattle.lemmas.proofs.Tests.{keys_apart}
 
 -- a byte that ends neither a part nor a line
 abbrev pub IsPlain : ℕ → Type 0
@@ -181,7 +182,7 @@ IsPart-from_test byte bytes h = record { some = omega arith; plain = plain_from_
 
 -- ---- lines
 
-not_spaces : (bytes : List ℕ) → AllByRecursion IsPlain bytes → All (λ byte. (byte == 32) ≡ false) bytes
+pub not_spaces : (bytes : List ℕ) → AllByRecursion IsPlain bytes → All (λ byte. (byte == 32) ≡ false) bytes
 not_spaces bytes h =
     All-weaker IsPlain (λ byte. (byte == 32) ≡ false) (λ byte plain. grind (arith, nat_tests)) bytes (All-from_recursion IsPlain bytes h)
 
@@ -280,10 +281,6 @@ reply_parts-some (reply.Ok words) = omega arith
 reply_parts-some (reply.Err status index) = lit< tt
 reply_parts-some reply.Misplaced = lit< tt
 
--- two bytes that are written out differ where the test computes to false
-pub bytes_apart : (a b : ℕ) → (a == b) ≡ false → a ≡ b → ⊥
-bytes_apart a b test e = grind (arith, nat_tests)
-
 -- the first byte of the first part
 abbrev first_byte : List (List ℕ) → ℕ
 first_byte parts = get_or (get_or parts 0 []) 0 0
@@ -295,16 +292,16 @@ reply_parts-injective (reply.Ok xs) (reply.Ok ys) e =
     let words : map word xs.items ≡ map word ys.items = ap (λ ps. drop 1 ps) e in
     let items : xs.items ≡ ys.items = map-word-injective xs.items ys.items words in
     λ i. reply.Ok (record { items = items i })
-reply_parts-injective (reply.Ok xs) (reply.Err status index) e = absurd (bytes_apart 111 101 refl (ap first_byte e))
-reply_parts-injective (reply.Ok xs) reply.Misplaced e = absurd (bytes_apart 111 109 refl (ap first_byte e))
-reply_parts-injective (reply.Err status index) (reply.Ok ys) e = absurd (bytes_apart 101 111 refl (ap first_byte e))
+reply_parts-injective (reply.Ok xs) (reply.Err status index) e = absurd (keys_apart 111 101 refl (ap first_byte e))
+reply_parts-injective (reply.Ok xs) reply.Misplaced e = absurd (keys_apart 111 109 refl (ap first_byte e))
+reply_parts-injective (reply.Err status index) (reply.Ok ys) e = absurd (keys_apart 101 111 refl (ap first_byte e))
 reply_parts-injective (reply.Err status index) (reply.Err status' index') e =
     let status-is : status ≡ status' = decimal-injective status status' (ap (λ ps. get_or ps 1 []) e) in
     let index-is : index ≡ index' = decimal-injective index index' (ap (λ ps. get_or ps 2 []) e) in
     λ i. reply.Err (status-is i) (index-is i)
-reply_parts-injective (reply.Err status index) reply.Misplaced e = absurd (bytes_apart 101 109 refl (ap first_byte e))
-reply_parts-injective reply.Misplaced (reply.Ok ys) e = absurd (bytes_apart 109 111 refl (ap first_byte e))
-reply_parts-injective reply.Misplaced (reply.Err status index) e = absurd (bytes_apart 109 101 refl (ap first_byte e))
+reply_parts-injective (reply.Err status index) reply.Misplaced e = absurd (keys_apart 101 109 refl (ap first_byte e))
+reply_parts-injective reply.Misplaced (reply.Ok ys) e = absurd (keys_apart 109 111 refl (ap first_byte e))
+reply_parts-injective reply.Misplaced (reply.Err status index) e = absurd (keys_apart 109 101 refl (ap first_byte e))
 reply_parts-injective reply.Misplaced reply.Misplaced e = refl
 
 -- ---- lines of histories and certificates
@@ -316,13 +313,13 @@ mark-IsPart Large = IsPart-from_test _ _ refl
 
 mark-injective : (v w : Version) → mark v ≡ mark w → v ≡ w
 mark-injective One One e = refl
-mark-injective One Two e = absurd (bytes_apart 49 50 refl (ap (λ (bs : List ℕ). get_or bs 3 0) e))
-mark-injective Two One e = absurd (bytes_apart 50 49 refl (ap (λ (bs : List ℕ). get_or bs 3 0) e))
+mark-injective One Two e = absurd (keys_apart 49 50 refl (ap (λ (bs : List ℕ). get_or bs 3 0) e))
+mark-injective Two One e = absurd (keys_apart 50 49 refl (ap (λ (bs : List ℕ). get_or bs 3 0) e))
 mark-injective Two Two e = refl
-mark-injective One Large e = absurd (bytes_apart 104 108 refl (ap (λ (bs : List ℕ). get_or bs 2 0) e))
-mark-injective Two Large e = absurd (bytes_apart 104 108 refl (ap (λ (bs : List ℕ). get_or bs 2 0) e))
-mark-injective Large One e = absurd (bytes_apart 108 104 refl (ap (λ (bs : List ℕ). get_or bs 2 0) e))
-mark-injective Large Two e = absurd (bytes_apart 108 104 refl (ap (λ (bs : List ℕ). get_or bs 2 0) e))
+mark-injective One Large e = absurd (keys_apart 104 108 refl (ap (λ (bs : List ℕ). get_or bs 2 0) e))
+mark-injective Two Large e = absurd (keys_apart 104 108 refl (ap (λ (bs : List ℕ). get_or bs 2 0) e))
+mark-injective Large One e = absurd (keys_apart 108 104 refl (ap (λ (bs : List ℕ). get_or bs 2 0) e))
+mark-injective Large Two e = absurd (keys_apart 108 104 refl (ap (λ (bs : List ℕ). get_or bs 2 0) e))
 mark-injective Large Large e = refl
 
 pub config_parts-are_parts : (config : Config) → AllByRecursion IsPart (config_parts config)
@@ -355,8 +352,8 @@ event_parts-injective (Called cpu number command) (Called cpu' number' command')
     let number-is : number ≡ number' = decimal-injective number number' (ap (λ ps. get_or ps 2 []) e) in
     let command-is : command ≡ command' = command_parts-injective command command' (ap (λ ps. drop 3 ps) e) in
     λ i. Called (cpu-is i) (number-is i) (command-is i)
-event_parts-injective (Called cpu number command) (Returned cpu' number' given) e = absurd (bytes_apart 99 114 refl (ap first_byte e))
-event_parts-injective (Returned cpu number given) (Called cpu' number' command) e = absurd (bytes_apart 114 99 refl (ap first_byte e))
+event_parts-injective (Called cpu number command) (Returned cpu' number' given) e = absurd (keys_apart 99 114 refl (ap first_byte e))
+event_parts-injective (Returned cpu number given) (Called cpu' number' command) e = absurd (keys_apart 114 99 refl (ap first_byte e))
 event_parts-injective (Returned cpu number given) (Returned cpu' number' given') e =
     let cpu-is : cpu ≡ cpu' = decimal-injective cpu cpu' (ap (λ ps. get_or ps 1 []) e) in
     let number-is : number ≡ number' = decimal-injective number number' (ap (λ ps. get_or ps 2 []) e) in
@@ -381,10 +378,17 @@ line_parts-injective (Keep cpu number) (Keep cpu' number') e =
     let cpu-is : cpu ≡ cpu' = decimal-injective cpu cpu' (ap (λ ps. get_or ps 1 []) e) in
     let number-is : number ≡ number' = decimal-injective number number' (ap (λ ps. get_or ps 2 []) e) in
     λ i. Keep (cpu-is i) (number-is i)
-line_parts-injective (Keep cpu number) (Unfinished cpu' number' given) e = absurd (bytes_apart 107 117 refl (ap first_byte e))
-line_parts-injective (Unfinished cpu number given) (Keep cpu' number') e = absurd (bytes_apart 117 107 refl (ap first_byte e))
+line_parts-injective (Keep cpu number) (Unfinished cpu' number' given) e = absurd (keys_apart 107 117 refl (ap first_byte e))
+line_parts-injective (Unfinished cpu number given) (Keep cpu' number') e = absurd (keys_apart 117 107 refl (ap first_byte e))
 line_parts-injective (Unfinished cpu number given) (Unfinished cpu' number' given') e =
     let cpu-is : cpu ≡ cpu' = decimal-injective cpu cpu' (ap (λ ps. get_or ps 1 []) e) in
     let number-is : number ≡ number' = decimal-injective number number' (ap (λ ps. get_or ps 2 []) e) in
     let given-is : given ≡ given' = reply_parts-injective given given' (ap (λ ps. drop 3 ps) e) in
     λ i. Unfinished (cpu-is i) (number-is i) (given-is i)
+
+pub commands_at : (programs : List (List Command)) (cpu : ℕ)
+    → AllByRecursion (AllByRecursion IsCommand) programs → AllByRecursion IsCommand (get_or programs cpu [])
+commands_at [] zero all = tt
+commands_at [] (suc cpu) all = tt
+commands_at (program ∷ programs) zero all = all.0
+commands_at (program ∷ programs) (suc cpu) all = commands_at programs cpu all.1

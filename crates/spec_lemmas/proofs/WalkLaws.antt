@@ -9,6 +9,7 @@ use Rattle.rmm_spec.specs.declared.accepted.Stretch.{Stretch}
 use Rattle.rmm_spec.specs.Step.Ripas.{can_be_set, IsReached}
 use Rattle.lemmas.proofs.Tests.{both_ways}
 use Rattle.rmm_spec.specs.Walk.{entry_size, table_size, entry_number, table_number, is_multiple, is_table, linked_entry, entry_at, entry_for, reach, IsWalk}
+use Rattle.lemmas.proofs.Options.{none_of, some_value}
 
 -- ---- sizes
 
@@ -33,19 +34,9 @@ table_size-entries (suc (suc (suc (suc level)))) within = absurd (omega arith)
 
 -- ---- the recursion
 
--- what has no value is None
-none_of : (found : Option ℕ) → is_some found ≡ false → found ≡ None
-none_of None nothing = refl
-none_of (Some x) nothing = absurd (let bad : true ≡ false = nothing in cc)
-
 -- a number up to the next one is up to this one, or is the next
 le_cases : (n m : ℕ) → n ≤ suc m → (n ≤ m) ⊎ (n ≡ suc m)
 le_cases n m within = grind arith
-
--- what has a value is one
-some_of : (found : Option ℕ) → is_some found ≡ true → (x : ℕ) × (found ≡ Some x)
-some_of None there = absurd (let bad : false ≡ true = there in cc)
-some_of (Some x) there = (x, refl)
 
 -- a table of the level covers the address: it is reached
 reach-here : (s : State) (rd ipa l : ℕ) → is_some (s.table rd (suc l) (table_number (suc l) ipa)) ≡ true → reach s rd ipa (suc l) ≡ suc l
@@ -121,7 +112,7 @@ pub reach-is_walk : (s : State) (rd ipa level max granule : ℕ) → s.table rd 
     → (found : ℕ) × IsWalk s rd ipa max (reach s rd ipa max) found (entry_for s rd (reach s rd ipa max) ipa)
 reach-is_walk s rd ipa level max granule is_table within =
     let covers : is_some (s.table rd level (table_number level ipa)) ≡ true = rw is_table refl in
-    let found = some_of _ (reach-covers s rd ipa level max covers within).1 in (
+    let found = some_value _ (reach-covers s rd ipa level max covers within).1 in (
       found.0,
       record {
         within = reach-le s rd ipa max;
@@ -194,3 +185,9 @@ first_reached s stretch within first ends here =
       in_table = rw (table_size-entries level within) (entry_in_table base (entry_size level) multiple);
       each = λ k first. let none : k ≡ 0 = omega arith in rw (none, add-zero) here;
     }
+
+-- no walk ends above level 0
+pub reach-top : (s : State) (rd ipa level : ℕ) → level ≡ 0 → 0 ≡ reach s rd ipa level
+unfolding reach
+reach-top s rd ipa zero top = refl
+reach-top s rd ipa (suc level) top = absurd (omega arith)

@@ -40,6 +40,7 @@ use Rattle.granule_cells.specs.PlaceLaws.{shaped-below, shaped-whole}
 use Rattle.spec_machine.specs.Whole.{count_of}
 use Rattle.spec_machine.proofs.Found.{sound_in}
 use Rattle.spec_machine.proofs.Tagged.{granule_tagged}
+use Rattle.spec_lemmas.proofs.Lookups.{counted-le}
 
 -- ---- granules that are freed
 
@@ -135,14 +136,6 @@ index-fits g shaped rd rec mpidr flags aux0 aux1 can = λ realm is.
     subst (λ (r : RealmRecord). IsTrue (mpidr == r.next_index && nat_lt mpidr 8)) (sym (same_Some realm (realm_at s rd) there)) can.index_fits
 
 -- ---- counts
-
-counted-le : (n : ℕ) (passes : ℕ → Bool) → count_below n passes ≤ n
-counted-le zero passes = omega arith
-counted-le (suc n) passes = by (passes n) (counted-le n passes)
-  where
-    by : (b : Bool) → count_below n passes ≤ n → (if b then suc (count_below n passes) else count_below n passes) ≤ suc n
-    by true few = omega (arith, few)
-    by false few = omega (arith, few)
 
 pub few_recs : (g : Granules) → IsShapedIn g → IsConfig g.list.config → (rd : ℕ) → (whole_of g).side.rec_counts rd ≤ granule_limit Large
 few_recs g shaped limits rd =

@@ -25,13 +25,6 @@ read_or f (x ∷ items) (suc i) default = read_or f items i default
 
 -- ---- granules and their places
 
--- there is a place for each granule
-pub place_within : (granules address : ℕ) → IsTrue (is_granule granules address) → address / 4096 < granules
-unfolding is_granule
-place_within granules address granule =
-    let parts = and_parts (address % 4096 == 0) (nat_lt address (granules * 4096)) granule in
-    omega (arith, ltb-true address (granules * 4096) parts.1)
-
 -- a granule is at its place
 pub place-granule : (granules address : ℕ) → IsTrue (is_granule granules address) → (address / 4096) * 4096 ≡ address
 unfolding is_granule

@@ -6,8 +6,8 @@ use Rattle.rmm_spec.specs.declared.command.Command.{Command}
 use Rattle.rmm_spec.specs.declared.function_id.FunctionId.{FunctionId}
 use Rattle.rmm_spec.specs.declared.function_id.FunctionId.TheVariants.{RealmCreate, RttCreate}
 use Rattle.rmm_spec.specs.Call.{call_from, call_of}
-use Rattle.rmm_laws.proofs.Entries.{value_there}
 use Rattle.rmm_laws.proofs.CommandFacts.{outcome-tells}
+use Rattle.lemmas.proofs.Options.{value_there}
 
 -- ---- memory
 

@@ -13,7 +13,9 @@ use Rattle.lemmas.proofs.Tests.{both_ways}
 use Rattle.rtt_table.specs.Plain.{cells_from, table_or_none}
 use Rattle.rtt_table.specs.PlainLaws.{table_in-no_granule, table_in-cells_from}
 use Rattle.spec_machine.specs.Whole.{placed_at, table_numbered, tables_in, values_below}
-use Rattle.spec_machine.proofs.Kept.{granule_placed, place-granule, place_within}
+use Rattle.spec_machine.proofs.Kept.{granule_placed, place-granule}
+use Rattle.lemmas.proofs.Elements.{slice_get-push}
+use Rattle.spec_lemmas.proofs.Lookups.{granule-within}
 
 -- a granule's tag
 pub has_tag-read : (config : Config) (cells : ℕ → spec.Cell) (address : ℕ) (read tag : Tag) → IsTrue (is_granule config.granules address)
@@ -38,10 +40,6 @@ get-front [] ys i within = absurd (omega (arith, within))
 get-front (x ∷ xs) ys zero within = refl
 get-front (x ∷ xs) ys (suc i) within = get-front xs ys i (omega (arith, within))
 
-get-last : {A : Type 0} → (xs : List A) (x : A) → slice_get (xs ++ x ∷ []) (length xs) ≡ Some x
-get-last [] x = refl
-get-last (y ∷ xs) x = get-last xs x
-
 -- a table of the list is that of its number
 table_or_none-values : (n : ℕ) (f : ℕ → Option TableRecord) (i : ℕ) → i < n → table_or_none (slice_get (values_below n f) i) ≡ f i
 table_or_none-values zero f i below = absurd (omega (arith, below))
@@ -56,7 +54,7 @@ table_or_none-values (suc n) f i below = by (nat_lt i n) refl (table_or_none-val
         let last : i ≡ length (values_below n f) = omega (arith, ltb-false i n least, below, length-values n f) in
         let number : n ≡ i = omega (arith, ltb-false i n least, below) in
         ap (λ k. table_or_none (slice_get (values_below n f ++ f n ∷ []) k)) last
-        ∙ ap table_or_none (get-last (values_below n f) (f n)) ∙ ap f number
+        ∙ ap table_or_none (slice_get-push (values_below n f) (f n)) ∙ ap f number
 
 -- the list of tables has what lies in each granule
 pub tables-same : (list : CellList) (address : ℕ) → table_in (tables_in list) address ≡ spec.tables_of (cells_of list) address
@@ -74,7 +72,7 @@ tables-same list address = by (is_granule granules address) refl
     by true is =
         let at : address ≡ (0 + address / 4096) * 4096 = omega (arith, place-granule granules address is) in
         rw is (table_in-cells_from 0 tables (address / 4096) address at
-        ∙ table_or_none-values granules (table_numbered list) (address / 4096) (place_within granules address is))
+        ∙ table_or_none-values granules (table_numbered list) (address / 4096) (granule-within granules address is))
     by false none = rw none (table_in-no_granule 0 tables address (λ i within here.
         let below : i < granules = omega (arith, within, length-values granules (table_numbered list)) in
         let same : address ≡ i * 4096 = omega (arith, here) in

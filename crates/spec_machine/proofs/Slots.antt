@@ -12,6 +12,7 @@ use Rattle.rmm_spec.specs.State.{RecRecord}
 use Rattle.spec_machine.specs.declared.slot.Slot.TheVariants.{Undelegated, Rd, Rec, Rtt}
 use Rattle.spec_machine.specs.Held.{cell_at, cells_held, changed_in, held_in, housed_at, nowhere, number_at, number_of, one_of, recs_in, with_cell, AreKept}
 use Rattle.spec_machine.proofs.Kept.{read-more}
+use Rattle.lemmas.proofs.Elements.{map-copies}
 
 -- ---- one slot
 
@@ -160,10 +161,6 @@ held-set {slots = slots} {recs = recs} {room = room} {place = place} {held = hel
     (λ i. record { items = map-set (seen recs) slots place s i; room = room }) ∙ (λ i. with_cell (o.is i) place (to i))
 
 -- ---- further slots
-
-map-copies : {X Y : Type 0} (f : X → Y) (n : ℕ) (x : X) → map f (replicate n x) ≡ replicate n (f x)
-map-copies f zero x = refl
-map-copies f (suc n) x = ap (λ ys. f x ∷ ys) (map-copies f n x)
 
 pub held-more : (slots : List Slot) (recs : List HousedRec) (n : ℕ)
     → cells_held (slots ++ replicate n Undelegated) recs ≡ cells_held slots recs ++ replicate n spec.Undelegated

@@ -11,9 +11,8 @@ use Rattle.rmm_spec.specs.Sound.{IsSound}
 use Rattle.spec_lemmas.proofs.WalkLaws.{table_number-suc, reach-zero, reach-le, reach-covers, reach-below}
 use Rattle.rmm_laws.proofs.Entries.{entry-link}
 use Rattle.rmm_laws.proofs.Spaces.{space_cases}
-use Rattle.rmm_laws.proofs.Walked.{table_number-entry, start_above}
+use Rattle.rmm_laws.proofs.Walked.{table_number-entry, start_above, root_number}
 use Rattle.spec_machine.specs.Walks.{StartsAt}
-use Rattle.spec_machine.proofs.Walkable.{root_number}
 
 -- where a walk ends there is one end
 walk-level : (s : State) (rd ipa max level granule : ℕ) (entry : Entry) → IsWalk s rd ipa max level granule entry → reach s rd ipa max ≡ level

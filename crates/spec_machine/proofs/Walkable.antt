@@ -13,18 +13,10 @@ use Rattle.rmm_spec.specs.Flat.{table_granule, leaf_in_tables}
 use Rattle.rmm_spec.specs.Shape.{Side, CpuPlace, HoldsTable, IsWellShaped}
 use Rattle.spec_lemmas.proofs.WalkLaws.{table_number-suc}
 use Rattle.rmm_laws.proofs.Spaces.{space_cases}
-use Rattle.rmm_laws.proofs.Walked.{table_number-entry}
+use Rattle.rmm_laws.proofs.Walked.{table_number-entry, root_number}
 use Rattle.spec_lemmas.proofs.FlatTables.{IsAtSpot, found_at_spot, spot_is_found}
 use Rattle.rmm_laws.proofs.Finds.{table_granule-holds, holds-found}
 use Rattle.rmm_laws.proofs.ShapeTies.{IsTied-shaped}
-
--- a root covers every address of its realm
-pub root_number : (r : RealmRecord) → IsTrue (is_space r.width r.start_level) → (ipa : ℕ) → ipa < full r → table_number r.start_level ipa ≡ 0
-unfolding table_number table_size
-root_number r space ipa below = elim (space_cases r.width r.start_level space) [
-  | inl small ↦ (let within : ipa < 2 ^ 39 = rw small.0 at below in rw small.1 (omega arith))
-  | inr large ↦ (let within : ipa < 2 ^ 48 = rw large.0 at below in rw large.1 (omega arith))
-]
 
 module _ (config : Config) (side : Side) (places : ℕ → CpuPlace) (cells : ℕ → Cell) (w : IsWellShaped config side places cells)
     (list : List TableCell) (placed : ArePlaced list) (same : (address : ℕ) → table_in list address ≡ tables_of cells address) where

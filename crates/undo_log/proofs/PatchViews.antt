@@ -11,17 +11,13 @@ use Rattle.undo_log.specs.declared.patch.Replaced.{Replaced}
 use Rattle.undo_log.specs.declared.patch.Replaced.TheVariants.{Cell, Places, RecCount, Vmid}
 use Rattle.undo_log.proofs.LikeStates.{flat_state-unmeasured}
 use Rattle.undo_log.proofs.PatchKeys.{config-put_all, put-cell}
+use Rattle.lemmas.proofs.Tests.{and_second-fails}
 
 -- ---- the cell in a granule
 
 -- what isn't put in leaves what is there
 off : (b p : Bool) (one old : spec.Cell) → (b && p) ≡ false → (if b && p then one else old) ≡ old
 off b p one old is = ap (λ (c : Bool). if c then one else old) is
-
--- and what isn't this granule's isn't put in
-never : (b p : Bool) → p ≡ false → (b && p) ≡ false
-never true p is = is
-never false p is = refl
 
 -- where none of the items before one names the granule, what that one puts in is what lies there
 pub cell-found : (items : List Replaced) (i : ℕ) (item : Replaced) (s : Standing) (granule : ℕ) (cell : spec.Cell)
@@ -48,7 +44,7 @@ cell-nowhere (Cell place cell ∷ items) s granule none =
     by true at =
         let one : place ≡ granule = sym (eqb-true granule place at) in
         ap (λ b. b && true) ((λ i. is_granule (config-put_all items s i).granules (one i)) ∙ none)
-    by false at = never (is_granule (put_all items s).config.granules place) false refl
+    by false at = and_second-fails (is_granule (put_all items s).config.granules place) false refl
 cell-nowhere (Vmid vmid realm ∷ items) s granule none = cell-nowhere items s granule none
 cell-nowhere (RecCount rd count ∷ items) s granule none = cell-nowhere items s granule none
 cell-nowhere (Places places ∷ items) s granule none = cell-nowhere items s granule none
@@ -68,7 +64,7 @@ named-or-own P Q names (Cell place cell ∷ items) all s granule =
         let rest = put_all items s in
         let b = is_granule rest.config.granules place in
         inr (ap (λ (t : Standing). t.whole.cells granule) (put-cell place cell rest)
-        ∙ (off b (granule == place) (cell_of cell) (rest.whole.cells granule) (never b (granule == place) at) ∙ own))
+        ∙ (off b (granule == place) (cell_of cell) (rest.whole.cells granule) (and_second-fails b (granule == place) at) ∙ own))
 named-or-own P Q names (Vmid vmid realm ∷ items) all s granule =
     named-or-own P Q names items (All-tail Q (Vmid vmid realm) items all) s granule
 named-or-own P Q names (RecCount rd count ∷ items) all s granule =

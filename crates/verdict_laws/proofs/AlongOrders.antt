@@ -1,14 +1,13 @@
 -- Along an order: what holds before any line and stays so with each next one holds where a finished call's line comes.
-use Rattle.verdict_laws.proofs.Common.{◌∙◌, refl, ◌≡◌, ℕ, List, [], ◌∷◌, ◌++◌, inl, inr, sym, subst, arith, append_assoc, cases_lt, none-some, Command, Called, Line, Reply, History, IsHistory, IsRun, JournalEntry, AreEntriesOf, IsCalled, IsFinished, IsLinearization, IsNamed, IsReturned, ReturnsBefore, cpu_named, number_named, IsSound, State, opening, Step, HasOnePlaces-from_history, LeadsNowhere, count_of}
+use Rattle.verdict_laws.proofs.Common.{◌∙◌, refl, ◌≡◌, ℕ, List, [], ◌∷◌, ◌++◌, inl, inr, sym, subst, arith, append_assoc, cases_lt, none-some, Command, Called, Line, Reply, History, IsHistory, IsRun, JournalEntry, AreEntriesOf, IsCalled, IsFinished, IsLinearization, IsNamed, IsReturned, ReturnsBefore, cpu_named, number_named, IsSound, State, opening, Step, LeadsNowhere, count_of, HasOnePlaces-from_history}
 use Rattle.std.proofs.Common.{take}
 use Rattle.std.proofs.lemmas.List.{append-nil}
 use Rattle.lemmas.proofs.Elements.{slice_get-take}
-use Rattle.spec_lemmas.proofs.Calls.{same_command}
+use Rattle.spec_lemmas.proofs.Calls.{same_command, IsNamed-push_cases}
 use Rattle.spec_lemmas.proofs.HistoryGrammar.{IsHistory-take}
 use Rattle.rmm_laws.proofs.Runs.{opened_run_sound}
 use Rattle.verdict_laws.specs.Order.{IsNext, Reaches}
 use Rattle.verdict_laws.specs.Parts.{first_part}
-use Rattle.verdict_laws.proofs.Counts.{IsNamed-push_cases}
 use Rattle.verdict_laws.proofs.Growth.{Reaches-nil}
 use Rattle.verdict_laws.proofs.Nowhere.{nowhere_past}
 use Rattle.verdict_laws.proofs.Reached.{IsNext-linear, Reaches-linear}

@@ -9,10 +9,11 @@ use Rattle.verdict_laws.specs.declared.placing.Standing.{Standing}
 use Rattle.verdict_laws.specs.Denying.{asks_outside, is_told_within}
 use Rattle.verdict_laws.specs.Facts.{can_run, destroys, enters, exits, exits_other, is_elsewhere, is_within, leaves_with, moves_request, runs_or_asks, runs_or_asks_to, sets_past, stays_with, turns_off_other}
 use Rattle.verdict_laws.proofs.RecChanges.{StaysDone, met_record, rec-kept}
-use Rattle.verdict_laws.proofs.RecFacts.{apart, leaves-made, made_request, runs_or_asks-asking, to_moved}
+use Rattle.verdict_laws.proofs.RecFacts.{leaves-made, made_request, runs_or_asks-asking, to_moved}
 use Rattle.verdict_laws.proofs.RunningFacts.{running-made, runs-on_some}
 use Rattle.verdict_laws.proofs.Standings.{standing-inside, standing_of}
 use Rattle.verdict_laws.proofs.TagFacts.{IsCarried, carried_by}
+use Rattle.lemmas.proofs.Tests.{apart}
 
 -- what runs on a CPU is read as running
 is_some-running : (cpu : ℕ) (found : Option RecRecord) → runs_on cpu found ≡ true → is_some (unwrap_or found no_rec).cpu ≡ true

@@ -4,7 +4,6 @@ pub use Rattle.std.proofs.lemmas.Bool.{and_from, and_parts, cases_Bool, cases_lt
 pub use Rattle.std.proofs.lemmas.Option.{none-some, same_Some, slice_get_within}
 pub use Rattle.std.specs.List.{AllByRecursion, slice_get}
 pub use Rattle.std.specs.Prelude.{Err, Ok, Result, is_none, unwrap_or}
-pub use Rattle.checker.proofs.Judging.{HasOnePlaces-from_history}
 pub use Rattle.lemmas.proofs.Elements.{slice_get-append}
 pub use Rattle.lemmas.proofs.Tests.{both_ways}
 pub use Rattle.rmm_laws.proofs.Cases.{by_address}
@@ -67,3 +66,4 @@ pub use Rattle.verdict_laws.specs.Registers.{Register}
 pub use Rattle.verdict_laws.specs.Separate.{is_local}
 pub use Rattle.verdict_laws.specs.Slices.{unused_tag}
 pub use Rattle.verdict_laws.specs.declared.facts.Fact.{Fact}
+pub use Rattle.spec_lemmas.proofs.Calls.{HasOnePlaces-from_history}

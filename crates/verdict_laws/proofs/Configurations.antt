@@ -1,9 +1,10 @@
 -- Two orders of the same calls are continued alike where runs go on alike from their states, as they do where both lead to one.
-use Rattle.verdict_laws.proofs.Common.{◌≡◌, ℕ, ◌+◌, inl, inr, List, ◌++◌, length, Some, subst, arith, slice_get, slice_get_within, Line, History, IsHistory, State, opening, JournalEntry, IsRun, IsFinished, IsNamed, IsLinearization, AreEntriesOf, NamesCall, IsOfItsKind, cpu_named, number_named, HasOnePlaces-from_history, count_of, LeadsNowhere, slice_get-append}
+use Rattle.verdict_laws.proofs.Common.{◌≡◌, ℕ, ◌+◌, inl, inr, List, ◌++◌, length, Some, subst, arith, slice_get, slice_get_within, Line, History, IsHistory, State, opening, JournalEntry, IsRun, IsFinished, IsNamed, IsLinearization, AreEntriesOf, NamesCall, IsOfItsKind, cpu_named, number_named, count_of, LeadsNowhere, slice_get-append, HasOnePlaces-from_history}
 use Rattle.rmm_laws.proofs.RunLaws.{run-append}
 use Rattle.verdict_laws.specs.Order.{Reaches}
 use Rattle.verdict_laws.proofs.Moves.{Each, Pairs, Each-from_places, Pairs-from_places, Pairs-at, Pairs-append, Pairs-behind}
-use Rattle.verdict_laws.proofs.Settled.{Apart, behind, in_either, claimed-append, same_state, split_run}
+use Rattle.verdict_laws.proofs.Settled.{Apart, behind, in_either, claimed-append, split_run}
+use Rattle.rmm_laws.proofs.EntryRuns.{same_state}
 
 -- the runs of what lines claim go on from the one state wherever they do from the other
 abbrev pub GoOnAlike : History → State → State → Type 0

@@ -44,14 +44,6 @@ pub IsNamed-last : (lines : List Line) (line : Line) (cpu number : ℕ) → cpu_
     → IsNamed (lines ++ line ∷ []) cpu number
 IsNamed-last lines line cpu number of_cpu numbered = (length lines, line, slice_get-push lines line, of_cpu, numbered)
 
--- there is no other
-pub IsNamed-push_cases : (lines : List Line) (line : Line) (cpu number : ℕ) → IsNamed (lines ++ line ∷ []) cpu number
-    → IsNamed lines cpu number ⊎ ((cpu_named line ≡ cpu) × (number_named line ≡ number))
-IsNamed-push_cases lines line cpu number named = elim (slice_get_push_cases lines line named.0 named.1 named.2) [
-  | inl old ↦ inl (named.0, named.1, old, named.3, named.4)
-  | inr new ↦ inr (sym (ap cpu_named new.1) ∙ named.3, sym (ap number_named new.1) ∙ named.4)
-]
-
 -- an element of two lists, one behind the other, is one of the first or lies behind it
 pub slice_get-append_cases : {X : Type 0} (xs ys : List X) (i : ℕ) (x : X)
     → slice_get (xs ++ ys) i ≡ Some x → (slice_get xs i ≡ Some x) ⊎ (length xs ≤ i)

@@ -1,5 +1,5 @@
 -- Of two calls one comes first in each order: where a reply is denied either way, there is none.
-use Rattle.verdict_laws.proofs.Common.{◌≡◌, ℕ, ◌<◌, ◌≤◌, List, [], ◌∷◌, ◌++◌, inl, inr, length, Some, sym, ◌∙◌, ap, subst, arith, cases_order, slice_get, Called, Line, History, IsHistory, IsLinearization, IsNamed, IsCalled, cpu_named, number_named, HasOnePlaces-from_history, LeadsNowhere}
+use Rattle.verdict_laws.proofs.Common.{◌≡◌, ℕ, ◌<◌, ◌≤◌, List, [], ◌∷◌, ◌++◌, inl, inr, length, Some, sym, ◌∙◌, ap, subst, arith, cases_order, slice_get, Called, Line, History, IsHistory, IsLinearization, IsNamed, IsCalled, cpu_named, number_named, LeadsNowhere, HasOnePlaces-from_history}
 use Rattle.std.proofs.Common.{take}
 use Rattle.lemmas.proofs.Elements.{slice_get_push_cases}
 use Rattle.spec_lemmas.proofs.HistoryGrammar.{IsHistory-take}

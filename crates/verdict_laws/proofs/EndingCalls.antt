@@ -6,7 +6,6 @@ use Rattle.rmm_spec.specs.Lookup.{any_below, is_owned_by}
 use Rattle.rmm_spec.specs.Walk.{entry_address, walk}
 use Rattle.rmm_spec.specs.Rows.{done}
 use Rattle.rmm_laws.proofs.ByRows.{AllHold}
-use Rattle.rmm_laws.proofs.Cases.{none_of}
 use Rattle.rmm_laws.proofs.RowLaws.{front-rest}
 use Rattle.rmm_laws.proofs.Runs.{step_sound}
 use Rattle.rmm_laws.proofs.Searches.{none_has_vmid}
@@ -22,6 +21,7 @@ use Rattle.verdict_laws.proofs.Patches.{is_own, other_realm, patched-swapped, pu
 use Rattle.verdict_laws.proofs.SeparateCalls.{AgreeOn-patched}
 use Rattle.verdict_laws.proofs.SeparateLooks.{with_recs}
 use Rattle.verdict_laws.proofs.Spared.{is_inside-alike}
+use Rattle.lemmas.proofs.Options.{none_of}
 
 -- ---- the granules that a call works on
 

@@ -1,5 +1,5 @@
 -- Along an order facts hold where a call comes that was replied as if they didn't: so there is no order.
-use Rattle.verdict_laws.proofs.Common.{◌≡◌, ℕ, ◌<◌, ◌⊎◌, true, List, [], ◌∷◌, ◌++◌, inl, inr, Option, Some, None, refl, sym, ◌∙◌, ap, subst, slice_get, none-some, Command, Event, Called, Line, Reply, call_of, History, IsHistory, IsCalled, IsLinearization, IsNamed, IsReturned, cpu_named, number_named, is_accepted, JournalEntry, State, opening, HasOnePlaces-from_history, step-refuses, Fact, holds, LeadsNowhere, count_of}
+use Rattle.verdict_laws.proofs.Common.{◌≡◌, ℕ, ◌<◌, ◌⊎◌, true, List, [], ◌∷◌, ◌++◌, inl, inr, Option, Some, None, refl, sym, ◌∙◌, ap, subst, slice_get, none-some, Command, Event, Called, Line, Reply, call_of, History, IsHistory, IsCalled, IsLinearization, IsNamed, IsReturned, cpu_named, number_named, is_accepted, JournalEntry, State, opening, step-refuses, Fact, holds, LeadsNowhere, count_of, HasOnePlaces-from_history}
 use Rattle.std.proofs.Common.{take}
 use Rattle.std.proofs.lemmas.List.Elements.{All-weaker}
 use Rattle.spec_lemmas.proofs.HistoryGrammar.{IsHistory-take}
@@ -14,7 +14,7 @@ use Rattle.verdict_laws.specs.Placing.{StandsBefore}
 use Rattle.verdict_laws.specs.Slices.{IsDoneBefore}
 use Rattle.verdict_laws.proofs.AskingFacts.{holds-elsewhere}
 use Rattle.verdict_laws.proofs.AlongOrders.{LeadsOn, not-along}
-use Rattle.verdict_laws.proofs.Counts.{IsNamed-last, IsNamed-push, IsNamed-push_cases}
+use Rattle.verdict_laws.proofs.Counts.{IsNamed-last, IsNamed-push}
 use Rattle.verdict_laws.proofs.FactKinds.{holds-left, holds-made, holds-opening}
 use Rattle.verdict_laws.proofs.Looked.{looks-keep}
 use Rattle.verdict_laws.proofs.ManyFacts.{held-deny, held-deny_inside}
@@ -23,6 +23,7 @@ use Rattle.verdict_laws.proofs.RipasFacts.{beside-left, with-made}
 use Rattle.verdict_laws.proofs.SliceLines.{Claim, Names, claimed_reply, of_named}
 use Rattle.verdict_laws.proofs.Standings.{AreWhere, AreWhere-nil, AreWhere-push, standing_of}
 use Rattle.verdict_laws.proofs.SliceUnused.{comes_to_nothing, named_call, returns_before}
+use Rattle.spec_lemmas.proofs.Calls.{IsNamed-push_cases}
 
 -- An order of the history, in which calls come as is supposed, and a call that returned with a reply that facts deny which hold at its place.
 module _ (history : History) (is_history : IsHistory history) (all : List Line) (turn : Option InTurn)

@@ -5,7 +5,8 @@ use Rattle.rmm_spec.specs.Linearization.{NamesSame}
 use Rattle.verdict_laws.specs.Order.{Reaches}
 use Rattle.verdict_laws.proofs.Growth.{Reaches-nil}
 use Rattle.verdict_laws.proofs.Reached.{Reaches-linear}
-use Rattle.verdict_laws.proofs.Settled.{behind, same_state, split_run}
+use Rattle.verdict_laws.proofs.Settled.{behind, split_run}
+use Rattle.rmm_laws.proofs.EntryRuns.{same_state}
 
 -- a line of a first part and one behind it name two calls
 pub apart_parts : (history : History) (front back : List Line) → IsLinearization history (front ++ back) → (i j : ℕ) (line other : Line)

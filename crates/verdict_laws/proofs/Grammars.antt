@@ -14,7 +14,7 @@ use Rattle.rmm_spec.specs.Text.{line_text, lines_text, parts_of, HasNoNewline}
 use Rattle.spec_lemmas.proofs.CertificateLines.{line_parts-one_line}
 use Rattle.spec_lemmas.proofs.HistoryGrammar.{lines_of, lines_of-one_line}
 use Rattle.spec_lemmas.proofs.Lines.{AreOneLineEach}
-use Rattle.spec_lemmas.proofs.Places.{subhistory_of-other}
+use Rattle.spec_lemmas.proofs.Places.{subhistory_of-other, cpu_below}
 use Rattle.verdict_laws.proofs.Decisions.{Decided, decided_as, decided_both, decided_not, decided_lt, decided_le, decided_true, decided_same, decided_each, holds_surely, first_below}
 use Rattle.verdict_laws.proofs.Readings.{map-read, read_config, read_config-config_parts, read_event, read_event-event_parts, read_line, read_line-line_parts}
 
@@ -139,16 +139,11 @@ decided_event cpus (Returned cpu number given) = decided_both (decided_lt cpu cp
 decided_record : (events : List Event) → Decided (IsRecord events)
 decided_record events = decided_true (is_some (stand_from start events))
 
--- an event is of a CPU of the machine
-cpu_of-lt : (cpus : ℕ) (event : Event) → IsEvent cpus event → cpu_of event < cpus
-cpu_of-lt cpus (Called cpu number command) is = is.0
-cpu_of-lt cpus (Returned cpu number given) is = is.0
-
 -- a CPU that the machine doesn't have has no events
 subhistory_of-past : (cpus cpu : ℕ) (events : List Event) → cpus ≤ cpu → AllByRecursion (IsEvent cpus) events → subhistory_of cpu events ≡ []
 subhistory_of-past cpus cpu [] past each = refl
 subhistory_of-past cpus cpu (event ∷ events) past each =
-    subhistory_of-other cpu event events (ne_eqb (cpu_of event) cpu (λ same. omega (arith, same, past, cpu_of-lt cpus event each.0)))
+    subhistory_of-other cpu event events (ne_eqb (cpu_of event) cpu (λ same. omega (arith, same, past, cpu_below cpus event each.0)))
     ∙ subhistory_of-past cpus cpu events past each.1
 
 -- the parts of all CPUs are records where those of the machine's CPUs are

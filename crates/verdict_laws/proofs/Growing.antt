@@ -1,5 +1,5 @@
 -- A kept order grows by open calls, and stays kept.
-use Rattle.verdict_laws.proofs.Common.{◌≡◌, ℕ, ◌<◌, eqb, List, [], ◌∷◌, ◌++◌, inl, inr, sym, ◌∙◌, ap, subst, arith, append_assoc, cases_Bool, cases_lt, Command, Line, History, IsHistory, State, opening, Step, JournalEntry, IsRun, IsCalled, AreEntriesOf, IsEntryOf, cpu_named, number_named, HasOnePlaces-from_history, count_of}
+use Rattle.verdict_laws.proofs.Common.{◌≡◌, ℕ, ◌<◌, eqb, List, [], ◌∷◌, ◌++◌, inl, inr, sym, ◌∙◌, ap, subst, arith, append_assoc, cases_Bool, cases_lt, Command, Line, History, IsHistory, State, opening, Step, JournalEntry, IsRun, IsCalled, AreEntriesOf, IsEntryOf, cpu_named, number_named, count_of, HasOnePlaces-from_history}
 use Rattle.std.proofs.lemmas.Bool.{eqb-true}
 use Rattle.std.proofs.lemmas.List.{append-nil}
 use Rattle.verdict_laws.specs.Order.{Grows}

@@ -1,12 +1,12 @@
 -- An order grows by a call that can come next, and is whole once each finished call stands in it.
-use Rattle.verdict_laws.proofs.Common.{◌≡◌, ℕ, ◌<◌, ◌≤◌, eqb, List, [], ◌∷◌, ◌++◌, inl, inr, sym, subst, arith, cases_Bool, cases_lt, none-some, Command, Line, History, IsHistory, State, opening, Step, IsFinished, IsNamed, IsLinearization, ReturnsBefore, cpu_named, number_named, HasOnePlaces-from_history, count_of}
+use Rattle.verdict_laws.proofs.Common.{◌≡◌, ℕ, ◌<◌, ◌≤◌, eqb, List, [], ◌∷◌, ◌++◌, inl, inr, sym, subst, arith, cases_Bool, cases_lt, none-some, Command, Line, History, IsHistory, State, opening, Step, IsFinished, IsNamed, IsLinearization, ReturnsBefore, cpu_named, number_named, count_of, HasOnePlaces-from_history}
 use Rattle.std.proofs.lemmas.Bool.{eqb-true}
 use Rattle.rmm_spec.specs.Linearization.{IsTooLate}
 use Rattle.lemmas.proofs.Elements.{slice_get_push_cases}
-use Rattle.spec_lemmas.proofs.Calls.{same_command}
+use Rattle.spec_lemmas.proofs.Calls.{same_command, IsNamed-push_cases}
 use Rattle.checker.proofs.Progress.{Follows, Passes-nil, Passes-push}
 use Rattle.verdict_laws.specs.Order.{Reaches, Grows}
-use Rattle.verdict_laws.proofs.Counts.{count_of-same, count_of-other, count_of-le, count_of-nil, IsNamed-push, IsNamed-last, IsNamed-push_cases}
+use Rattle.verdict_laws.proofs.Counts.{count_of-same, count_of-other, count_of-le, count_of-nil, IsNamed-push, IsNamed-last}
 
 -- no line
 pub Reaches-nil : (history : History) → Reaches history [] (opening history.config)

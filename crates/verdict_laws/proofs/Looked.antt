@@ -1,5 +1,5 @@
 -- A call that only looks at the state, and is given its reply where an order has come to, may come next at once.
-use Rattle.verdict_laws.proofs.Common.{◌≡◌, ℕ, true, false, List, [], ◌∷◌, ◌++◌, refl, sym, subst, Command, Line, Keep, Reply, History, IsHistory, State, Step, HasOnePlaces-from_history, LeadsNowhere}
+use Rattle.verdict_laws.proofs.Common.{◌≡◌, ℕ, true, false, List, [], ◌∷◌, ◌++◌, refl, sym, subst, Command, Line, Keep, Reply, History, IsHistory, State, Step, LeadsNowhere, HasOnePlaces-from_history}
 use Rattle.rmm_spec.specs.declared.function_id.FunctionId.{FunctionId}
 use Rattle.rmm_spec.specs.declared.function_id.FunctionId.TheVariants as function
 use Rattle.rmm_spec.specs.Footprint.{KeepsOthers, changed_parts}

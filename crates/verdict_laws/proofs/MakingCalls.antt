@@ -11,7 +11,6 @@ use Rattle.rmm_spec.specs.Update.{is_same_table}
 use Rattle.rmm_spec.specs.Applicable.{CanChangeRealm}
 use Rattle.rmm_spec.specs.Change.{new_realm}
 use Rattle.rmm_spec.specs.Lookup.{any_below, has_vmid}
-use Rattle.rmm_laws.proofs.Cases.{none_of}
 use Rattle.rmm_laws.proofs.Records.{updated_like}
 use Rattle.rmm_laws.proofs.Tags.{has_tag-other}
 use Rattle.verdict_laws.specs.Making.{AreMadeApart, is_making, made_realm, own_realm, taken_vmid}
@@ -22,6 +21,7 @@ use Rattle.verdict_laws.proofs.SeparateCalls.{AgreeOn-patched, IsAcceptedOf, IsC
 use Rattle.verdict_laws.proofs.SeparateLooks.{AgreeOn, with_recs}
 use Rattle.verdict_laws.proofs.Spared.{RunAlike, is_inside-alike, put_rec-runs}
 use Rattle.verdict_laws.proofs.SparedCalls.{none_waiting}
+use Rattle.lemmas.proofs.Options.{none_of}
 
 -- ---- what a change puts
 

@@ -6,9 +6,10 @@ use Rattle.rmm_spec.specs.Change.{with_entry_change}
 use Rattle.rmm_spec.specs.Lookup.{any_below, has_vmid, is_owned_by}
 use Rattle.lemmas.proofs.Tests.{either, keys_apart}
 use Rattle.rmm_laws.proofs.Searches.{none_has_vmid}
-use Rattle.rmm_laws.proofs.Tests.{some_value, there}
+use Rattle.rmm_laws.proofs.Tests.{there}
 use Rattle.rmm_laws.proofs.Ties.{IsUnused, tied-used}
 use Rattle.verdict_laws.proofs.SliceTerms.{IsPut, IsRealmPut, IsRecPut, IsTagPut, masked}
+use Rattle.lemmas.proofs.Options.{some_value}
 
 -- ---- granules one by one
 

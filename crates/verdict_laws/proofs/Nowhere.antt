@@ -1,5 +1,5 @@
 -- Which lines lead nowhere, and when all that can come next does.
-use Rattle.verdict_laws.proofs.Common.{◌≡◌, ℕ, ◌+◌, ◌<◌, List, [], ◌∷◌, ◌++◌, inl, inr, length, Some, sym, ◌∙◌, ap, subst, arith, append_assoc, slice_get, cases_order, slice_get_within, Line, History, IsHistory, State, opening, IsFinished, IsLinearization, ReturnsBefore, AreEntriesOf, NamesCall, IsOfItsKind, cpu_named, number_named, slice_get-append, HasOnePlaces-from_history, count_of, LeadsNowhere}
+use Rattle.verdict_laws.proofs.Common.{◌≡◌, ℕ, ◌+◌, ◌<◌, List, [], ◌∷◌, ◌++◌, inl, inr, length, Some, sym, ◌∙◌, ap, subst, arith, append_assoc, slice_get, cases_order, slice_get_within, Line, History, IsHistory, State, opening, IsFinished, IsLinearization, ReturnsBefore, AreEntriesOf, NamesCall, IsOfItsKind, cpu_named, number_named, slice_get-append, count_of, LeadsNowhere, HasOnePlaces-from_history}
 use Rattle.std.proofs.Common.{take}
 use Rattle.std.proofs.Math.Seq.{take-append_seam}
 use Rattle.std.proofs.lemmas.List.{append-nil, length-append}

@@ -8,17 +8,11 @@ use Rattle.rmm_spec.specs.declared.verdict.Verdict.{Verdict}
 use Rattle.rmm_spec.specs.declared.verdict.Verdict.TheVariants as verdict
 use Rattle.rmm_spec.specs.FirstFault.{Passes, FirstFault}
 use Rattle.rmm_spec.specs.Judgement.{JudgesOrder}
-use Rattle.lemmas.proofs.Elements.{take-next_at}
+use Rattle.lemmas.proofs.Elements.{take-next_at, element_at}
 use Rattle.checker.proofs.Faults.{FirstFault-from_FailsBy, FirstFault-missing, Accepts-from_Passes}
 use Rattle.checker.proofs.Progress.{Passes-nil}
 use Rattle.verdict_laws.proofs.Decisions.{Decided, decided_as, decided_not, decided_both, holds_surely, first_below}
 use Rattle.verdict_laws.proofs.LineFaults.{decided_named, decided_finished, IsJudged, judged_line}
-
--- the element at a place within a list
-element_at : {X : Type 0} (xs : List X) (i : ℕ) → i < length xs → (x : X) × (slice_get xs i ≡ Some x)
-element_at [] i within = absurd (omega (arith, within))
-element_at (x ∷ xs) zero within = (x, refl)
-element_at (x ∷ xs) (suc i) within = element_at xs i (omega (arith, within))
 
 -- a call is made at the place that returned and that no line names
 pub record IsMissingAt (events : List Event) (lines : List Line) (place : ℕ) : Type 0 where

@@ -5,7 +5,6 @@ use Rattle.rmm_spec.specs.declared.call.Call.TheVariants as call
 use Rattle.rmm_spec.specs.declared.change.RealmUpdate.TheVariants.{RecCounted}
 use Rattle.rmm_spec.specs.Update.{with_tag}
 use Rattle.rmm_laws.proofs.Applies.{Applies}
-use Rattle.rmm_laws.proofs.Cases.{none_of}
 use Rattle.rmm_laws.proofs.Keeps.{IsRecLike, rec_updated-like}
 use Rattle.rmm_laws.proofs.Records.{updated_like}
 use Rattle.verdict_laws.specs.declared.facts.Fact.TheVariants.{Tagged, PartOf}
@@ -14,6 +13,7 @@ use Rattle.verdict_laws.specs.Facts.{has_aux, has_root, is_part, is_tag, needs, 
 use Rattle.verdict_laws.specs.Slices.{changeable}
 use Rattle.verdict_laws.proofs.FactSteps.{IsDoneSo, step-has}
 use Rattle.verdict_laws.proofs.TagFacts.{carried_by, tag-from_is_tag, tag-is_tag, tag-left}
+use Rattle.lemmas.proofs.Options.{none_of}
 
 -- ---- owners that aren't there
 

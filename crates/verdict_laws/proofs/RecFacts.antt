@@ -20,10 +20,7 @@ use Rattle.verdict_laws.proofs.Spared.{runs_on-read}
 use Rattle.verdict_laws.proofs.SparedCalls.{idle_elsewhere}
 use Rattle.verdict_laws.proofs.Standings.{by_pending, reason_at, standing-inside, standing_of}
 use Rattle.verdict_laws.proofs.TagFacts.{IsCarried, carried_by}
-
--- addresses that differ do so either way
-pub apart : (one other : ℕ) → (one == other) ≡ false → (other == one) ≡ false
-apart one other differ = false_from_ne_true (other == one) (λ same. both_ways (eq-eqb one other (sym (eqb-true other one same))) differ)
+use Rattle.lemmas.proofs.Tests.{apart}
 
 -- ---- what a call makes
 

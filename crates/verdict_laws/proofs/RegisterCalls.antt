@@ -1,5 +1,5 @@
 -- A CPU has one open call, what a line's call does to a register is determined, and so is what lines come to from a value.
-use Rattle.verdict_laws.proofs.Common.{◌≡◌, ℕ, zero, suc, ◌<◌, Bool, inl, inr, List, [], ◌∷◌, ◌++◌, Option, sym, ◌∙◌, ap, subst, arith, cases_order, Command, Event, Line, Measurement, Reply, call_of, History, IsHistory, IsCalled, IsReturned, cpu_named, number_named, HasOnePlaces-from_history, Register}
+use Rattle.verdict_laws.proofs.Common.{◌≡◌, ℕ, zero, suc, ◌<◌, Bool, inl, inr, List, [], ◌∷◌, ◌++◌, Option, sym, ◌∙◌, ap, subst, arith, cases_order, Command, Event, Line, Measurement, Reply, call_of, History, IsHistory, IsCalled, IsReturned, cpu_named, number_named, Register, HasOnePlaces-from_history}
 use Rattle.spec_lemmas.proofs.Calls.{same_command, same_given, same_reply}
 use Rattle.spec_lemmas.proofs.Places.{call_is_event}
 use Rattle.verdict_laws.specs.Registers.{Does, IsDone, IsEntered, IsOpenCall, IsRegisterRun, RegisterCall, done_call, entered_after, value_after}

@@ -1,5 +1,5 @@
 -- First parts of orders and a register: behind the return of a call that does something to it.
-use Rattle.verdict_laws.proofs.Common.{◌≡◌, ℕ, ◌+◌, Bool, true, false, inl, inr, List, [], ◌∷◌, ◌++◌, Option, Some, None, refl, sym, ◌∙◌, ap, subst, append_assoc, false≢true, cases_Bool, Line, Keep, Measurement, Reply, History, IsHistory, IsReturned, IsFinished, IsLinearization, HasOnePlaces-from_history, Register}
+use Rattle.verdict_laws.proofs.Common.{◌≡◌, ℕ, ◌+◌, Bool, true, false, inl, inr, List, [], ◌∷◌, ◌++◌, Option, Some, None, refl, sym, ◌∙◌, ap, subst, append_assoc, false≢true, cases_Bool, Line, Keep, Measurement, Reply, History, IsHistory, IsReturned, IsFinished, IsLinearization, Register, HasOnePlaces-from_history}
 use Rattle.spec_lemmas.proofs.Calls.{same_reply}
 use Rattle.verdict_laws.specs.Registers.{AreMine, AreNext, FitsValue, HaveParts, IsDone, IsPart, IsRegister, IsRegisterRun, Possibility, RegisterCall, Stands, is_placed, value_after, with_placed}
 use Rattle.verdict_laws.proofs.Moves.{Around, around_place}

@@ -1,5 +1,5 @@
 -- Open calls that are put in before a call returns, one after the other.
-use Rattle.verdict_laws.proofs.Common.{◌≡◌, ℕ, suc, ◌+◌, Bool, true, false, inl, inr, List, [], ◌∷◌, ◌++◌, length, Option, Some, None, refl, sym, ◌∙◌, subst, arith, append_assoc, slice_get, cases_Bool, cases_lt, none-some, Event, Line, Keep, Measurement, Reply, History, IsHistory, IsReturned, IsLinearization, cpu_named, number_named, HasOnePlaces-from_history, Register}
+use Rattle.verdict_laws.proofs.Common.{◌≡◌, ℕ, suc, ◌+◌, Bool, true, false, inl, inr, List, [], ◌∷◌, ◌++◌, length, Option, Some, None, refl, sym, ◌∙◌, subst, arith, append_assoc, slice_get, cases_Bool, cases_lt, none-some, Event, Line, Keep, Measurement, Reply, History, IsHistory, IsReturned, IsLinearization, cpu_named, number_named, Register, HasOnePlaces-from_history}
 use Rattle.std.proofs.Common.{◌≢◌}
 use Rattle.std.proofs.lemmas.Bool.Decides.{eqb_tells}
 use Rattle.std.proofs.lemmas.List.{append-nil, get_or-set_same, get_or-set_other, length-set}

@@ -1,5 +1,5 @@
 -- A call that can be left out of each run, and is given its reply where an order has come to, may come next at once, as one that was refused may.
-use Rattle.verdict_laws.proofs.Common.{◌≡◌, ℕ, zero, suc, ◌+◌, ◌≤◌, ◌⊎◌, inl, inr, List, [], ◌∷◌, ◌++◌, length, Some, refl, sym, ◌∙◌, ap, subst, arith, append_assoc, slice_get, cases_lt, slice_get_within, Accepted, Command, Event, Line, Keep, Unfinished, Refusal, Reply, call_of, History, IsHistory, State, opening, Step, CarriesOut, outcome, JournalEntry, IsRun, IsFinished, IsLinearization, ReturnsBefore, AreEntriesOf, IsEntryOf, NamesCall, IsOfItsKind, cpu_named, number_named, HasOnePlaces-from_history, count_of, LeadsNowhere, slice_get-append}
+use Rattle.verdict_laws.proofs.Common.{◌≡◌, ℕ, zero, suc, ◌+◌, ◌≤◌, ◌⊎◌, inl, inr, List, [], ◌∷◌, ◌++◌, length, Some, refl, sym, ◌∙◌, ap, subst, arith, append_assoc, slice_get, cases_lt, slice_get_within, Accepted, Command, Event, Line, Keep, Unfinished, Refusal, Reply, call_of, History, IsHistory, State, opening, Step, CarriesOut, outcome, JournalEntry, IsRun, IsFinished, IsLinearization, ReturnsBefore, AreEntriesOf, IsEntryOf, NamesCall, IsOfItsKind, cpu_named, number_named, count_of, LeadsNowhere, slice_get-append, HasOnePlaces-from_history}
 use Rattle.std.proofs.Common.{Result, Ok, Err}
 use Rattle.rmm_spec.specs.declared.accepted.Accepted.TheVariants as accepted
 use Rattle.rmm_spec.specs.Linearization.{NamesSame}
@@ -8,6 +8,8 @@ use Rattle.rmm_laws.proofs.StepLaws.{step-decides}
 use Rattle.spec_lemmas.proofs.Calls.{HasOnePlaces, SameEntries, same_entry}
 use Rattle.verdict_laws.specs.Order.{Reaches, Grows, IsRefusal}
 use Rattle.verdict_laws.proofs.Moves.{Each, Pairs, Each-from_places, Each-at, Pairs-from_places, Pairs-at, Each-moved, Pairs-moved, place_moved, around_place}
+use Rattle.rmm_laws.proofs.EntryRuns.{same_step, same_state}
+use Rattle.verdict_laws.proofs.Steps.{kept_line}
 
 -- ---- runs
 
@@ -45,28 +47,6 @@ claimed-append events [] ys (e ∷ es) fs here there = absurd here
 claimed-append events (x ∷ xs) ys [] fs here there = absurd here
 claimed-append events (x ∷ xs) ys (e ∷ es) fs here there = (here.0, claimed-append events xs ys es fs here.1 there)
 
--- the same commit leads to the same state
-same_next : (old : State) (entry other : JournalEntry) (new next : State) → SameEntries entry other
-    → Step old entry.cpu entry.command entry.given new → Step old other.cpu other.command other.given next → new ≡ next
-same_next old entry other new next same here there =
-    let there2 : Step old entry.cpu entry.command entry.given next =
-    subst (λ (cpu : ℕ). Step old cpu entry.command entry.given next) (sym same.cpu)
-    (subst (λ (command : Command). Step old other.cpu command entry.given next) (sym same.command)
-    (subst (λ (given : Reply). Step old other.cpu other.command given next) (sym same.given) there)) in
-    step-decides old new next entry.cpu entry.command entry.given here there2
-
--- lines lead to one state
-pub same_state : (events : List Event) → HasOnePlaces events → (lines : List Line) (es fs : List JournalEntry) (start one other : State)
-    → AreEntriesOf events lines es → IsRun start es one → AreEntriesOf events lines fs → IsRun start fs other → one ≡ other
-same_state events places [] [] [] start one other here run there ran = run ∙ sym ran
-same_state events places [] (e ∷ es) fs start one other here run there ran = absurd here
-same_state events places [] [] (f ∷ fs) start one other here run there ran = absurd there
-same_state events places (l ∷ lines) [] fs start one other here run there ran = absurd here
-same_state events places (l ∷ lines) (e ∷ es) [] start one other here run there ran = absurd there
-same_state events places (l ∷ lines) (e ∷ es) (f ∷ fs) start one other here run there ran =
-    let same = same_next start e f run.0 ran.0 (same_entry events places l e f here.0 there.0) run.1 ran.1 in
-    same_state events places lines es fs ran.0 one other here.1 (subst (λ (s : State). IsRun s es one) same run.2) there.1 ran.2
-
 -- a refusal changes nothing
 refusal_keeps : (answer : Result Accepted Refusal) (old new : State) (given : Reply) → IsRefusal given → CarriesOut answer old given new → new ≡ old
 refusal_keeps (Err refusal) old new given refused carried = carried.1
@@ -103,13 +83,6 @@ pub in_either : {X : Type 0} (xs ys : List X) (i : ℕ) (x : X)
 in_either [] ys i x is = inr (i, is)
 in_either (y ∷ xs) ys zero x is = inl is
 in_either (y ∷ xs) ys (suc i) x is = in_either xs ys i x is
-
--- a line of a finished call's kind keeps it
-kept_line : (events : List Event) (line : Line) (cpu number : ℕ) → IsOfItsKind events line → cpu_named line ≡ cpu → number_named line ≡ number
-    → IsFinished events cpu number → line ≡ Keep cpu number
-kept_line events (Keep c n) cpu number kind of_cpu numbered finished = ap (λ (x : ℕ). Keep x n) of_cpu ∙ ap (λ (x : ℕ). Keep cpu x) numbered
-kept_line events (Unfinished c n claimed) cpu number kind of_cpu numbered finished =
-    absurd (kind (subst (λ (x : ℕ). IsFinished events x n) (sym of_cpu) (subst (λ (x : ℕ). IsFinished events cpu x) (sym numbered) finished)))
 
 -- each run from the one state that comes to the line's commit goes on from the other without it
 abbrev pub GoesOnWithout : List Event → Line → State → State → Type 0

@@ -10,6 +10,7 @@ use Rattle.std.proofs.lemmas.Map.Keys.{IsDistinct-from_apart}
 use Rattle.std.proofs.lemmas.Map.Steps.{length-le_from_distinct_below}
 use Rattle.std.proofs.lemmas.Option.{slice_get-get_or, slice_get_cases}
 use Rattle.rmm_spec.specs.Linearization.{NamesCalls}
+use Rattle.lemmas.proofs.Elements.{get_or-other}
 
 -- a place for each line: that of its call
 record Placed (events : List Event) (lines : List Line) : Type 0 where
@@ -32,10 +33,6 @@ places_of events (first ∷ lines) known =
         (call.1, subst (λ (l : Line). IsCalled events call.0 (cpu_named l) (number_named l) call.1) (same_Some first line is) call.2)
     each call rest (suc i) line is = rest.each i line is
 
--- what is read inside a list doesn't depend on the default
-any_default : (xs : List ℕ) (i d e : ℕ) → i < length xs → get_or xs i d ≡ get_or xs i e
-any_default xs i d e inside = same_Some (get_or xs i d) (get_or xs i e) (sym (slice_get-get_or xs i d inside) ∙ slice_get-get_or xs i e inside)
-
 module _ (events : List Event) (lines : List Line) (names : NamesCalls events lines) (at : Placed events lines) where
   -- an element of the places is that of a line
   element : (i : ℕ) → i < length at.places → (line : Line) × (slice_get lines i ≡ Some line)
@@ -55,7 +52,7 @@ module _ (events : List Event) (lines : List Line) (names : NamesCalls events li
         let one = at.each i here.0 here.1 in
         let other = at.each j there.0 there.1 in
         let places : get_or at.places i 0 ≡ get_or at.places j 0 =
-        any_default at.places i 0 d (omega (arith, below, within)) ∙ same.1 ∙ any_default at.places j d 0 within in
+        get_or-other at.places i 0 d (omega (arith, below, within)) ∙ same.1 ∙ get_or-other at.places j d 0 within in
         let both : Some (Called (cpu_named here.0) (number_named here.0) one.0) ≡ Some (Called (cpu_named there.0) (number_named there.0) other.0) =
         sym one.1 ∙ ap (λ (p : ℕ). slice_get events p) places ∙ other.1 in
         absurd (names.once i j here.0 there.0 below here.1 there.1 (cc, cc))

@@ -1,5 +1,5 @@
 -- Where a slice of a history has no order, the history has none.
-use Rattle.verdict_laws.proofs.Common.{◌≡◌, ℕ, suc, ◌+◌, Bool, true, false, if◌then◌else◌, List, [], ◌∷◌, ◌++◌, length, map, inl, inr, Option, Some, None, refl, sym, ◌∙◌, ap, subst, arith, slice_get, false≢true, slice_get_within, Event, Line, Keep, Unfinished, Reply, Config, History, IsHistory, is_accepted, opening, JournalEntry, IsRun, IsCalled, IsReturned, IsFinished, IsNamed, IsOfItsKind, NamesCall, IsEntryOf, AreEntriesOf, IsLinearization, cpu_named, number_named, slice_get-append, HasOnePlaces-from_history, LeadsNowhere}
+use Rattle.verdict_laws.proofs.Common.{◌≡◌, ℕ, suc, ◌+◌, Bool, true, false, if◌then◌else◌, List, [], ◌∷◌, ◌++◌, length, map, inl, inr, Option, Some, None, refl, sym, ◌∙◌, ap, subst, arith, slice_get, false≢true, slice_get_within, Event, Line, Keep, Unfinished, Reply, Config, History, IsHistory, is_accepted, opening, JournalEntry, IsRun, IsCalled, IsReturned, IsFinished, IsNamed, IsOfItsKind, NamesCall, IsEntryOf, AreEntriesOf, IsLinearization, cpu_named, number_named, slice_get-append, LeadsNowhere, HasOnePlaces-from_history}
 use Rattle.std.specs.Option.{IsSome}
 use Rattle.lemmas.proofs.Elements.{slice_get-map_from, slice_get-map_to}
 use Rattle.verdict_laws.specs.Slices.{IsCut, IsSlice, lending_events}

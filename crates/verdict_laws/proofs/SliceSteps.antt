@@ -10,7 +10,7 @@ use Rattle.rmm_spec.specs.Call.{Class, ByHost, ByRealm, ByExit}
 use Rattle.rmm_spec.specs.Rows.{reply_of}
 use Rattle.rmm_spec.specs.Step.Ripas.{can_be_set, stretch_change}
 use Rattle.rmm_spec.specs.Step.Terms.{needed}
-use Rattle.spec_lemmas.proofs.Members.{Contains-head, Contains-tail, each_of_two}
+use Rattle.spec_lemmas.proofs.Members.{each_of_two}
 use Rattle.rmm_laws.proofs.CommandFacts.{Tells, outcome-tells}
 use Rattle.rmm_laws.proofs.RowLaws.{refusal-refuses}
 use Rattle.rmm_laws.proofs.Runs.{done_applies, reached_applies}
@@ -23,6 +23,7 @@ use Rattle.verdict_laws.proofs.Masks.{changed-masked, has_rec-masked, masked-cha
 use Rattle.verdict_laws.proofs.SliceOwners.{HaveLiveRecs, HaveLiveRecs-changed, HaveLiveRecs-grown, rec_replaced}
 use Rattle.verdict_laws.proofs.SliceTerms.{IsOf, masked, touched, touched_by}
 use Rattle.verdict_laws.proofs.Touched.{ArePartsOutside, IsPut-inside, IsPut-outside, outcome-touches}
+use Rattle.lemmas.proofs.Members.{Contains-head, Contains-tail}
 
 -- ---- names
 

@@ -5,7 +5,6 @@ use Rattle.rmm_spec.specs.Update.{with_tag}
 use Rattle.rmm_spec.specs.Lookup.{is_cpu}
 use Rattle.rmm_spec.specs.Step.Terms.{class_of}
 use Rattle.rmm_laws.proofs.ByRows.{AllHold, decided-accepted}
-use Rattle.rmm_laws.proofs.Cases.{none_of}
 use Rattle.rmm_laws.proofs.RowLaws.{front-rest}
 use Rattle.rmm_laws.proofs.StepLaws.{step-keeps}
 use Rattle.rmm_laws.proofs.Tags.{has_tag-other}
@@ -14,6 +13,7 @@ use Rattle.verdict_laws.specs.Apart.{frees_unnamed}
 use Rattle.verdict_laws.proofs.GivenBack.{aux_apart, page_apart, root_apart, table_apart}
 use Rattle.verdict_laws.proofs.Retags.{AreKeptAt, IsReached-tags, outcome-tags}
 use Rattle.verdict_laws.proofs.Spared.{RunAlike, Spares, changed-runs, changed-swapped, changed-tag, is_inside-alike, runs_on-read}
+use Rattle.lemmas.proofs.Options.{none_of}
 
 -- each granule that is named is another
 abbrev pub AreOthers : ℕ → List Needed → Type 0

@@ -1,5 +1,5 @@
 -- Where a CPU is: the REC that runs on it says it, and the replies to its calls, one after another.
-use Rattle.verdict_laws.proofs.Common.{◌≡◌, ℕ, suc, ◌*◌, ◌==◌, ◌&&◌, Bool, true, false, not, if◌then◌else◌, List, [], ◌∷◌, ◌++◌, inl, inr, Option, Some, None, IsTrue, refl, sym, ◌∙◌, ap, subst, arith, eq-eqb, eqb-true, Result, Ok, Err, is_none, unwrap_or, and_parts, cases_Bool, false_from_ne_true, Accepted, Call, Change, RecMade, RecDestroyed, RecordsChanged, EntriesChanged, Replaced, RipasSet, RealmChange, RecChange, TagChange, Command, Line, Refusal, Misplaced, Reply, CanApply, call_of, class_of, changed, new_rec, rec_updated, with_realm_change, with_rec_change, with_tag_change, History, IsHistory, is_inside, no_rec, rec_at, rec_inside, request_of, runs_on, JournalEntry, is_accepted, IsCalled, IsReturned, cpu_named, number_named, IsSound, RecRecord, State, opening, CarriesOut, Step, is_placed, outcome, reached_change, both_ways, behind, HasOnePlaces-from_history, by_address, with_records, outcome-leads, inside_runs, count_of}
+use Rattle.verdict_laws.proofs.Common.{◌≡◌, ℕ, suc, ◌*◌, ◌==◌, ◌&&◌, Bool, true, false, not, if◌then◌else◌, List, [], ◌∷◌, ◌++◌, inl, inr, Option, Some, None, IsTrue, refl, sym, ◌∙◌, ap, subst, arith, eq-eqb, eqb-true, Result, Ok, Err, is_none, unwrap_or, and_parts, cases_Bool, false_from_ne_true, Accepted, Call, Change, RecMade, RecDestroyed, RecordsChanged, EntriesChanged, Replaced, RipasSet, RealmChange, RecChange, TagChange, Command, Line, Refusal, Misplaced, Reply, CanApply, call_of, class_of, changed, new_rec, rec_updated, with_realm_change, with_rec_change, with_tag_change, History, IsHistory, is_inside, no_rec, rec_at, rec_inside, request_of, runs_on, JournalEntry, is_accepted, IsCalled, IsReturned, cpu_named, number_named, IsSound, RecRecord, State, opening, CarriesOut, Step, is_placed, outcome, reached_change, both_ways, behind, by_address, with_records, outcome-leads, inside_runs, count_of, HasOnePlaces-from_history}
 use Rattle.std.proofs.lemmas.Bool.{true_from_ne_false}
 use Rattle.rmm_spec.specs.declared.accepted.Accepted.TheVariants as accepted
 use Rattle.rmm_spec.specs.declared.call.Call.TheVariants as call

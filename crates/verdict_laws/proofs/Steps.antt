@@ -1,5 +1,5 @@
 -- An order that lacks a call at its return is continued by open calls and then the call.
-use Rattle.verdict_laws.proofs.Common.{◌≡◌, ℕ, ◌+◌, ◌<◌, ◌≤◌, eqb, List, [], ◌∷◌, ◌++◌, inl, inr, length, Option, Some, sym, ◌∙◌, ap, subst, arith, append_assoc, slice_get, cases_Bool, cases_lt, cases_order, same_Some, slice_get_within, slice_get-append, Command, Event, Called, Returned, Line, Keep, Unfinished, Reply, History, IsHistory, State, opening, IsCalled, IsReturned, IsFinished, IsLinearization, IsOfItsKind, cpu_named, number_named, HasOnePlaces-from_history, count_of, LeadsNowhere}
+use Rattle.verdict_laws.proofs.Common.{◌≡◌, ℕ, ◌+◌, ◌<◌, ◌≤◌, eqb, List, [], ◌∷◌, ◌++◌, inl, inr, length, Option, Some, sym, ◌∙◌, ap, subst, arith, append_assoc, slice_get, cases_Bool, cases_lt, cases_order, same_Some, slice_get_within, slice_get-append, Command, Event, Called, Returned, Line, Keep, Unfinished, Reply, History, IsHistory, State, opening, IsCalled, IsReturned, IsFinished, IsLinearization, IsOfItsKind, cpu_named, number_named, count_of, LeadsNowhere, HasOnePlaces-from_history}
 use Rattle.std.proofs.lemmas.Bool.{eqb-true}
 use Rattle.std.specs.Option.{option_map}
 use Rattle.lemmas.proofs.Elements.{slice_get-push}
@@ -7,10 +7,11 @@ use Rattle.rmm_spec.specs.Linearization.{NamesSame}
 use Rattle.verdict_laws.proofs.CallOrder.{call_before_return, returns_before_later}
 use Rattle.verdict_laws.proofs.Counts.{count_of-nil}
 use Rattle.verdict_laws.proofs.Moves.{Each, Pairs, Each-append, Each-from_places, Pairs-from_places, around_place}
-use Rattle.verdict_laws.proofs.Settled.{behind, in_either, same_state, split_run}
+use Rattle.verdict_laws.proofs.Settled.{behind, in_either, split_run}
 use Rattle.verdict_laws.specs.Forward.{IsKept, IsOpen, AreOpen, Gives}
 use Rattle.verdict_laws.proofs.Counted.{count_of-cons_other}
 use Rattle.verdict_laws.proofs.Looks.{Gives-split, nowhere_further}
+use Rattle.rmm_laws.proofs.EntryRuns.{same_state}
 
 -- an event is a call or a return
 is_call : Event → ℕ

@@ -21,6 +21,7 @@ use Rattle.rmm_laws.proofs.Applies.{inside_running}
 use Rattle.verdict_laws.specs.Unread.{is_reading, is_reading_function, is_extending, is_extending_function, unmeasured, unmeasured_realm, extension_for, unread_command, unread_reply}
 use Rattle.verdict_laws.proofs.UnmeasuredAnswers.{Alike, ReadsNone, IsReached-alike, outcome-alike, realm_at-unmeasured}
 use Rattle.verdict_laws.proofs.UnmeasuredChanges.{changed-alike, with_realm-unmeasured}
+use Rattle.spec_lemmas.proofs.Lookups.{with_realm-same}
 
 -- the reply is given from the state, which comes to one that differs from the new one in measurements alone
 abbrev CarriesOver : State → Result Accepted Refusal → Reply → State → Type 0
@@ -59,13 +60,6 @@ owner-there s t cpu sound inside same =
     let there = realm_there s rd sound (inside_running s cpu sound inside).owner in
     subst (λ (u : State). u.realm (owner_at u cpu) ≡ Some (realm_at u (owner_at u cpu))) same
     (ap (λ o. option_map unmeasured_realm o) there ∙ ap (λ r. Some r) (sym (realm_at-unmeasured s rd)))
-
--- a record that is put where it stands changes nothing
-with_realm-same : (s : State) (rd : ℕ) (realm : RealmRecord) → s.realm rd ≡ Some realm → with_realm s rd realm ≡ s
-with_realm-same s rd realm there = λ i. record s { realm = λ other. at other i }
-  where
-    at : (other : ℕ) → (if other == rd then Some realm else s.realm other) ≡ s.realm other
-    at other = by_address (λ o. o ≡ s.realm other) other rd (Some realm) (s.realm other) (λ here. sym there ∙ ap s.realm (sym here)) (λ _. refl)
 
 -- an extension of a realm that stands changes measurements alone
 extended-unmeasured : (t : State) (rd index size : ℕ) (values : List ℕ) → (unmeasured t).realm rd ≡ Some (realm_at (unmeasured t) rd)
@@ -214,7 +208,7 @@ other-reads_none function.MeasurementRead words other = absurd (false≢true (sy
 other-reads_none _ words other = tt
 
 -- another command than a reading has its own reply
-unread_reply-other : (command : Command) (given : Reply) → is_reading command ≡ false → unread_reply command given ≡ given
+pub unread_reply-other : (command : Command) (given : Reply) → is_reading command ≡ false → unread_reply command given ≡ given
 unread_reply-other command (reply.Ok words) other = rw other refl
 unread_reply-other command (reply.Err status index) other = refl
 unread_reply-other command reply.Misplaced other = refl

@@ -6,7 +6,7 @@ use Rattle.rmm_spec.specs.declared.reply.Reply.TheVariants as reply
 use Rattle.rmm_laws.proofs.Runs.{step_sound}
 use Rattle.verdict_laws.specs.Unread.{unmeasured, is_reading, is_extending, extension_for, unread_command, unread_reply, IsUnreadEvent, IsUnread, ReadsNothing}
 use Rattle.verdict_laws.proofs.Settled.{claimed-append}
-use Rattle.verdict_laws.proofs.Unmeasured.{step-unmeasured, extended_step-unmeasured}
+use Rattle.verdict_laws.proofs.Unmeasured.{step-unmeasured, extended_step-unmeasured, unread_reply-other}
 
 -- ---- runs
 
@@ -28,12 +28,6 @@ run-unmeasured (entry ∷ entries) s t last sound same run =
 unread_command-same : (command : Command) → is_reading command ≡ false → unread_command command ≡ command
 unread_command-same command other = λ i. if other i then extension_for (slice_index command.words.items 0) else command
 
--- and so does its reply
-unread_reply-same : (command : Command) (given : Reply) → is_reading command ≡ false → unread_reply command given ≡ given
-unread_reply-same command (reply.Ok words) other = λ i. if other i then ok [] else reply.Ok words
-unread_reply-same command (reply.Err status index) other = refl
-unread_reply-same command reply.Misplaced other = refl
-
 -- so the commits stay where no call asks for a measurement
 map-unread_entry : (events : List Event) → ReadsNothing events → (lines : List Line) (entries : List JournalEntry)
     → AreEntriesOf events lines entries → map unread_entry entries ≡ entries
@@ -44,7 +38,7 @@ map-unread_entry events nothing (line ∷ lines) (entry ∷ entries) claimed =
     let is_entry = claimed.0 in
     let other = nothing is_entry.called _ _ entry.command is_entry.is_called in
     let command = unread_command-same entry.command other in
-    let given = unread_reply-same entry.command entry.given other in
+    let given = unread_reply-other entry.command entry.given other in
     λ i. record entry { command = command i; given = given i } ∷ map-unread_entry events nothing lines entries claimed.1 i
 
 -- and a run goes on from a state that differs in measurements alone

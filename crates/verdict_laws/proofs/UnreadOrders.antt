@@ -1,5 +1,5 @@
 -- Orders of a history's calls, and those of the history in which each reading of a measurement extends one.
-use Rattle.verdict_laws.proofs.Common.{◌≡◌, ℕ, zero, suc, ◌<◌, true, List, [], ◌∷◌, ◌++◌, map, Some, refl, sym, ◌∙◌, ap, subst, slice_get, none-some, same_Some, Command, Event, Line, Keep, Unfinished, Reply, History, IsHistory, State, opening, JournalEntry, IsReturned, IsFinished, IsNamed, IsOfItsKind, NamesCall, ReturnsBefore, IsEntryOf, AreEntriesOf, IsLinearization, cpu_named, number_named, HasOnePlaces-from_history, count_of, LeadsNowhere}
+use Rattle.verdict_laws.proofs.Common.{◌≡◌, ℕ, zero, suc, ◌<◌, true, List, [], ◌∷◌, ◌++◌, map, Some, refl, sym, ◌∙◌, ap, subst, slice_get, none-some, same_Some, Command, Event, Line, Keep, Unfinished, Reply, History, IsHistory, State, opening, JournalEntry, IsReturned, IsFinished, IsNamed, IsOfItsKind, NamesCall, ReturnsBefore, IsEntryOf, AreEntriesOf, IsLinearization, cpu_named, number_named, count_of, LeadsNowhere, HasOnePlaces-from_history}
 use Rattle.rmm_spec.specs.Linearization.{NamesSame, KeepsRealTime}
 use Rattle.rmm_laws.proofs.Opening.{opening_sound}
 use Rattle.rmm_laws.proofs.Runs.{opened_run_sound}

@@ -9,9 +9,7 @@ use Rattle.rmm_spec.specs.Change.{new_realm}
 use Rattle.rmm_spec.specs.Lookup.{has_vmid}
 use Rattle.spec_lemmas.proofs.Placed.{any_below-from, passing_below}
 use Rattle.rmm_laws.proofs.Applies.{Applies}
-use Rattle.rmm_laws.proofs.Cases.{none_of}
 use Rattle.rmm_laws.proofs.Commands.{accepted_applies, whole_command}
-use Rattle.rmm_laws.proofs.Finds.{granule-number}
 use Rattle.rmm_laws.proofs.Keeps.{rec_change-rest}
 use Rattle.rmm_laws.proofs.Records.{updated_like}
 use Rattle.rmm_laws.proofs.Runs.{step_sound}
@@ -21,17 +19,14 @@ use Rattle.verdict_laws.specs.Denying.{gives_none}
 use Rattle.verdict_laws.specs.Facts.{is_shared, is_tag, makes_vmid, may_share}
 use Rattle.verdict_laws.proofs.FactSteps.{IsDoneSo, step-has}
 use Rattle.verdict_laws.proofs.TagFacts.{tag-from_is_tag, tag-is_tag}
+use Rattle.lemmas.proofs.Options.{none_of}
+use Rattle.spec_lemmas.proofs.Lookups.{vmid_owner, granule-number}
 
 -- ---- in a state
 
 -- no realm at another address has the VMID
 abbrev IsSole : (ℕ → Option RealmRecord) → ℕ → ℕ → Type 0
 IsSole realms rd vmid = (g : ℕ) → (rd == g) ≡ false → has_vmid vmid (realms g) ≡ false
-
--- what has a VMID is a realm
-owner : (vmid : ℕ) (found : Option RealmRecord) → has_vmid vmid found ≡ true → (r : RealmRecord) × (found ≡ Some r) × (r.vmid ≡ vmid)
-owner vmid None has = both_ways has refl
-owner vmid (Some realm) has = (realm, refl, eqb-true realm.vmid vmid has)
 
 module _ (s : State) (rd vmid : ℕ) where
   -- whether a granule's realm shares the VMID
@@ -48,7 +43,7 @@ module _ (s : State) (rd vmid : ℕ) where
   -- and where none is found, none has it, as realms stand at granules
   sole_there : IsSound s → not (is_shared s rd vmid) ≡ true → IsSole s.realm rd vmid
   sole_there sound is g apart = false_from_ne_true (has_vmid vmid (s.realm g)) (λ has.
-      let number = granule-number s.config.granules g (realm_granule s sound g (ap is_some (owner vmid (s.realm g) has).1)) in
+      let number = granule-number s.config.granules g (realm_granule s sound g (ap is_some (vmid_owner vmid (s.realm g) has).1)) in
       both_ways (any_below-from s.config.granules shares (g / 4096) number.0
       (subst (λ a. (not (rd == a) && has_vmid vmid (s.realm a)) ≡ true) number.1 (and_from _ _ (ap not apart) has)))
       (not-true (is_shared s rd vmid) is))
@@ -149,10 +144,10 @@ pub vmid-made : (rd vmid : ℕ) (s new : State) (cpu : ℕ) (command : Command) 
     → is_accepted given ≡ true → makes_vmid (call_of command) rd vmid ≡ true → not (is_shared new rd vmid) ≡ true
 vmid-made rd vmid s new cpu command given sound step accepted makes =
     let apart = (step_sound s cpu command given new sound step).realms.apart in
-    let own = owner vmid (new.realm rd) (step-has (λ t. has_vmid vmid (t.realm rd) ≡ true) _ s new cpu command given (λ change is. is)
+    let own = vmid_owner vmid (new.realm rd) (step-has (λ t. has_vmid vmid (t.realm rd) ≡ true) _ s new cpu command given (λ change is. is)
     (both_ways accepted) (behind_makes rd vmid s cpu (call_of command) makes) step) in
     unshared new rd vmid (λ g elsewhere. false_from_ne_true (has_vmid vmid (new.realm g)) (λ has.
-    let other = owner vmid (new.realm g) has in
+    let other = vmid_owner vmid (new.realm g) has in
     both_ways (eq-eqb rd g (apart rd g own.0 other.0 own.1 other.1 (own.2 ∙ sym other.2))) elsewhere))
 
 -- what a call does that is carried out gives it to no other realm, where no change that is made does

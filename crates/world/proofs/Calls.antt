@@ -14,13 +14,6 @@ pub no_first : {A : Type 0} (xs : List A) → slice_get xs 0 ≡ None → xs ≡
 no_first [] is = refl
 no_first (first ∷ xs) is = absurd (none-some first (sym is))
 
--- what is first behind some elements
-pub slice_get-drop : {A : Type 0} (xs : List A) (n : ℕ) → slice_get (drop n xs) 0 ≡ slice_get xs n
-slice_get-drop [] zero = refl
-slice_get-drop [] (suc n) = refl
-slice_get-drop (x ∷ xs) zero = refl
-slice_get-drop (x ∷ xs) (suc n) = slice_get-drop xs n
-
 -- who has called all commands has nothing to do
 pub all-called : (w : World) (cpu number : ℕ) → w.phase cpu ≡ Between number → slice_get (w.program cpu) 0 ≡ None → IsIdle w cpu Go
 all-called w cpu number between none = inr (record { number = number; is_between = between; none_left = no_first (w.program cpu) none })

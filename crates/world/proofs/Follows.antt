@@ -15,6 +15,7 @@ use Rattle.world.specs.declared.world.World as own
 use Rattle.world.specs.Kept.{IsFit}
 use Rattle.world.proofs.Moves.{called, with_call, returned, with_return}
 use Rattle.world.proofs.Reached.{written-reached}
+use Rattle.world.proofs.Lines.{IsReply-single}
 
 last-event : (cpus : ℕ) (events : List Event) (event : Event) → AllByRecursion (IsEvent cpus) (events ++ event ∷ []) → IsEvent cpus event
 last-event cpus [] event each = each.0
@@ -37,12 +38,6 @@ follows-reached config events event next waits is_config same recorded single re
           omega (arith, lines, length_push events event),
     ))
 
--- there is one way in which a reply is written
-is_reply-single : (given : Reply) → IsProp (IsReply given)
-is_reply-single (Ok words) = hlevel props
-is_reply-single (Err status index) = hlevel props
-is_reply-single Misplaced = hlevel props
-
 module _ (s : own.World) (cpu number : ℕ) (is_config : IsConfig s.history.recorded.config) (within : cpu < s.history.recorded.config.cpus) where
   -- a call can be recorded
   pub call-follows : (command : Command) → (views_of s.cpus).phase cpu ≡ Between number → slice_get ((views_of s.cpus).program cpu) 0 ≡ Some command
@@ -61,7 +56,7 @@ module _ (s : own.World) (cpu number : ℕ) (is_config : IsConfig s.history.reco
       let f = with_return s cpu within number given in
       follows-reached s.history.recorded.config s.history.recorded.events (Returned cpu number given)
       (world_with f.cells f.side f.views f.journal f.history) f.views.waits is_config refl refl
-      (hlevel (props, is_reply-single given)) (returned s cpu within number command given decided none).kept.reached
+      (hlevel (props, IsReply-single given)) (returned s cpu within number command given decided none).kept.reached
 
 -- the number of the next call is within the limit
 pub next-number : (s : own.World) (cpu number : ℕ) (command : Command) (given : Reply) → (views_of s.cpus).phase cpu ≡ Decided number command given

@@ -24,7 +24,7 @@ at_place P [] place x all is = absurd (none-some x is)
 at_place P (first ∷ xs) zero x all is = subst P (same_Some first x is) all.0
 at_place P (first ∷ xs) (suc place) x all is = at_place P xs place x all.1 is
 
-IsReply-single : (reply : Reply) → IsProp (IsReply reply)
+pub IsReply-single : (reply : Reply) → IsProp (IsReply reply)
 IsReply-single (reply.Ok words) = hlevel props
 IsReply-single (reply.Err status index) = hlevel props
 IsReply-single reply.Misplaced = hlevel props

@@ -8,18 +8,13 @@ use Rattle.lemmas.proofs.Tests.{both_ways, keys_apart}
 use Rattle.rmm_laws.proofs.Slices.{slice_get-set_same, slice_get-set_other}
 use Rattle.world.specs.Granules.{item_at}
 use Rattle.world.specs.Cpus.{told, of_each}
+use Rattle.spec_lemmas.proofs.Lookups.{granule-within}
 
 -- ---- granules
 
 pub granule-multiple : (granules address : ℕ) → IsTrue (is_granule granules address) → (address % 4096 == 0) ≡ true
 unfolding is_granule
 granule-multiple granules address granule = (and_parts (address % 4096 == 0) (nat_lt address (granules * 4096)) granule).0
-
-pub granule-within : (granules address : ℕ) → IsTrue (is_granule granules address) → address / 4096 < granules
-unfolding is_granule
-granule-within granules address granule =
-    let parts = and_parts (address % 4096 == 0) (nat_lt address (granules * 4096)) granule in
-    omega (arith, ltb-true address (granules * 4096) parts.1)
 
 -- one item is changed, and what it tells is seen at the granule's own address and at another
 item_at-set_cases : {A B : Type 0} → (f : A → B) (items : List A) (default item : A) (address other : ℕ) (multiple same : Bool)

@@ -9,11 +9,11 @@ use Rattle.std.proofs.lemmas.List.{take_more}
 use Rattle.std.proofs.lemmas.List.Folds.{list_any-append, list_any_at}
 use Rattle.rmm_spec.specs.Lookup.{is_granule, is_cpu}
 use Rattle.rmm_spec.specs.World.{without_granule}
-use Rattle.lemmas.proofs.Tests.{both_ways}
+use Rattle.lemmas.proofs.Tests.{both_ways, and_second-fails, apart}
 use Rattle.spec_lemmas.proofs.Maps.{put_elim}
-use Rattle.spec_lemmas.proofs.Members.{Contains-head, Contains-tail}
 use Rattle.command_core.proofs.Distinct.{distinct-push}
 use Rattle.world.specs.Kept.{AreLocks, has_taken, freed_all}
+use Rattle.lemmas.proofs.Members.{Contains-head, Contains-tail}
 
 -- one that is among them is a member
 pub taken-contains : (taken : List ℕ) (granule : ℕ) → has_taken taken granule ≡ true → Contains taken granule
@@ -37,15 +37,11 @@ or_false : (b : Bool) → (b || (false || false)) ≡ b
 or_false true = refl
 or_false false = refl
 
-and_false : (b c : Bool) → c ≡ false → (b && c) ≡ false
-and_false true c is = is
-and_false false c is = refl
-
 -- ---- freeing one
 
 has_taken-without : (taken : List ℕ) (granule other : ℕ)
     → has_taken (without_granule granule taken) other ≡ (not (other == granule) && has_taken taken other)
-has_taken-without [] granule other = sym (and_false (not (other == granule)) false refl)
+has_taken-without [] granule other = sym (and_second-fails (not (other == granule)) false refl)
 has_taken-without (lock ∷ taken) granule other =
     by (lock == granule) (other == granule) (lock == other) refl refl refl (has_taken-without taken granule other)
   where
@@ -84,13 +80,10 @@ distinct-without (lock ∷ taken) granule distinct =
     by true rest none = rest
     by false rest none =
         let gone : has_taken (without_granule granule taken) lock ≡ false =
-        has_taken-without taken granule lock ∙ and_false (not (lock == granule)) (has_taken taken lock) none in
+        has_taken-without taken granule lock ∙ and_second-fails (not (lock == granule)) (has_taken taken lock) none in
         and_from (not (has_taken (without_granule granule taken) lock)) (are_distinct (without_granule granule taken)) (ap not gone) rest
 
 -- ---- who holds what
-
-flipped : (a b : ℕ) → (a == b) ≡ false → (b == a) ≡ false
-flipped a b apart = grind (arith, nat_tests)
 
 list_all-push : (p : ℕ → Bool) (taken : List ℕ) (granule : ℕ)
     → IsTrue (list_all p taken) → IsTrue (p granule) → IsTrue (list_all p (taken ++ granule ∷ []))
@@ -121,10 +114,10 @@ AreLocks-taken granules taken holder cpu granule is free locks = record {
         pushed lock ∙ rw (eq-eqb granule lock (sym (eqb-true lock granule second))) (or_true (has_taken (taken cpu) lock))
         ∙ sym (eq-eqb cpu other (sym (eqb-true other cpu first)))
     by other lock true false first second =
-        pushed lock ∙ rw (flipped lock granule second) (or_false (has_taken (taken cpu) lock)) ∙ locks.held cpu lock
+        pushed lock ∙ rw (apart lock granule second) (or_false (has_taken (taken cpu) lock)) ∙ locks.held cpu lock
         ∙ ap (λ c. is_cpu c (holder lock)) (sym (eqb-true other cpu first))
     by other lock false true first second =
-        locks.held other lock ∙ ap (is_cpu other) (ap holder (eqb-true lock granule second) ∙ free) ∙ sym (flipped other cpu first)
+        locks.held other lock ∙ ap (is_cpu other) (ap holder (eqb-true lock granule second) ∙ free) ∙ sym (apart other cpu first)
     by other lock false false first second = locks.held other lock
 
 -- a CPU frees a lock that it holds
@@ -145,7 +138,7 @@ AreLocks-freed granules taken holder cpu granule is locks = record {
         has_taken-without (taken cpu) granule lock ∙ rw second (locks.held cpu lock)
         ∙ ap (λ c. is_cpu c (holder lock)) (sym (eqb-true other cpu first))
     by other lock false true first second =
-        locks.held other lock ∙ ap (is_cpu other) (ap holder (eqb-true lock granule second) ∙ is) ∙ flipped other cpu first
+        locks.held other lock ∙ ap (is_cpu other) (ap holder (eqb-true lock granule second) ∙ is) ∙ apart other cpu first
     by other lock false false first second = locks.held other lock
 
 -- who a lock's holder is
@@ -169,7 +162,7 @@ AreLocks-cleared granules taken holder cpu locks = record {
         sym second ∙ locks.held cpu lock ∙ ap (λ c. is_cpu c (holder lock)) (sym (eqb-true other cpu first))
     by other lock false true first second =
         let mine : holder lock ≡ Some cpu = held_by cpu (holder lock) (sym (locks.held cpu lock) ∙ second) in
-        locks.held other lock ∙ ap (is_cpu other) mine ∙ flipped other cpu first
+        locks.held other lock ∙ ap (is_cpu other) mine ∙ apart other cpu first
     by other lock false false first second = locks.held other lock
 
 -- one lock more is free
@@ -185,7 +178,7 @@ freed_all-next taken i lock holder within is = λ k other. at other k
     by other true true first second = refl
     by other true false first second = refl
     by other false true first second = rw (eq-eqb lock other (sym (eqb-true other lock second))) refl
-    by other false false first second = rw (flipped other lock second) refl
+    by other false false first second = rw (apart other lock second) refl
 
     at : (other : ℕ) → put (freed_all (take i taken) holder) lock None other ≡ freed_all (take (i + 1) taken) holder other
     at other =

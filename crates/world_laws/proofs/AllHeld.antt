@@ -17,12 +17,12 @@ use Rattle.world_laws.proofs.Locals.{agrees-at}
 use Rattle.spec_lemmas.proofs.Members.{Contains-nil, Contains-other, Contains-from_slice_get, slice_get-from_Contains, cells_at, cell_held, granules_held-cells_at}
 use Rattle.rmm_laws.specs.Whole.{Whole, IsShaped, cells_changed, side_changed, places_changed, whole_changed}
 use Rattle.rmm_laws.proofs.Accepted.{done-keeps_shape}
-use Rattle.rmm_laws.proofs.Finds.{granule-number}
 use Rattle.world_laws.specs.Strays.{granules_below, hold_all}
 use Rattle.world_laws.proofs.Serving.{Contains-last}
 use Rattle.lemmas.proofs.Elements.{slice_get-append}
 use Rattle.lemmas.proofs.Tests.{keys_apart}
 use Rattle.spec_lemmas.proofs.Maps.{put-same}
+use Rattle.spec_lemmas.proofs.Lookups.{granule-number}
 
 Contains-before : {X : Type 0} (xs ys : List X) (x : X) → Contains xs x → Contains (xs ++ ys) x
 Contains-before xs ys x has =

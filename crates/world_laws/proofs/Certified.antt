@@ -13,6 +13,7 @@ use Rattle.rmm_spec.specs.Flat.{flat_state}
 use Rattle.rmm_spec.specs.World.{World, Commitment, is_return_of, line_for, IsCertified}
 use Rattle.world_laws.proofs.Recorded.{AreCommitsOf, entry_of, IsAccounted}
 use Rattle.lemmas.proofs.Elements.{slice_get-map_from, slice_get-map_to}
+use Rattle.spec_lemmas.proofs.LineOf.{is_return_of-returned}
 
 -- ---- whether a return is recorded
 
@@ -25,9 +26,6 @@ is_return_of-true cpu number (Returned other count given) is =
   where
     ap₂' : other ≡ cpu → count ≡ number → Returned other count given ≡ Returned cpu number given
     ap₂' same_cpu same_number = λ i. Returned (same_cpu i) (same_number i) given
-
-is_return_of-same : (cpu number : ℕ) (given : Reply) → is_return_of cpu number (Returned cpu number given) ≡ true
-is_return_of-same cpu number given = rw (eq-eqb cpu cpu refl, eq-eqb number number refl) refl
 
 -- a recorded return is found, and what is found is one
 IsFinished-from_any : (events : List Event) (cpu number : ℕ) → list_any (is_return_of cpu number) events ≡ true → IsFinished events cpu number
@@ -44,7 +42,7 @@ any-from_IsReturned : (events : List Event) (place cpu number : ℕ) (given : Re
 any-from_IsReturned [] place cpu number given is = absurd (none-some (Returned cpu number given) is)
 any-from_IsReturned (event ∷ events) zero cpu number given is =
     let here : is_return_of cpu number event ≡ true =
-    ap (is_return_of cpu number) (same_Some event (Returned cpu number given) is) ∙ is_return_of-same cpu number given in
+    ap (is_return_of cpu number) (same_Some event (Returned cpu number given) is) ∙ is_return_of-returned cpu number given in
     rw here refl
 any-from_IsReturned (event ∷ events) (suc place) cpu number given is =
     by (is_return_of cpu number event) (any-from_IsReturned events place cpu number given is)

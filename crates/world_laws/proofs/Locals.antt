@@ -12,8 +12,9 @@ use Rattle.rmm_spec.specs.Shape.{Side, CpuPlace, IsWellShaped}
 use Rattle.rmm_spec.specs.Local.{HeldCell, Hold, granules_held, Agrees, put_all, LocalStep}
 use Rattle.world_laws.specs.Replaced.{replaced_cells, replaced, replaced_all}
 use Rattle.spec_lemmas.proofs.Maps.{put-same}
-use Rattle.spec_lemmas.proofs.Members.{Contains-nil, Contains-other, Contains-head, Contains-tail}
+use Rattle.spec_lemmas.proofs.Members.{Contains-nil, Contains-other}
 use Rattle.lemmas.proofs.Tests.{keys_apart}
+use Rattle.lemmas.proofs.Members.{Contains-head, Contains-tail}
 
 pub put_all-agrees : (held : List HeldCell) (cells : ℕ → Cell) → Agrees cells held → put_all cells held ≡ cells
 put_all-agrees [] cells agrees = refl

@@ -24,7 +24,7 @@ IsAccounted-run config programs moves w happen =
     IsAccounted-HappenAll (opening_world config programs) moves w (IsAccounted-opening config programs) happen
 
 -- no move changes the configuration
-config-Moves : (old : World) (move : Move) (new : World) → Moves old move new → new.config ≡ old.config
+pub config-Moves : (old : World) (move : Move) (new : World) → Moves old move new → new.config ≡ old.config
 config-Moves old (world.Call cpu) new moves = ap (λ (w : World). w.config) moves.is_new
 config-Moves old _ new moves = ap (λ (w : World). w.config) moves.is_new
 

@@ -28,6 +28,7 @@ use Rattle.rmm_spec.specs.Locks.{needs, needs_outside, is_named, leads_to, names
 use Rattle.rmm_spec.specs.Waits.{IsRising, WaitsAt}
 use Rattle.spec_lemmas.proofs.Members.{Contains-from_slice_get, passing_member, held_cell, cell_held}
 use Rattle.world_laws.proofs.Locked.{IsLocked}
+use Rattle.rmm_laws.proofs.Cells.{cell-table}
 
 -- ---- what commands name is never a part
 
@@ -76,10 +77,6 @@ pub data PartKind (cells : ℕ → Cell) (by : Cell) (part : ℕ) : Type 0 where
   page : cells part ≡ Data → PartKind cells by part
   aux : (rec : RecRecord) → cells part ≡ RecAux → by ≡ Rec rec → PartKind cells by part
 
-is_rtt : (c : Cell) (t : TableRecord) → table_in c ≡ Some t → c ≡ Rtt t
-is_rtt (Rtt u) t is = ap Rtt (let same : u ≡ t = cc in same)
-is_rtt _ t is = absurd cc
-
 is_data_cell : (c : Cell) → is_data c ≡ true → c ≡ Data
 is_data_cell Data is = refl
 is_data_cell _ is = absurd (false≢true is)
@@ -99,7 +96,7 @@ part_kind : (config : Config) (side : Side) (places : ℕ → CpuPlace) (cells :
 part_kind config side places cells shaped g (Rd realm) part is names =
     let held = shaped.tables.roots g realm (ap (λ (c : Cell). realms_of (λ _. c) 0) is) in
     let at_part : tables_of cells part ≡ Some held.table = ap (tables_of cells) (sym (eqb-true realm.root part names)) ∙ held.is_held in
-    root held.table (is_rtt (cells part) held.table at_part) refl (level_within config side places cells shaped part held.table at_part)
+    root held.table (cell-table (cells part) held.table at_part) refl (level_within config side places cells shaped part held.table at_part)
 part_kind config side places cells shaped g (Rec rec) part is names =
     by_aux (rec.aux0 == part) refl names
   where
@@ -121,7 +118,7 @@ part_kind config side places cells shaped g (Rtt table) part is names =
     by_entry i (Table below) at leads =
         let held = shaped.tables.links g i below table of_table at in
         let at_part : tables_of cells part ≡ Some held.table = ap (tables_of cells) (sym (eqb-true below part leads)) ∙ held.is_held in
-        child held.table (is_rtt (cells part) held.table at_part) (sym held.is_level)
+        child held.table (cell-table (cells part) held.table at_part) (sym held.is_level)
         (level_within config side places cells shaped part held.table at_part)
     by_entry i (Assigned ripas granule) at leads =
         page (is_data_cell (cells part)

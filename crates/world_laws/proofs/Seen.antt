@@ -18,7 +18,6 @@ use Rattle.rmm_spec.specs.Table.{TableRecord}
 use Rattle.rmm_spec.specs.Walk.{passes, entry_ripas, has_entry}
 use Rattle.rmm_spec.specs.Cell.{Undelegated, Rd, tag_of, realm_in, rec_in, table_in, realms_of}
 use Rattle.rmm_spec.specs.Flat.{is_table_of}
-use Rattle.rmm_laws.proofs.Entries.{value_there}
 use Rattle.rmm_laws.proofs.Spaces.{space_cases}
 use Rattle.spec_lemmas.proofs.Placed.{cell_is_granule}
 use Rattle.rmm_laws.proofs.Cells.{cell-realm}
@@ -29,6 +28,7 @@ use Rattle.world_laws.specs.SeenState.{is_of_realm, start_of, blank_realm, realm
 use Rattle.world_laws.proofs.Found.{behind-table, placed-some, any_below-same}
 use Rattle.world_laws.proofs.Tables.{placed-found, entry-same, reach-end}
 use Rattle.world_laws.proofs.Wholes.{Whole, state, sound, whole_cell, whole_table, held-contains}
+use Rattle.lemmas.proofs.Options.{value_there}
 
 -- ---- granules that are held
 

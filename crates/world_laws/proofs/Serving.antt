@@ -13,9 +13,10 @@ use Rattle.rmm_spec.specs.Local.{Hold, put_all, LocalStep}
 use Rattle.rmm_spec.specs.World.{World, Phase, Between, Deciding, Decided, Move, HappenAll, without_granule}
 use Rattle.rmm_spec.specs.World as move
 use Rattle.spec_lemmas.proofs.Maps.{put_elim, put-same, put-here}
-use Rattle.spec_lemmas.proofs.Members.{Contains-nil, Contains-other, Contains-tail, Contains-head, cells_at}
+use Rattle.spec_lemmas.proofs.Members.{Contains-nil, Contains-other, cells_at}
 use Rattle.world_laws.specs.SmallWorlds.{HappenBy, freeing, served_by}
 use Rattle.lemmas.proofs.Tests.{keys_apart}
+use Rattle.lemmas.proofs.Members.{Contains-head, Contains-tail}
 
 -- ---- maps and lists
 

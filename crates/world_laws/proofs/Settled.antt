@@ -25,7 +25,6 @@ use Rattle.rmm_spec.specs.Local.{Hold, Agrees, LocalStep}
 use Rattle.spec_lemmas.proofs.Behind.{behind}
 use Rattle.spec_lemmas.proofs.WalkLaws.{walk_ends_unlinked, first_reached, table_size-entries}
 use Rattle.rmm_laws.proofs.ByRows.{AllHold, decided-accepted}
-use Rattle.rmm_laws.proofs.Entries.{value_there}
 use Rattle.rmm_laws.proofs.Spaces.{entry_size-pos, unscaled_le}
 use Rattle.rmm_laws.proofs.Walked.{entry_starts, unassigned_kind}
 use Rattle.world_laws.proofs.Locals.{unchanged-is_local}
@@ -40,6 +39,7 @@ use Rattle.world_laws.proofs.Steps.{done-local, reached-local}
 use Rattle.world_laws.proofs.Tables.{entry-same}
 use Rattle.world_laws.proofs.ToldWalks.{walk-told, early-told}
 use Rattle.world_laws.proofs.Wholes.{Whole, state}
+use Rattle.lemmas.proofs.Options.{value_there}
 
 -- ---- stretches
 

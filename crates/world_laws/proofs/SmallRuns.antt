@@ -18,12 +18,13 @@ use Rattle.rmm_spec.specs.World as move
 use Rattle.rmm_spec.specs.Locks.{needs, IsRisingTake}
 use Rattle.rmm_spec.specs.Waits.{IsRising, WaitsAt}
 use Rattle.world_laws.specs.Replaced.{held_at}
-use Rattle.spec_lemmas.proofs.Members.{Contains-nil, Contains-head, cells_at, each_of_one, each_of_two}
+use Rattle.spec_lemmas.proofs.Members.{Contains-nil, cells_at, each_of_one, each_of_two}
 use Rattle.world_laws.proofs.Refusals.{tags-are_local}
 use Rattle.world_laws.proofs.Retagged.{delegate-is_local}
 use Rattle.world_laws.specs.SmallWorlds.{HappenBy, WaitForEachOther, IsWordTake, two_cpus, delegate, both_delegate, holding_at, delegates, in_order, stopped_after_commit, both_called, realm_of, both_make_realms, one_lock_each}
 use Rattle.world_laws.proofs.Serving.{HappenAll-from_by, HappenBy-append, with_held, committed_by, after, serve}
 use Rattle.world_laws.proofs.SmallTakes.{word_order_rises, word_order_falls}
+use Rattle.lemmas.proofs.Members.{Contains-head}
 
 -- ---- single moves
 

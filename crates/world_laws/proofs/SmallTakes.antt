@@ -10,8 +10,9 @@ use Rattle.rmm_spec.specs.Cell.{Delegated, tag_of, is_data}
 use Rattle.rmm_spec.specs.Local.{HeldCell}
 use Rattle.rmm_spec.specs.Locks.{is_named, names_part, IsStray, IsNextNamed, IsNextPart, IsRisingTake}
 use Rattle.world_laws.specs.Replaced.{held_at}
-use Rattle.spec_lemmas.proofs.Members.{Contains-head, each_of_one, each_of_two}
+use Rattle.spec_lemmas.proofs.Members.{each_of_one, each_of_two}
 use Rattle.world_laws.specs.SmallWorlds.{two_cpus, realm_of}
+use Rattle.lemmas.proofs.Members.{Contains-head}
 
 pub word_order_rises : IsRisingTake two_cpus (named (call_of (realm_of 0x1000 0x2000))) (held_at 0x1000 Delegated ∷ []) 0x2000
 unfolding call_from named is_granule

@@ -26,7 +26,7 @@ use Rattle.rmm_spec.specs.World.{World, Phase, Between, Deciding, Decided, Commi
 use Rattle.rmm_spec.specs.World as move
 use Rattle.rmm_spec.specs.Locks.{names_part, depth}
 use Rattle.world_laws.specs.Replaced.{held_at}
-use Rattle.spec_lemmas.proofs.Members.{Contains-nil, Contains-head, Contains-tail, each_of_one, each_of_two}
+use Rattle.spec_lemmas.proofs.Members.{Contains-nil, each_of_one, each_of_two}
 use Rattle.spec_lemmas.proofs.Opening.{IsShapedWorld-opening}
 use Rattle.rmm_laws.specs.Whole.{Whole, IsShaped, cells_changed, side_changed, places_changed, whole_changed}
 use Rattle.rmm_laws.proofs.Accepted.{done-keeps_shape}
@@ -36,6 +36,7 @@ use Rattle.world_laws.proofs.Serving.{HappenAll-from_by, HappenBy-append, MayTak
 use Rattle.world_laws.proofs.AllHeld.{accepted-is_local, put_all-every}
 use Rattle.world_laws.proofs.SmallRuns.{anything, called, happens-call, took, happens-take}
 use Rattle.spec_lemmas.proofs.Maps.{put-same}
+use Rattle.lemmas.proofs.Members.{Contains-head, Contains-tail}
 
 -- ---- one command after another
 

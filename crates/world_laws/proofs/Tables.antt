@@ -11,13 +11,14 @@ use Rattle.rmm_spec.specs.Walk.{linked_entry}
 use Rattle.rmm_spec.specs.Sound.{IsSound}
 use Rattle.rmm_spec.specs.Flat.{table_granule}
 use Rattle.spec_lemmas.proofs.WalkLaws.{table_number-suc, reach-covers}
-use Rattle.rmm_laws.proofs.Entries.{value_there, entry-leaf, entry-link}
+use Rattle.rmm_laws.proofs.Entries.{entry-leaf, entry-link}
 use Rattle.rmm_laws.proofs.Finds.{holds-found}
 use Rattle.rmm_laws.proofs.ShapeTies.{entry_leaf-some, leaf-found, link_or_leaf, entry_there, number-again, at_place, IsTied-shaped}
 use Rattle.world_laws.specs.SeenState.{entry_in, entry_held, link_of, table_seen, leaf_seen}
 use Rattle.world_laws.proofs.Found.{placed-holds}
 use Rattle.world_laws.proofs.Wholes.{Whole, state, sound, whole_table}
 use Rattle.lemmas.proofs.Tests.{both_ways}
+use Rattle.lemmas.proofs.Options.{value_there}
 
 -- ---- tables
 

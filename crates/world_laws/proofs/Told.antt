@@ -33,6 +33,7 @@ use Rattle.rmm_spec.specs.Update.{with_tag, with_realm, without_realm, with_root
 use Rattle.rmm_spec.specs.Lookup.{realm_at, rec_at, request_of, no_realm, no_rec, no_request}
 use Rattle.rmm_spec.specs.Walk.{entry_address, is_table, linked_entry, entry_at}
 use Rattle.rmm_spec.specs.Change.{changed, new_realm, new_rec, measurement_at, realm_updated, rec_updated, with_realm_change, with_rec_change, with_tag_change, with_entry_change}
+use Rattle.spec_lemmas.proofs.Texts.{AllByRecursion-append}
 
 -- ---- lists and options
 
@@ -62,10 +63,6 @@ slice_set-each P [] i x each new = tt
 slice_set-each P (y ∷ ys) zero x each new = (new, each.1)
 slice_set-each P (y ∷ ys) (suc i) x each new = (each.0, slice_set-each P ys i x each.1 new)
 
-append-each : {A : Type 0} (P : A → Type 0) (xs ys : List A) → AllByRecursion P xs → AllByRecursion P ys → AllByRecursion P (xs ++ ys)
-append-each P [] ys first second = second
-append-each P (x ∷ xs) ys first second = (first.0, append-each P xs ys first.1 second)
-
 replicate-each : {A : Type 0} (P : A → Type 0) (n : ℕ) (x : A) → P x → AllByRecursion P (replicate n x)
 replicate-each P zero x here = tt
 replicate-each P (suc n) x here = (here, replicate-each P n x here)
@@ -86,14 +83,14 @@ AreBytes-digest_bytes : (hash : List ℕ) (n : ℕ) → AreBytes (digest_bytes h
 unfolding digest_bytes
 AreBytes-digest_bytes hash zero = tt
 AreBytes-digest_bytes hash (suc n) =
-    append-each (λ b. b < 256) (digest_bytes hash n) (to_be_bytes w32 (slice_index hash n)) (AreBytes-digest_bytes hash n)
+    AllByRecursion-append (λ b. b < 256) (digest_bytes hash n) (to_be_bytes w32 (slice_index hash n)) (AreBytes-digest_bytes hash n)
     (omega arith, (omega arith, (omega arith, (omega arith, tt))))
 
 AreBytes-wide_digest_bytes : (hash : List ℕ) (n : ℕ) → AreBytes (wide.digest_bytes hash n)
 unfolding wide.digest_bytes
 AreBytes-wide_digest_bytes hash zero = tt
 AreBytes-wide_digest_bytes hash (suc n) =
-    append-each (λ b. b < 256) (wide.digest_bytes hash n) (to_be_bytes w64 (slice_index hash n)) (AreBytes-wide_digest_bytes hash n)
+    AllByRecursion-append (λ b. b < 256) (wide.digest_bytes hash n) (to_be_bytes w64 (slice_index hash n)) (AreBytes-wide_digest_bytes hash n)
     (omega arith, (omega arith, (omega arith, (omega arith, (omega arith, (omega arith, (omega arith, (omega arith, tt))))))))
 
 -- a hash is bytes

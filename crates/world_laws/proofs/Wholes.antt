@@ -8,9 +8,9 @@ use Rattle.rmm_spec.specs.Sound.{IsSound}
 use Rattle.rmm_spec.specs.Cell.{Undelegated, table_in}
 use Rattle.rmm_spec.specs.Shape.{CpuPlace, IsWellShaped}
 use Rattle.rmm_spec.specs.Local.{granules_held, Agrees}
-use Rattle.spec_lemmas.proofs.Members.{Contains-head, Contains-tail}
 use Rattle.rmm_laws.proofs.ShapeTies.{well_shaped-is_sound}
 use Rattle.world_laws.specs.Held.{cell_in, known_cell}
+use Rattle.lemmas.proofs.Members.{Contains-head, Contains-tail}
 
 pub record Whole (config : Config) (side : Side) (held : List HeldCell) : Type 0 where
   pub cells : ℕ → Cell

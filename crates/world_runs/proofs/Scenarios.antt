@@ -12,6 +12,7 @@ use Rattle.scenario.specs.SeenPrograms.{seen_programs}
 use Rattle.world_laws.specs.Programs.{commands_below}
 use Rattle.world.specs.Opening.{programs_of, CanOpen}
 use Rattle.world_runs.specs.Played.{program_of}
+use Rattle.spec_lemmas.proofs.Texts.{commands_at}
 
 -- each CPU's program, whether it is held or seen
 programs_at : (programs : List (Vec Command Global)) (cpu : ℕ) → programs_of programs cpu ≡ get_or (seen_programs programs) cpu []
@@ -24,13 +25,6 @@ programs_at (program ∷ programs) (suc cpu) = programs_at programs cpu
 pub programs_of-scenario : (scenario : Scenario) (programs : List (Vec Command Global)) → seen_programs programs ≡ scenario.programs
     → programs_of programs ≡ program_of scenario
 programs_of-scenario scenario programs same = λ i cpu. (programs_at programs cpu ∙ ap (λ lists. get_or lists cpu []) same) i
-
-commands_at : (programs : List (List Command)) (cpu : ℕ)
-    → AllByRecursion (AllByRecursion IsCommand) programs → AllByRecursion IsCommand (get_or programs cpu [])
-commands_at [] zero all = tt
-commands_at [] (suc cpu) all = tt
-commands_at (program ∷ programs) zero all = all.0
-commands_at (program ∷ programs) (suc cpu) all = commands_at programs cpu all.1
 
 -- counted from the first program on
 below-first : (cpus : ℕ) (programs : ℕ → List Command)

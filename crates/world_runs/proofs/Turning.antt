@@ -15,6 +15,7 @@ use Rattle.rmm_spec.specs.Waits as turn
 use Rattle.world.specs.Next.{go_report, IsNoMove}
 use Rattle.world_runs.specs.Played.{IsExact, ExactAll, Plays, Goes, GoesRound, due_of}
 use Rattle.world_runs.specs.Schedule.{ring}
+use Rattle.world_laws.proofs.Passed.{config-Moves}
 
 -- ---- what is played
 
@@ -52,10 +53,6 @@ Plays-push old dues mid last new first exact =
     })
 
 -- ---- what a turn leaves
-
-config-Moves : (old : World) (m : Move) (new : World) → Moves old m new → new.config ≡ old.config
-config-Moves old (move.Call cpu) new moves = ap (λ (w : World). w.config) moves.is_new
-config-Moves old _ new moves = ap (λ (w : World). w.config) moves.is_new
 
 -- no turn changes the machine's size
 pub config-Turns : (old : World) (cpu : ℕ) (will : Will) (report : Report) (new : World) → Turns old cpu will report new → new.config ≡ old.config

@@ -6,8 +6,8 @@ use Rattle.rmm_spec.specs.FirstFault.{Passes}
 use Rattle.rmm_spec.specs.Judgement.{Accepts}
 use Rattle.spec_machine.specs.View.{state_of}
 use Rattle.checker.proofs.Faults.{Accepts-from_Passes}
-use Rattle.checker.proofs.Judging.{HasOnePlaces-from_history}
 use Rattle.checker.proofs.order.verdict_at_end.Goals as goal
+use Rattle.spec_lemmas.proofs.Calls.{HasOnePlaces-from_history}
 
 pub returns-in-Some-clause-judged : goal.returns-in-Some-clause-judged
 returns-in-Some-clause-judged c = λ order counted all.

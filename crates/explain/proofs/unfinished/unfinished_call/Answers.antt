@@ -1,9 +1,9 @@
 -- The call is the one that is made there.
 use Rattle.std.proofs.Common.{◌∙◌, ap}
-use Rattle.checker.proofs.Judging.{HasOnePlaces-from_history}
 use Rattle.history.specs.Calls.{line_at}
 use Rattle.explain.proofs.Lates.{match_both}
 use Rattle.explain.proofs.unfinished.unfinished_call.Goals as goal
+use Rattle.spec_lemmas.proofs.Calls.{HasOnePlaces-from_history}
 
 pub returns : goal.returns
 returns c =

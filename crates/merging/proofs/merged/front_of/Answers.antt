@@ -1,8 +1,9 @@
 use Rattle.merging.proofs.Common.{◌++◌, ◌∷◌, ◌≡◌, Some, [], arith, happened_seen, known_front, slice_get, slice_get_within, subst, sym, take}
 use Rattle.std.proofs.lemmas.List.{length-take}
 use Rattle.merging.specs.Merge.{AreReturns}
-use Rattle.merging.proofs.RunLaws.{known_front-none, known_front-some, length-known_front, returns_in-le, AreReturns-push, AreReturns-whole, take_next}
+use Rattle.merging.proofs.RunLaws.{known_front-none, known_front-some, length-known_front, returns_in-le, AreReturns-push, AreReturns-whole}
 use Rattle.merging.proofs.merged.front_of.Goals as goal
+use Rattle.lemmas.proofs.Elements.{take-next_at}
 
 pub returns-in_default-clause-stamps : goal.returns-in_default-clause-stamps
 returns-in_default-clause-stamps c =
@@ -37,7 +38,7 @@ loop-stamp-preserved c =
     let within = slice_get_within front c.loop-stamp.stamp slot is in
     record {
       within = omega (arith, within);
-      are = subst (AreReturns c.count_return.new.returns) (sym (take_next front c.loop-stamp.stamp slot is))
+      are = subst (AreReturns c.count_return.new.returns) (sym (take-next_at front c.loop-stamp.stamp slot is))
           (subst (λ r. AreReturns r (take c.loop-stamp.stamp front ++ slot ∷ [])) (sym c.count_return.ensures)
           (AreReturns-push c.loop-stamp.returns (take c.loop-stamp.stamp front) slot c.loop-stamp.invariant.are below));
     }

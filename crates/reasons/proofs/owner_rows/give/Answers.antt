@@ -1,11 +1,11 @@
 use Rattle.reasons.proofs.Common.{◌*◌, ◌++◌, ◌+◌, ◌-◌, ◌/◌, ◌∙◌, ◌≡◌, List, Some, ap, arith, length, owner_rows, slice_index_or, slice_set, sym}
 use Rattle.std.proofs.lemmas.List.{get_or-append_right, length-append, set-append_right}
 use Rattle.rmm_spec.specs.Cell.{put}
-use Rattle.rmm_laws.proofs.Finds.{granule-number}
 use Rattle.reasons.specs.declared.owner_rows.OwnerRow.{OwnerRow}
 use Rattle.reasons.proofs.Owners.{owner_rows-put, put-given}
 use Rattle.reasons.proofs.OwnerRows.{get_or-owner_rows, length-owner_rows, row_of}
 use Rattle.reasons.proofs.owner_rows.give.Goals as goal
+use Rattle.spec_lemmas.proofs.Lookups.{granule-number}
 
 pub returns-then-number-saturating_sub : goal.returns-then-number-saturating_sub
 returns-then-number-saturating_sub c s of before owner size tied at =

@@ -7,10 +7,11 @@ use Rattle.certificate.specs.LineRef.{line_seen}
 use Rattle.spec_machine.specs.View.{state_of}
 use Rattle.run_steps.specs.Granule.{told_of}
 use Rattle.run_steps.specs.Places.{place_count, place_of, place_told}
-use Rattle.run_steps.proofs.CountLaws.{AreCounted, AreCounted-next, AreCounted-none, counted_few, get_or-other}
+use Rattle.run_steps.proofs.CountLaws.{AreCounted, AreCounted-next, AreCounted-none, counted_few}
 use Rattle.run_steps.proofs.PlaceLaws.{place_within}
 use Rattle.run_steps.proofs.Taking.{AreFirst, AreFirst-next, AreFirst-none, AreReplayed-all, AreReplayed-stopped}
 use Rattle.run_steps.proofs.counting.count_conditions.Goals as goal
+use Rattle.lemmas.proofs.Elements.{get_or-other}
 
 pub loop-i-init : goal.loop-i-init
 loop-i-init c =

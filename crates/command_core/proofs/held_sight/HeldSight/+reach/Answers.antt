@@ -1,7 +1,8 @@
 use Rattle.command_core.proofs.Common.{◌∙◌, arith, seen_state, sym}
 use Rattle.command_core.specs.Pairs.{pair_cells}
-use Rattle.command_core.proofs.WalkEnds.{reach-top, reach-here, reach-above}
+use Rattle.command_core.proofs.WalkEnds.{reach-here, reach-above}
 use Rattle.command_core.proofs.held_sight.HeldSight.+reach.Goals as goal
+use Rattle.spec_lemmas.proofs.WalkLaws.{reach-top}
 
 pub returns-then-max-eq0-clause-level : goal.returns-then-max-eq0-clause-level
 returns-then-max-eq0-clause-level t c =

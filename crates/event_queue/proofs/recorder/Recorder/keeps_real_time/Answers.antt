@@ -1,4 +1,4 @@
-use Rattle.event_queue.proofs.Common.{arith, subst, cpu_below, AreBegun, ScribeView}
+use Rattle.event_queue.proofs.Common.{arith, subst, AreBegun, ScribeView, cpu_below}
 use Rattle.event_queue.proofs.Wholes.{no_event_more}
 use Rattle.event_queue.proofs.recorder.Recorder.keeps_real_time.Goals as goal
 

@@ -2,11 +2,11 @@
 use Rattle.std.proofs.Common.{◌==◌, ap, sym, ◌∙◌, arith, subst}
 use Rattle.std.proofs.lemmas.List.Sums.{length-filter, count_by-le-length}
 use Rattle.rmm_spec.specs.HistoryText.{cpu_of}
-use Rattle.spec_lemmas.proofs.Places.{IsEvent-slice_get}
+use Rattle.spec_lemmas.proofs.Places.{IsEvent-slice_get, cpu_below}
 use Rattle.history.specs.Entry.{event_of}
 use Rattle.history.specs.Index.{HasRank}
 use Rattle.history.proofs.EntryLaws.{IsEntryAt-read, cpu_of-event_of, within_entries}
-use Rattle.history.proofs.SubhistoryLaws.{cpu_below, places-rise, place_of_event, call_number-ranked}
+use Rattle.history.proofs.SubhistoryLaws.{places-rise, place_of_event, call_number-ranked}
 use Rattle.history.proofs.history.History.number_at.Goals as goal
 
 pub index-requires : goal.index-requires

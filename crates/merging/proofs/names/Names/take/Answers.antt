@@ -5,8 +5,9 @@ use Rattle.std.proofs.lemmas.List.{length_push}
 use Rattle.rmm_spec.specs.declared.version.Version.TheVariants.{Large}
 use Rattle.rmm_spec.specs.HistoryText.{granule_limit}
 use Rattle.merging.specs.Names.{number_in}
-use Rattle.merging.proofs.NameLaws.{none_number, numbers-push}
+use Rattle.merging.proofs.NameLaws.{numbers-push}
 use Rattle.merging.proofs.names.Names.take.Goals as goal
+use Rattle.lemmas.proofs.Options.{none_of}
 
 pub invariant_of-self-2 : goal.invariant_of-self-2
 invariant_of-self-2 c =
@@ -25,7 +26,7 @@ invariant_of-self-2 c =
       c.requires,
     ) in (
       λ a. numbers-push names address (get nat_eq c.self.inside.numbers) (get nat_eq c.enter.new.numbers) c.self.invariant.0
-          (none_number (number_in names address) unnamed) c.in_ok-enter.ensures.numbers a
+          (none_of (number_in names address) unnamed) c.in_ok-enter.ensures.numbers a
           ∙ ap (λ ns. number_in ns a) (sym c.in_ok-enter.ensures.ok),
       longer,
     )

@@ -8,11 +8,12 @@ use Rattle.merging.specs.Naming.{told_slot}
 use Rattle.merging.proofs.CutLaws.{IsCut-at}
 use Rattle.merging.proofs.LineLaws.{appends_nothing}
 use Rattle.merging.proofs.NamingLaws.{told-at, length-named_from, lasts_after-next}
-use Rattle.merging.proofs.RunLaws.{known_front-some, known_front-slot_at, length-known_front, take_next, stands_after-push, AreFew-walked}
+use Rattle.merging.proofs.RunLaws.{known_front-some, known_front-slot_at, length-known_front, stands_after-push, AreFew-walked}
 use Rattle.merging.proofs.RoomLaws.{AreNumbered-walked}
 use Rattle.merging.proofs.StepLaws.{stands_in-start}
 use Rattle.merging.proofs.TextLaws.{history-next, certificate-next}
 use Rattle.merging.proofs.run.Run.write_lines.Goals as goal
+use Rattle.lemmas.proofs.Elements.{take-next_at}
 
 pub loop-stamp-init : goal.loop-stamp-init
 loop-stamp-init g c = record {
@@ -96,7 +97,7 @@ loop-stamp-preserved g c =
       going = c.in_ok-write_told.ensures.going;
       room = c.in_ok-write_told.ensures.room;
       stands = c.in_ok-write_told.ensures.cpus ∙ ap (λ (s : ℕ → Stand). stands_with s told) c.loop-stamp.invariant.stands
-          ∙ sym (ap (stands_after starts) (take_next run.events stamp told event_is) ∙ stands_after-push starts (take stamp run.events) told);
+          ∙ sym (ap (stands_after starts) (take-next_at run.events stamp told event_is) ∙ stands_after-push starts (take stamp run.events) told);
       lasts = c.take.ensures ∙ ap (λ ls. lasts_with ls slot) c.loop-stamp.invariant.lasts ∙ sym (lasts_after-next front stamp slot is);
     }
 

@@ -1,13 +1,14 @@
 use Rattle.spec_machine.proofs.Common.{◌/◌, ◌∙◌, ◌≡◌, ap, arith, cells_of, length, place-within, place_in}
 use Rattle.spec_machine.specs.GranulePlace.{count_in}
 use Rattle.spec_machine.specs.Whole.{cells_in}
-use Rattle.spec_machine.proofs.Kept.{cells_in-further, place_within}
+use Rattle.spec_machine.proofs.Kept.{cells_in-further}
 use Rattle.spec_machine.proofs.cell_list.CellList.make_place.Goals as goal
+use Rattle.spec_lemmas.proofs.Lookups.{granule-within}
 
 pub make-place-requires-clause-within : goal.make-place-requires-clause-within
 make-place-requires-clause-within c =
     let list = c.args.self.now in
-    omega (arith, place_within list.config.granules c.args.granule c.requires.granule, list.granules)
+    omega (arith, granule-within list.config.granules c.args.granule c.requires.granule, list.granules)
 
 pub push_block-requires : goal.push_block-requires
 push_block-requires c =

@@ -2,8 +2,9 @@ use Rattle.world.proofs.Common.{◌∙◌, ap, arith, cells_of, put}
 use Rattle.command_core.specs.Seen.{cell_of}
 use Rattle.granule_cells.specs.declared.cell.Cell.{Cell}
 use Rattle.granule_cells.specs.declared.cell.Cell.TheVariants.{Undelegated}
-use Rattle.world.proofs.Listed.{granule-within, item_at-set, item_at-granule}
+use Rattle.world.proofs.Listed.{item_at-set, item_at-granule}
 use Rattle.world.proofs.cells.Cells.replace.Goals as goal
+use Rattle.spec_lemmas.proofs.Lookups.{granule-within}
 
 pub index_mut-requires : goal.index_mut-requires
 index_mut-requires c = omega (arith, c.place.ensures, granule-within c.args.self.now.list.len c.args.pa c.requires)

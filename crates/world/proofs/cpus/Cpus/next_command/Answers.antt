@@ -1,8 +1,8 @@
 use Rattle.world.proofs.Common.{◌∙◌, Cpu, Some, [], ap, arith, drop, slice_get, sym, views_of}
 use Rattle.std.proofs.lemmas.Option.{slice_get_read, slice_get_past}
-use Rattle.world.proofs.Calls.{slice_get-drop}
 use Rattle.world.proofs.Views.{told_there}
 use Rattle.world.proofs.cpus.Cpus.next_command.Goals as goal
+use Rattle.lemmas.proofs.Elements.{slice_get-drop}
 
 pub returns-then-called-count : goal.returns-then-called-count
 unfolding views_of

@@ -1,6 +1,7 @@
 use Rattle.world.proofs.Common.{None, arith, holder_of}
-use Rattle.world.proofs.Listed.{granule-within, item_at-granule}
+use Rattle.world.proofs.Listed.{item_at-granule}
 use Rattle.world.proofs.locks.Locks.holder.Goals as goal
+use Rattle.spec_lemmas.proofs.Lookups.{granule-within}
 
 pub index-requires : goal.index-requires
 index-requires c = omega (arith, c.place.ensures, granule-within c.args.self.now.holders.len c.args.pa c.requires)
