@@ -10,6 +10,7 @@ returns-then-deny_last c held =
     let last = c.args.last.now in
     let recorded = c.args.history.now.recorded in
     let is = c.requires in
+    let events = events_to c.args.count recorded.events in
     let reply = reply_seen last.reply in record {
       facts = c.args.facts.now;
       called = last.called;
@@ -22,6 +23,6 @@ returns-then-deny_last c held =
       is_returned = is.is_returned;
       are_held = c.are_held.ensures held;
       denied =
-          subst (λ called. IsDenied recorded.config.granules (events_to c.args.count recorded.events) c.args.facts.now last.cpu last.number called reply)
+          subst (λ called. IsDenied recorded.config.granules events c.args.facts.now last.cpu last.number called reply)
           is.call (c.if-deny_last.ensures refl);
     }
