@@ -1,5 +1,5 @@
 -- What is looked at of calls for facts, in the words of the law.
-use Rattle.std.proofs.Common.{◌≡◌, ◌∙◌, ℕ, ◌<◌, List, None, Option, Some, ap, inl, inr, subst, sym}
+use Rattle.std.proofs.Common.{◌≡◌, ◌∙◌, ◌⊎◌, ℕ, ◌<◌, List, None, Option, Some, ap, inl, inr, subst, sym}
 use Rattle.std.specs.Option.{IfSome}
 use Rattle.rmi_view.specs.Seen.{reply_seen}
 use Rattle.rmm_spec.specs.declared.command.Command.{Command}
@@ -116,6 +116,13 @@ IsLeftSince-early turn fact events place maker made same early = subst (λ m. Is
 pub IsLeftSinceWith-early : (turn : Option InTurn) (fact : Fact) (events : List Event) (place maker made : ℕ) → made ≡ maker
     → ((at : ℕ) → IsLeftOrBeside turn fact events place maker at) → IsLeftSinceWith turn fact events made place
 IsLeftSinceWith-early turn fact events place maker made same early = subst (λ m. IsLeftSinceWith turn fact events m place) (sym same) early
+
+-- what was carried out and comes first does so by the law
+pub IsFirst-done : (events : List Event) (turn : Option InTurn) (end called place : ℕ) (done : Done) (is_done : IsDone events called end done)
+    → (done.returned < place) ⊎ laws.IsInTurn turn called place → (is_done.0.returned < place) ⊎ laws.IsInTurn turn is_done.0.called place
+IsFirst-done events turn end called place done is_done (inl before) = inl (subst (λ r. r < place) (sym is_done.2) before)
+IsFirst-done events turn end called place done is_done (inr supposed) =
+    inr (subst (λ c. laws.IsInTurn turn c place) (sym is_done.1) supposed)
 
 -- what is supposed to come before or after doesn't end it
 pub IsLeftOrEarly-apart : (turn : Option InTurn) (fact : Fact) (events : List Event) (place : ℕ) (maker : Option ℕ) (at : ℕ)

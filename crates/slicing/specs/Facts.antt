@@ -1,5 +1,5 @@
 -- What is looked at of calls for the facts of a history.
-use Rattle.std.specs.Prelude.{◌≡◌, ℕ, ◌⊎◌, ◌&&◌, true, false, List, Option, None, Some, IfSome}
+use Rattle.std.specs.Prelude.{◌≡◌, ℕ, ◌<◌, ◌⊎◌, ◌&&◌, true, false, List, Option, None, Some, IfSome}
 use Rattle.rmi_view.specs.Seen.{reply_seen}
 use Rattle.rmm_spec.specs.declared.call.Call.{Call}
 use Rattle.rmm_spec.specs.declared.command.Command.{Command}
@@ -19,6 +19,7 @@ use Rattle.slicing.specs.declared.call_at.CallAt.{CallAt}
 use Rattle.slicing.specs.declared.done.Done.{Done}
 use Rattle.slicing.specs.declared.last_return.LastReturn.{LastReturn}
 use Rattle.slicing.specs.Calls.{ChangesNothing}
+use Rattle.slicing.specs.Unused.{IsDone}
 
 -- the call doesn't end the fact, whichever CPU makes it and whatever it is replied
 abbrev pub Keeps : Fact → Call → Type 0
@@ -81,6 +82,10 @@ abbrev pub IsMadeBy : Fact → List Event → Done → Type 0
 IsMadeBy fact events done =
     (makes fact done.cpu done.call (reply_seen done.reply) ≡ true)
     ⊎ ((standing : Standing) × StandsBefore events done.cpu done.number standing × (leaves_with fact done.call standing ≡ true))
+
+-- the call was carried out, and comes before the one that is made at the place
+abbrev pub IsDoneFirst : Option InTurn → List Event → (end called place : ℕ) → Done → Type 0
+IsDoneFirst turn events end called place done = IsDone events called end done × ((done.returned < place) ⊎ IsInTurn turn called place)
 
 -- the call that is made at the place makes the fact, by itself or where another holds by itself
 abbrev pub MakesWith : Option InTurn → Fact → List Event → ℕ → Done → Type 0

@@ -2,12 +2,15 @@
 
 ghost use Rattle.std.specs.Prelude.{◌≤◌, length, IfSome, IsTrue};
 ghost use Rattle.slicing.specs.Calls.{events_to};
+ghost use Rattle.slicing.specs.Facts.{IsDoneFirst};
 ghost use Rattle.slicing.specs.Unused.{IsDone, IsNoLaterThan, ReturnedBefore};
 
 use crate::call_at::{CallAt, call_at};
+use crate::turns::is_in_turn;
 use history::History;
 use rmi_view::ReplyRef;
 use rmm_spec::Call;
+use verdict_laws::InTurn;
 
 /// A call that was carried out.
 #[derive(Clone, Copy)]
@@ -45,6 +48,25 @@ pub(crate) fn done_before(
         reply: answer.reply,
         returned: answer.place,
     })
+}
+
+/// The call that is made at one place, where it was carried out and comes before another: it returned before that was made, or is supposed to.
+pub(crate) fn done_first(
+    history: &History,
+    count: u32,
+    called: u32,
+    place: u32,
+    turn: Option<InTurn>,
+) -> Option<Done<'_>>
+    requires { count ≤ length history.now.recorded.events }
+    ensures { IfSome result (IsDoneFirst turn (events_to count history.now.recorded.events) count called place) }
+{
+    let done = done_before(history, count, called, count)?;
+    if done.returned < place || is_in_turn(turn, called, place) {
+        Some(done)
+    } else {
+        None
+    }
 }
 
 /// Whether the call is the last itself, or returned before that was made.

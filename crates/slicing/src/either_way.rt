@@ -1,22 +1,35 @@
-//! Whether replies are denied whichever of two calls comes first: one that may have ended a fact, and the one that made it.
+//! Whether replies are denied whichever of two calls comes first: one that may have ended a fact and the one that made it, or two that enter a REC or
+//! set what it asks for.
 
-ghost use Rattle.std.specs.Prelude.{◌≡◌, IsTrue};
+ghost use Rattle.std.specs.Prelude.{◌≡◌, IfSome, IsTrue, Some};
 ghost use Rattle.slicing.specs.Calls.{IsReturn, events_to};
 ghost use Rattle.verdict_laws.specs.HeldFacts as laws;
 
 use crate::call_at::call_at;
 use crate::denied::{are_denying, deny_last, is_denied_where};
+use crate::early::open_from;
 use crate::held::is_held;
 use crate::last_return::{LastReturn, return_at};
+use crate::latest::function_at;
 use crate::left::{is_left_or_early, looked_from};
 use crate::supposing::maker_before;
 use crate::together::{SETS, supposed_set};
 use history::History;
-use rmm_spec::Call;
+use rmi_view::ReplyRef;
+use rmm_spec::{Call, FunctionId};
 use verdict_laws::{Fact, InTurn};
 
 /// Whether the reply is denied where the one of two calls comes first, and that of one of these where the other does.
 pub(crate) fn is_denied_either_way(history: &History, count: u32, last: &LastReturn<'_>) -> bool
+    requires { IsReturn (events_to count history.now.recorded.events) last.now }
+    ensures { IsTrue result
+        → laws.IsDeniedEitherWay history.now.recorded.config.granules (events_to count history.now.recorded.events) }
+{
+    is_denied_past_one(history, count, last) || is_denied_beside(history, count, last)
+}
+
+/// Whether it is so of a call that may have ended a fact and the one that made it.
+fn is_denied_past_one(history: &History, count: u32, last: &LastReturn<'_>) -> bool
     requires { IsReturn (events_to count history.now.recorded.events) last.now }
     ensures { IsTrue result
         → laws.IsDeniedEitherWay history.now.recorded.config.granules (events_to count history.now.recorded.events) }
@@ -117,6 +130,106 @@ fn runs_on(call: &Call, cpu: u8) -> Option<Fact> {
         Call::RecEnter { rec } | Call::RecDestroy { rec } | Call::RttSetRipas { rec, .. } => {
             Some(Fact::RunsOn { rec, cpu })
         }
+        _ => None,
+    }
+}
+
+/// Whether it is so of the return and one of a call of the same REC that isn't over when its call is made.
+fn is_denied_beside(history: &History, count: u32, last: &LastReturn<'_>) -> bool
+    requires { IsReturn (events_to count history.now.recorded.events) last.now }
+    ensures { IsTrue result
+        → laws.IsDeniedEitherWay history.now.recorded.config.granules (events_to count history.now.recorded.events) }
+{
+    let Some(rec) = rec_changed(&last.call, last.reply) else {
+        return false;
+    };
+    for at in open_from(history, last.called)..count {
+        if let Some(other) = beside_at(history, count, at, rec) {
+            if are_denied_both(history, count, &other, last) {
+                return true;
+            }
+        }
+    }
+    false
+}
+
+/// The REC that the call enters, or of which it sets a part of what that asks for, if it is carried out.
+fn rec_changed(call: &Call, reply: ReplyRef<'_>) -> Option<u64> {
+    match *call {
+        Call::RecEnter { rec } | Call::RttSetRipas { rec, .. }
+            if matches!(reply, ReplyRef::Ok(_)) => Some(rec),
+        _ => None,
+    }
+}
+
+/// The return of the call that is made at the place, if that does so of the REC.
+fn beside_at(history: &History, count: u32, at: u32, rec: u64) -> Option<LastReturn<'_>>
+    ensures { IfSome result (IsReturn (events_to count history.now.recorded.events)) }
+{
+    if !matches!(
+        function_at(history, at),
+        Some(FunctionId::RecEnter | FunctionId::RttSetRipas)
+    ) {
+        return None;
+    }
+    let other = return_at(history, count, at)?;
+    if rec_changed(&other.call, other.reply) == Some(rec) {
+        Some(other)
+    } else {
+        None
+    }
+}
+
+/// Whether the reply of either is denied where the other comes first.
+fn are_denied_both(
+    history: &History,
+    count: u32,
+    one: &LastReturn<'_>,
+    other: &LastReturn<'_>,
+) -> bool
+    requires one { IsReturn (events_to count history.now.recorded.events) one.now }
+    requires other { IsReturn (events_to count history.now.recorded.events) other.now }
+    ensures { IsTrue result
+        → laws.IsDeniedEitherWay history.now.recorded.config.granules (events_to count history.now.recorded.events) }
+{
+    if one.called == other.called {
+        return false;
+    }
+    is_denied_after(history, count, other, one) && is_denied_after(history, count, one, other)
+}
+
+/// Whether the return's reply is denied where another call comes before its own.
+fn is_denied_after(
+    history: &History,
+    count: u32,
+    last: &LastReturn<'_>,
+    first: &LastReturn<'_>,
+) -> bool
+    requires { IsReturn (events_to count history.now.recorded.events) last.now }
+    ensures { IsTrue result → laws.IsDeniedWhere (Some (record { first = first.now.called; second = last.now.called }))
+        history.now.recorded.config.granules (events_to count history.now.recorded.events) }
+{
+    let turn = Some(InTurn {
+        first: first.called,
+        second: last.called,
+    });
+    match made_by(first) {
+        Some(fact) => are_denying(history, count, last, &[fact], turn),
+        None => false,
+    }
+}
+
+/// What is so of the REC after the call.
+fn made_by(first: &LastReturn<'_>) -> Option<Fact> {
+    match first.call {
+        Call::RecEnter { rec } => Some(Fact::RunsOn {
+            rec,
+            cpu: first.cpu,
+        }),
+        Call::RttSetRipas { rec, .. } => match first.reply {
+            ReplyRef::Ok([base]) => Some(Fact::AsksFrom { rec, base: *base }),
+            _ => None,
+        },
         _ => None,
     }
 }

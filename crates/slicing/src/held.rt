@@ -6,7 +6,7 @@ ghost use Rattle.slicing.specs.Facts.{IsHeldWith, IsMadeBy, MakesWith};
 ghost use Rattle.verdict_laws.specs.HeldFacts as laws;
 
 use crate::beside::are_left_beside;
-use crate::done::{Done, done_before};
+use crate::done::{Done, done_first};
 use crate::latest_recs::asked_to;
 use crate::left::are_left;
 use crate::making::{begins, makes};
@@ -14,6 +14,7 @@ use crate::making_recs::{leaves_with, makes_with};
 use crate::standing::standing_before;
 use crate::supposing::maker_before;
 use crate::supposing_ripas::maker_with;
+use crate::turns::first_for;
 use history::History;
 use rmm_spec::Call;
 use verdict_laws::{Fact, InTurn};
@@ -66,10 +67,15 @@ pub(crate) fn is_held_alone(
     if begins(fact) && are_left(history, count, place, fact, None, turn) {
         return true;
     }
-    match maker_before(history, count, place, fact) {
-        Some(maker) => is_made(history, count, place, fact, maker, turn),
-        None => false,
-    }
+    is_made_by_one(history, count, place, fact, first_for(turn, place), turn)
+        || is_made_by_one(
+            history,
+            count,
+            place,
+            fact,
+            maker_before(history, count, place, fact),
+            turn,
+        )
 }
 
 /// Whether a call makes it, by itself or where another fact holds, and none since may have ended it, by itself or where another fact holds. Only
@@ -98,7 +104,7 @@ fn is_made_with(
     requires { count ≤ length history.now.recorded.events }
     ensures { IsTrue result → IsHeldWith turn fact (events_to count history.now.recorded.events) place }
 {
-    match done_before(history, count, maker, place) {
+    match done_first(history, count, maker, place, turn) {
         Some(done) => {
             are_left_beside(history, count, place, fact, maker, turn)
                 && makes_it(history, count, fact, maker, &done, turn)
@@ -131,6 +137,24 @@ fn makes_it(
         && is_held_alone(history, count, maker, other, turn)
 }
 
+/// Whether a call makes it, where one is supposed to.
+fn is_made_by_one(
+    history: &History,
+    count: u32,
+    place: u32,
+    fact: Fact,
+    maker: Option<u32>,
+    turn: Option<InTurn>,
+) -> bool
+    requires { count ≤ length history.now.recorded.events }
+    ensures { IsTrue result → laws.IsHeldAlone turn fact (events_to count history.now.recorded.events) place }
+{
+    match maker {
+        Some(maker) => is_made(history, count, place, fact, maker, turn),
+        None => false,
+    }
+}
+
 /// Whether the call made at the maker's place makes it so, and none since may have ended it.
 fn is_made(
     history: &History,
@@ -143,7 +167,7 @@ fn is_made(
     requires { count ≤ length history.now.recorded.events }
     ensures { IsTrue result → laws.IsHeldAlone turn fact (events_to count history.now.recorded.events) place }
 {
-    match done_before(history, count, maker, place) {
+    match done_first(history, count, maker, place, turn) {
         Some(done) => {
             is_made_by(history, count, fact, &done)
                 && are_left(history, count, place, fact, Some(maker), turn)

@@ -2,7 +2,6 @@
 
 use crate::call_at::call_at;
 use crate::done::Done;
-use crate::early::open_from;
 use crate::latest::{done_at, function_at};
 use crate::making_recs::enters;
 use crate::standing::standing_before;
@@ -11,24 +10,34 @@ use rmi_view::ReplyRef;
 use rmm_spec::{Call, FunctionId};
 use verdict_laws::{ExitReason, Fact, Standing};
 
-/// The CPU that entered the REC by the latest call that returned before a place.
-pub(crate) fn entered_before(history: &History, count: u32, place: u32, rec: u64) -> Option<u8> {
+/// Where the REC was entered: the place at which the call was made, and its CPU.
+#[derive(Clone, Copy)]
+pub(crate) struct Entry {
+    pub(crate) place: u32,
+    pub(crate) cpu: u8,
+}
+
+/// Where the latest call entered the REC that returned before a place.
+pub(crate) fn entered_before(history: &History, count: u32, place: u32, rec: u64) -> Option<Entry> {
     for back in 1..place.saturating_add(1) {
         let at = place.saturating_sub(back);
-        if let Some(cpu) = entered_at(history, count, place, at, rec) {
-            return Some(cpu);
+        if let Some(entry) = entered_at(history, count, place, at, rec) {
+            return Some(entry);
         }
     }
     None
 }
 
-/// The CPU that entered it by the call which is made at one place, if that returned before another.
-fn entered_at(history: &History, count: u32, place: u32, at: u32, rec: u64) -> Option<u8> {
+/// The same, if the call that is made at one place enters it and returned before another.
+fn entered_at(history: &History, count: u32, place: u32, at: u32, rec: u64) -> Option<Entry> {
     if !matches!(function_at(history, at), Some(FunctionId::RecEnter)) {
         return None;
     }
     let done = done_at(history, count, place, at)?;
-    enters(&done.call, rec).then_some(done.cpu)
+    enters(&done.call, rec).then_some(Entry {
+        place: at,
+        cpu: done.cpu,
+    })
 }
 
 /// The realm of the REC, as the latest call says that made it and returned before a place.
@@ -75,7 +84,11 @@ pub(crate) fn asked_to(history: &History, count: u32, place: u32, rec: u64) -> O
         let at = place.saturating_sub(back);
         if let Some(done) = of_rec_at(history, count, place, at) {
             if enters(&done.call, rec) {
-                return up_to(rec, asked_leaving(history, count, place, rec, done.cpu)?);
+                let entry = Entry {
+                    place: at,
+                    cpu: done.cpu,
+                };
+                return up_to(rec, asked_leaving(history, count, rec, entry)?);
             }
             if let Some(reason) = reason_of(history, count, &done, rec) {
                 return up_to(rec, reason);
@@ -93,19 +106,18 @@ fn up_to(rec: u64, reason: ExitReason) -> Option<Fact> {
     }
 }
 
-/// Why the REC leaves that runs on the CPU, where its exit may come after a place.
+/// Why the REC leaves that was entered so.
 pub(crate) fn asked_leaving(
     history: &History,
     count: u32,
-    place: u32,
     rec: u64,
-    cpu: u8,
+    entry: Entry,
 ) -> Option<ExitReason> {
     if count as usize > history.len() {
         return None;
     }
-    for at in open_from(history, place)..count {
-        if let Some(reason) = reason_at(history, count, at, rec, cpu) {
+    for at in entry.place..count {
+        if let Some(reason) = reason_at(history, count, at, rec, entry.cpu) {
             return Some(reason);
         }
     }

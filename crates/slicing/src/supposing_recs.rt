@@ -136,8 +136,11 @@ pub(crate) fn supposed_running(
     else {
         return None;
     };
-    let cpu = entered_before(history, count, last.called, rec)?;
-    Some(Fact::RunsOn { rec, cpu })
+    let entry = entered_before(history, count, last.called, rec)?;
+    Some(Fact::RunsOn {
+        rec,
+        cpu: entry.cpu,
+    })
 }
 
 /// That it runs or asks for something from where calls may have left it, where it is entered or set as if it asked from elsewhere on.
@@ -165,8 +168,8 @@ fn asked_or_leaving(history: &History, count: u32, place: u32, rec: u64) -> Opti
     if let Some(Fact::AsksFrom { base, .. }) = asked_from(history, count, place, rec) {
         return Some(base);
     }
-    let cpu = entered_before(history, count, place, rec)?;
-    match asked_leaving(history, count, place, rec, cpu)? {
+    let entry = entered_before(history, count, place, rec)?;
+    match asked_leaving(history, count, rec, entry)? {
         ExitReason::RipasChange { base, .. } => Some(base),
         _ => None,
     }
