@@ -11,16 +11,15 @@ use Rattle.rmm_spec.specs.declared.line.Line.TheVariants.{Keep, Unfinished}
 use Rattle.rmm_spec.specs.declared.reply.Reply.{Reply}
 use Rattle.rmm_spec.specs.declared.verdict.Reason.{Reason}
 use Rattle.rmm_spec.specs.declared.verdict.Reason.TheVariants as reason
-use Rattle.rmm_spec.specs.HistoryText.{History, IsHistory}
+use Rattle.rmm_spec.specs.HistoryText.{History}
 use Rattle.rmm_spec.specs.State.{State}
 use Rattle.rmm_spec.specs.Step.{Step}
 use Rattle.rmm_spec.specs.Linearization.{IsCalled, IsReturned, IsFinished, NamesCall, IsNamed, cpu_named, number_named, IsOfItsKind, IsTooLate, IsReplyOf}
 use Rattle.rmm_spec.specs.FirstFault.{FailsBy}
-use Rattle.spec_lemmas.proofs.Places.{one_call_place, one_return_place, finished_is_known}
 use Rattle.checker.specs.Progress.{Progress}
 use Rattle.checker.specs.Replay.{IsDue, IsReplayOf, JudgesLine, NeedsMemory, IsRefusedMemory}
 use Rattle.checker.specs.declared.replay.Replay.{Replay}
-use Rattle.spec_lemmas.proofs.Calls.{HasOnePlaces, told_at_call, HasOnePlaces-from_history}
+use Rattle.spec_lemmas.proofs.Calls.{told_at_call, HasOnePlaces-from_history}
 use Rattle.spec_machine.specs.View.{state_of}
 use Rattle.checker.proofs.Progress.{Follows, Progress-push, Progress-returned, flag-returned}
 use Rattle.checker.proofs.Faults.{IsRefused-from_step, not-IsTooLate-from_latest, not-IsTooLate-pending}

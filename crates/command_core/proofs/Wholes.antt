@@ -1,10 +1,10 @@
 -- A well-shaped whole that agrees with what is held: its cells there, what the side table tells of it, and where a CPU is.
-use Rattle.command_core.proofs.Common.{◌*◌, ◌==◌, ◌∙◌, ◌≡◌, ◌≤◌, Bool, Config, Hold, Inside, IsTrue, None, Option, Rd, RealmRecord, Rec, RecRecord, Some, State, Undelegated, any_below, ap, are_recs_counted, arith, cell_in, eq-eqb, eqb-true, false, false≢true, flat_state, if◌then◌else◌, is_granule, is_held, is_some, is_vmid_listed, nat_le, nat_tests, none-some, not, realm_at, realm_in, rec_at, refl, suc, sym, tag_number, tag_of, true, zero, ℕ}
+use Rattle.command_core.proofs.Common.{◌*◌, ◌==◌, ◌∙◌, ◌≡◌, ◌≤◌, Config, Hold, Inside, IsTrue, None, Option, Rd, RealmRecord, Rec, RecRecord, Some, State, Undelegated, any_below, ap, are_recs_counted, arith, cell_in, eq-eqb, false, false≢true, flat_state, is_granule, is_held, is_some, is_vmid_listed, nat_le, nat_tests, none-some, not, realm_at, realm_in, rec_at, refl, sym, tag_number, tag_of, true, ℕ}
 use Rattle.std.specs.Prelude.{unwrap_or}
 use Rattle.std.proofs.lemmas.Bool.{false_from_ne_true}
 use Rattle.rmm_spec.specs.Lookup.{has_vmid, is_vmid_used, is_owned_by, has_rec, rec_inside, runs_on, no_realm, no_rec}
 use Rattle.rmm_spec.specs.Cell.{Cell, rec_in, realms_of, recs_of}
-use Rattle.rmm_spec.specs.Shape.{CpuPlace, IsWellShaped, count_below}
+use Rattle.rmm_spec.specs.Shape.{CpuPlace, IsWellShaped}
 use Rattle.rmm_spec.specs.Local.{Agrees}
 use Rattle.spec_lemmas.proofs.Placed.{passing_below, any_below-from, running, runs_on-running, cell_is_granule, cell_granule, rec_granule}
 use Rattle.rmm_laws.proofs.Cells.{cell-rec}

@@ -8,7 +8,7 @@ use Rattle.rmm_spec.specs.Cell.{Cell}
 use Rattle.rmm_spec.specs.Local.{granules_held, put_all}
 use Rattle.rmm_spec.specs.World.{World, Commit, Decided, IsDeciding, Moves, held_cells, hold_of}
 use Rattle.world_laws.specs.Replaced.{held_at}
-use Rattle.spec_lemmas.proofs.Maps.{put_elim, put-other, put-here}
+use Rattle.spec_lemmas.proofs.Maps.{put-other, put-here}
 use Rattle.spec_lemmas.proofs.Members.{granules_held-cells_at}
 use Rattle.command_core.specs.Seen.{are_distinct}
 use Rattle.granule_lock.specs.declared.hold.Hold.{Hold}

@@ -1,8 +1,7 @@
 -- The row of a granule in a report of owners.
-use Rattle.explain.proofs.Common.{◌*◌, ◌++◌, ◌<◌, ◌∙◌, ◌∷◌, ◌≡◌, IsTrue, List, None, Option, Some, State, [], ap, arith, cases_lt, false, inl, inr, length, refl, slice_get, slice_get_within, subst, suc, sym, zero, ℕ}
+use Rattle.explain.proofs.Common.{◌*◌, ◌++◌, ◌<◌, ◌∙◌, ◌∷◌, ◌≡◌, IsTrue, List, None, Option, Some, State, [], ap, arith, cases_lt, false, inl, inr, length, slice_get, slice_get_within, subst, suc, sym, zero, ℕ}
 use Rattle.std.proofs.Common.{◌/◌, ◌%◌}
 use Rattle.std.proofs.lemmas.Bool.{false_from_ne_true}
-use Rattle.std.proofs.lemmas.List.{length-append}
 use Rattle.std.proofs.lemmas.Option.{none-some, same_Some}
 use Rattle.rmm_spec.specs.Lookup.{is_granule}
 use Rattle.reasons.specs.declared.owner_rows.OwnerRow.{OwnerRow}

@@ -1,15 +1,13 @@
 -- Lines that pass are taken once more, and lead to one state.
-use Rattle.explain.proofs.Common.{◌+◌, ◌<◌, ◌∙◌, ◌∷◌, ◌≡◌, ◌≤◌, Command, Event, History, IsCalled, IsHistory, Line, List, Passes, Reply, Some, State, [], ap, arith, cpu_named, number_named, refl, slice_get, subst, suc, sym, take, zero, ℕ}
+use Rattle.explain.proofs.Common.{◌+◌, ◌<◌, ◌∷◌, ◌≡◌, ◌≤◌, Command, History, IsCalled, IsHistory, Line, List, Passes, Reply, Some, State, [], ap, arith, cpu_named, number_named, refl, slice_get, subst, suc, sym, take, zero, ℕ}
 use Rattle.rmm_spec.specs.State.{opening}
 use Rattle.rmm_spec.specs.Step.{Step}
-use Rattle.rmm_spec.specs.Run.{JournalEntry, IsRun}
 use Rattle.rmm_spec.specs.Linearization.{AreEntriesOf, IsNamed, IsOfItsKind, IsReplyOf, IsTooLate, NamesCall}
-use Rattle.rmm_laws.proofs.StepLaws.{step-decides}
-use Rattle.spec_lemmas.proofs.Calls.{HasOnePlaces, SameEntries, same_entry, HasOnePlaces-from_history}
+use Rattle.spec_lemmas.proofs.Calls.{HasOnePlaces-from_history}
 use Rattle.lemmas.proofs.Elements.{slice_get-front, slice_get-take, take-next_at}
 use Rattle.checker.proofs.Faults.{IsRefused-from_step}
 use Rattle.checker.proofs.Progress.{Passes-push}
-use Rattle.rmm_laws.proofs.EntryRuns.{not-IsRefused, same_step, same_state}
+use Rattle.rmm_laws.proofs.EntryRuns.{not-IsRefused, same_state}
 use Rattle.explain.specs.Told.{IsPassing}
 
 -- ---- one state

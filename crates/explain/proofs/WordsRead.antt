@@ -1,6 +1,6 @@
 -- The words of a reply, by what they are read from.
 use Rattle.explain.proofs.Common.{◌∙◌, ◌∷◌, ◌≡◌, ◌≤◌, Bool, IsTrue, List, None, Option, Some, State, [], ap, arith, false, nat_tests, refl, suc, sym, true, zero, ℕ}
-use Rattle.std.proofs.Common.{◌-◌, nat_le, min, Ok, Err, is_some, Result, if◌then◌else◌}
+use Rattle.std.proofs.Common.{◌-◌, nat_le, min, Ok, Err, Result, if◌then◌else◌}
 use Rattle.std.specs.List.{AllByRecursion}
 use Rattle.std.proofs.lemmas.Bool.{and_parts}
 use Rattle.rmm_spec.specs.declared.accepted.Accepted.{Accepted}

@@ -9,7 +9,7 @@ pub use Rattle.rmm_spec.specs.Linearization.{IsFinished, cpu_named, number_named
 pub use Rattle.rmm_spec.specs.State.{State, opening}
 pub use Rattle.rmm_spec.specs.declared.{line.Line.Line, line.Line.TheVariants.Unfinished, reply.Reply.Reply}
 pub use Rattle.spec_machine.specs.View.{state_of}
-pub use Rattle.verdict_laws.proofs.Checked.{HasOnePlaces-from_history}
+pub use Rattle.spec_lemmas.proofs.Calls.{HasOnePlaces-from_history}
 pub use Rattle.verdict_laws.specs.Order.{LeadsNowhere}
 pub use Rattle.finding.specs.Begun.{AllLost, IsBegun, IsRound, RoundLost}
 pub use Rattle.finding.specs.Choice.{IsLeast, IsNextCall, rank_of}

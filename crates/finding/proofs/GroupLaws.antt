@@ -21,7 +21,6 @@ use Rattle.verdict_laws.specs.Beside.{AreBeside}
 use Rattle.verdict_laws.specs.Ending.{EndsApart, EndsLater, IsLeftAlone, NamesNoPart}
 use Rattle.verdict_laws.specs.Forward.{AreOpen, IsKept, IsOpen, Passes}
 use Rattle.verdict_laws.specs.Making.{AreMadeApart}
-use Rattle.verdict_laws.proofs.Steps.{kept_line}
 use Rattle.verdict_laws.proofs.Passing.{Passes-from_done_lending, Passes-from_ended, Passes-from_ending, Passes-from_entry, Passes-from_lending, Passes-from_lent, Passes-from_made_apart, Passes-from_work}
 use Rattle.finding.specs.Begun.{Holds, IsGroup}
 use Rattle.finding.specs.Group.{IsNamedAlone, PassInside, PassesWhere, is_outside}
@@ -31,6 +30,7 @@ use Rattle.finding.specs.Next.{AreOpenCalls, HasNoneBefore, IsNextFound, IsNextW
 use Rattle.finding.specs.declared.begun.Begun.{Begun}
 use Rattle.finding.specs.declared.next_call.NextCall.{NextCall}
 use Rattle.finding.proofs.TriedLaws.{counted, of_machine}
+use Rattle.verdict_laws.proofs.Settled.{kept_line}
 
 -- the last two of open lines are open
 two_open : (events : List Event) (place : ℕ) (lines before : List Line) (line later : Line)

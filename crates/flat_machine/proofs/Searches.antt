@@ -3,7 +3,6 @@ use Rattle.std.proofs.Common.{◌≡◌, ℕ, zero, suc, ◌-◌, ◌<◌, Bool,
 use Rattle.rmm_spec.specs.Lookup.{any_below}
 use Rattle.rmm_spec.specs.State.{State}
 use Rattle.rmm_spec.specs.Walk.{reach, table_number}
-use Rattle.spec_lemmas.proofs.WalkLaws.{reach-zero}
 use Rattle.spec_lemmas.proofs.Placed.{any_below-from}
 
 -- one of so many passes

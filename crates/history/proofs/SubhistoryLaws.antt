@@ -8,7 +8,7 @@ use Rattle.rmm_spec.specs.declared.command.Command.{Command}
 use Rattle.rmm_spec.specs.declared.event.Event.{Event}
 use Rattle.rmm_spec.specs.declared.event.Event.TheVariants.{Called, Returned}
 use Rattle.rmm_spec.specs.declared.reply.Reply.{Reply}
-use Rattle.rmm_spec.specs.HistoryText.{Config, IsHistory, IsEvent, CanFollow, Stand, start, stand_after, stand_from, subhistory_of, cpu_of, IsRecord, rank}
+use Rattle.rmm_spec.specs.HistoryText.{Config, IsHistory, CanFollow, Stand, start, stand_after, stand_from, subhistory_of, cpu_of, IsRecord, rank}
 use Rattle.rmm_spec.specs.Linearization.{IsCalled, IsReturned, IsKnown, IsFinished}
 use Rattle.spec_lemmas.proofs.Places.{open_count, stand_of_record, rank-slice_get, length-stand_from, length-subhistory_of-lt, length-subhistory_of-take, one_place, below-IsKnown, below-IsFinished, cpu_below}
 use Rattle.spec_lemmas.proofs.Records.{subhistory_of-push_same, subhistory_of-push_other, stand_from-push_at, IsHistory-push}

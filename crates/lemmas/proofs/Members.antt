@@ -1,5 +1,5 @@
 -- Members of a list: its first element, and those of the rest.
-use Rattle.std.proofs.Common.{◌<◌, List, ◌∷◌, refl, suc, arith}
+use Rattle.std.proofs.Common.{List, ◌∷◌, refl, suc, arith}
 use Rattle.std.specs.Prelude.{Contains}
 
 -- a list contains its first element

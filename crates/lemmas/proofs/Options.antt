@@ -1,5 +1,5 @@
 -- Options: what is there, and what isn't.
-use Rattle.std.proofs.Common.{◌≡◌, Bool, true, false, Option, Some, None, IsTrue, is_some, refl}
+use Rattle.std.proofs.Common.{◌≡◌, true, false, Option, Some, None, IsTrue, is_some, refl}
 use Rattle.lemmas.proofs.Tests.{both_ways}
 
 -- what has a value is that value

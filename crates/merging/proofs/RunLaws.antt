@@ -1,11 +1,11 @@
 -- Laws on what happened, with one moment more at the end.
-use Rattle.merging.proofs.Common.{◌++◌, ◌+◌, ◌<◌, ◌∙◌, ◌∷◌, ◌≡◌, ◌≤◌, Call, Commit, Happened, List, Moment, Option, Return, Some, Stand, [], ap, append-nil, append_assoc, arith, events_from, events_of, false, known_front, length, lines_from, lines_of, refl, returns_in, slice_get, slice_get_within, stand_at, stand_seen, stands_after, stands_in, stands_with, starts, subst, suc, sym, take, zero, ℕ}
-use Rattle.std.proofs.Common.{Bool, true, get_or, set, None, if◌then◌else◌, ⊎_elim, add-one, length-append}
+use Rattle.merging.proofs.Common.{◌++◌, ◌+◌, ◌<◌, ◌∙◌, ◌∷◌, ◌≡◌, ◌≤◌, Call, Commit, Happened, List, Moment, Option, Return, Some, Stand, [], ap, append-nil, append_assoc, arith, events_from, events_of, false, known_front, length, lines_from, lines_of, refl, returns_in, slice_get, stand_at, stand_seen, stands_after, stands_in, stands_with, starts, subst, suc, sym, take, zero, ℕ}
+use Rattle.std.proofs.Common.{Bool, true, get_or, set, None, if◌then◌else◌, ⊎_elim, length-append}
 use Rattle.std.specs.Prelude.{slice_index, ◌==◌}
 use Rattle.std.specs.List.{AllByRecursion}
-use Rattle.std.proofs.Math.Seq.{take-suc, take-length}
+use Rattle.std.proofs.Math.Seq.{take-length}
 use Rattle.std.proofs.lemmas.Bool.{cases_eq, eq-eqb, ne_eqb}
-use Rattle.std.proofs.lemmas.Option.{none-some, get_or_from_slice_get}
+use Rattle.std.proofs.lemmas.Option.{none-some}
 use Rattle.std.proofs.lemmas.List.{get_or-set_same, get_or-set_other, length-set, length-map, length-take, map-set}
 use Rattle.rmm_spec.specs.Cell.{put}
 use Rattle.spec_lemmas.proofs.Texts.{AllByRecursion-append}

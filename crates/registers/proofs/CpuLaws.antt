@@ -14,7 +14,7 @@ use Rattle.rmm_spec.specs.Linearization.{IsCalled, IsReturned, IsKnown}
 use Rattle.history.specs.Calls.{ArePlacesOf}
 use Rattle.history.specs.declared.history.Places.{Places}
 use Rattle.spec_lemmas.proofs.Calls.{told_at_call, told_at_return}
-use Rattle.verdict_laws.proofs.Checked.{HasOnePlaces-from_history}
+use Rattle.spec_lemmas.proofs.Calls.{HasOnePlaces-from_history}
 use Rattle.verdict_laws.specs.Registers.{IsOpenCall, entered_after}
 use Rattle.verdict_laws.proofs.CallOrder.{few_calls, returns_before_later, returns_in_order}
 use Rattle.registers.specs.declared.cpus.Cpu.{Cpu}

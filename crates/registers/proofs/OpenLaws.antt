@@ -14,7 +14,7 @@ use Rattle.rmm_spec.specs.Call.{call_of}
 use Rattle.rmm_spec.specs.HistoryText.{History, IsHistory}
 use Rattle.rmm_spec.specs.Linearization.{IsCalled, IsReturned, IsFinished, IsOfItsKind, IsReplyOf, cpu_named, number_named}
 use Rattle.spec_lemmas.proofs.Calls.{same_given, told_at_call, told_at_return}
-use Rattle.verdict_laws.proofs.Checked.{HasOnePlaces-from_history}
+use Rattle.spec_lemmas.proofs.Calls.{HasOnePlaces-from_history}
 use Rattle.history.specs.Calls.{ArePlacesOf}
 use Rattle.history.specs.declared.history.Places.{Places}
 use Rattle.verdict_laws.specs.Registers.{Begins, Extends, FitsValue, IsDone, IsEntered, IsOpenCall, Reads, Register, RegisterCall, done_call, register_call}

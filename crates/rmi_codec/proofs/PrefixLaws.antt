@@ -1,12 +1,12 @@
 -- The number that the first part of a line spells, read without knowing before where the part ends.
 use Rattle.std.proofs.Common.{◌≡◌, ◌⊎◌, Bool, if◌then◌else◌, ◌≢◌, ℕ, zero, suc, ◌+◌, ◌*◌, ◌<◌, ◌≤◌, true, false, ◌==◌, List, [], ◌∷◌, ◌++◌, length, map, get_or, take, drop, codes, inl, inr, refl, sym, ap, ◌∙◌, arith, lit<}
-use Rattle.std.specs.List.{All, AllByRecursion}
+use Rattle.std.specs.List.{AllByRecursion}
 use Rattle.std.specs.Int.Digits.{digits_of}
 use Rattle.std.proofs.Math.Seq.{drop-cons}
 use Rattle.std.proofs.lemmas.Bool.{cases_lt}
 use Rattle.std.proofs.lemmas.Bool.Decides.{nat_tests}
 use Rattle.std.proofs.lemmas.List.{get_or-take, get_or_at, length-append, length-take-le, take_all, take_at, take-append-drop, take-take}
-use Rattle.std.proofs.lemmas.List.Elements.{All-weaker, All-from_recursion}
+use Rattle.std.proofs.lemmas.List.Elements.{All-from_recursion}
 use Rattle.std.proofs.lemmas.List.Splits.{slice_split_none, slice_split_at, length-slice_split}
 use Rattle.rmm_spec.specs.Text.{glyph, numeral, line_text, parts_of}
 use Rattle.spec_lemmas.proofs.Texts.{IsPlain, IsPart-from_test, glyph-IsPlain, map-glyph-plain, parts_of-line_text, numeral_some, numeral-zero, numeral-IsPart, not_spaces}

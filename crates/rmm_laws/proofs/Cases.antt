@@ -1,5 +1,5 @@
 -- What is looked up in a changed map: at the address that was changed, or elsewhere.
-use Rattle.rmm_laws.proofs.SoundCommon.{◌&&◌, ◌==◌, ◌∙◌, ◌≡◌, Bool, IsTrue, None, Option, Some, and_parts, both_ways, eq-eqb, eqb-true, false, false_from_ne_true, if◌then◌else◌, is_some, refl, sym, true, ℕ}
+use Rattle.rmm_laws.proofs.SoundCommon.{◌&&◌, ◌==◌, ◌∙◌, ◌≡◌, Bool, IsTrue, None, Option, Some, and_parts, eq-eqb, eqb-true, false, false_from_ne_true, if◌then◌else◌, is_some, refl, sym, true, ℕ}
 use Rattle.rmm_spec.specs.Update.{is_same_entry}
 
 -- what is not there has no value

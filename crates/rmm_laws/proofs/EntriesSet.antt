@@ -1,5 +1,5 @@
 -- The leaves of a set of tables, after one entry of one table is replaced, or the RIPAS of a stretch of its entries is set.
-use Rattle.rmm_laws.proofs.ShapeCommon.{◌%◌, ◌*◌, ◌+◌, ◌-◌, ◌/◌, ◌<◌, ◌==◌, ◌∙◌, ◌≡◌, ◌≤◌, Bool, Entry, List, None, Option, RealmRecord, Some, Table, TableRecord, ap, arith, both_ways, eq-eqb, eqb-true, false, if◌then◌else◌, inl, inr, is_same_table, is_table, leaf_in_tables, length, none-some, option_and_then, put, refl, same_Some, slice_get, spot_hit, subst, sym, true, ℕ}
+use Rattle.rmm_laws.proofs.ShapeCommon.{◌%◌, ◌*◌, ◌+◌, ◌-◌, ◌/◌, ◌<◌, ◌==◌, ◌∙◌, ◌≡◌, ◌≤◌, Bool, Entry, List, None, Option, Some, Table, TableRecord, ap, arith, both_ways, eq-eqb, eqb-true, false, if◌then◌else◌, inl, inr, is_same_table, is_table, leaf_in_tables, length, none-some, option_and_then, put, refl, same_Some, slice_get, spot_hit, subst, sym, true, ℕ}
 use Rattle.std.proofs.Common.{◌&&◌, nat_lt, nat_le, option_map, slice_set}
 use Rattle.std.proofs.lemmas.Bool.{and_parts, and_from, cases_eq, cases_lt, ltb-true, leb-true, lt-ltb, le-leb}
 use Rattle.std.proofs.lemmas.List.{length-append, length-map, length-take, length-drop, length-set}
@@ -7,7 +7,6 @@ use Rattle.rmm_spec.specs.declared.tag.Ripas.{Ripas}
 use Rattle.rmm_spec.specs.Update.{is_same_entry, entry_with_ripas}
 use Rattle.rmm_spec.specs.Table.{entries_with_ripas}
 use Rattle.rmm_spec.specs.TableCells.{leaf_of}
-use Rattle.rmm_spec.specs.Sound.{IsLeafOf}
 use Rattle.rmm_laws.proofs.Cases.{choice}
 use Rattle.rmm_laws.proofs.Finds.{AreFound, IsPlaced, same_place}
 use Rattle.rmm_laws.proofs.Leaves.{leaf-entries_here, leaf-table_here, leaf-entries_elsewhere}

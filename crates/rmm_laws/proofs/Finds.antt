@@ -1,8 +1,7 @@
 -- The table that a search finds is the one of that place, before and after a table is changed, put in or taken out.
-use Rattle.rmm_laws.proofs.ShapeCommon.{◌%◌, ◌*◌, ◌/◌, ◌<◌, ◌==◌, ◌∙◌, ◌≡◌, Bool, IsTrue, None, Option, Some, TableRecord, ap, arith, both_ways, by_address, eq-eqb, eqb-true, false, false_from_ne_true, if◌then◌else◌, inl, inr, is_granule, is_same_table, none-some, place_number, put, put-elsewhere, put-here, refl, same_Some, spot_hit, subst, suc, sym, table_granule, true, zero, ℕ}
-use Rattle.std.proofs.Common.{◌⊎◌, option_map, nat_lt}
-use Rattle.std.proofs.lemmas.Bool.{false≢true, and_parts}
-use Rattle.std.proofs.lemmas.Bool.Decides.{nat_tests}
+use Rattle.rmm_laws.proofs.ShapeCommon.{◌*◌, ◌/◌, ◌<◌, ◌==◌, ◌∙◌, ◌≡◌, Bool, IsTrue, None, Option, Some, TableRecord, ap, arith, both_ways, by_address, eq-eqb, eqb-true, false, false_from_ne_true, if◌then◌else◌, inl, inr, is_granule, is_same_table, none-some, place_number, put, put-elsewhere, put-here, refl, same_Some, spot_hit, subst, suc, sym, table_granule, true, zero, ℕ}
+use Rattle.std.proofs.Common.{◌⊎◌, option_map}
+use Rattle.std.proofs.lemmas.Bool.{false≢true}
 use Rattle.rmm_spec.specs.Update.{is_same_entry}
 use Rattle.rmm_spec.specs.Flat.{found_below, is_table_of}
 use Rattle.rmm_spec.specs.Shape.{HoldsTable}

@@ -8,14 +8,13 @@ use Rattle.rmm_spec.specs.declared.entry.Entry.TheVariants.{Unassigned, Unassign
 use Rattle.rmm_spec.specs.declared.tag.Ripas.TheVariants.{Empty}
 use Rattle.rmm_spec.specs.declared.tag.Tag.TheVariants as tag
 use Rattle.rmm_spec.specs.Lookup.{has_vmid}
-use Rattle.rmm_spec.specs.Walk.{table_size, table_number, full, entry_at, has_link, has_entry}
+use Rattle.rmm_spec.specs.Walk.{table_size, table_number, entry_at, has_link, has_entry}
 use Rattle.rmm_spec.specs.Change.{new_realm}
 use Rattle.rmm_spec.specs.Applicable.{CanMakeRealm, CanDestroyRealm}
 use Rattle.spec_lemmas.proofs.TagLaws.{granule_from_tag}
 use Rattle.rmm_laws.proofs.Cases.{nothing_there, choice, spot_other, left_of}
 use Rattle.rmm_laws.proofs.Entries.{entry-link}
 use Rattle.rmm_laws.proofs.Searches.{any_below-false, none_has_vmid}
-use Rattle.rmm_laws.proofs.Spaces.{space_cases}
 use Rattle.rmm_laws.specs.Whole.{root_table, side_without_vmid}
 use Rattle.rmm_laws.proofs.Cells.{views_put, views_of-put, cell-table}
 use Rattle.rmm_laws.proofs.Finds.{IsPlaced, same_place, table_granule-holds, table_granule-taken}

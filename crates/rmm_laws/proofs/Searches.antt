@@ -1,8 +1,7 @@
 -- What a search over all granules says of each address, and what stands at a tag.
-use Rattle.rmm_laws.proofs.SoundCommon.{◌*◌, ◌/◌, ◌<◌, ◌==◌, ◌∙◌, ◌≡◌, Bool, IsSound, IsTrue, None, Option, Rd, RealmRecord, Rec, RecRecord, Some, State, and_parts, ap, arith, both_ways, eqb-true, false, granule_from_tag, has_tag, inl, inr, is_some, nat_lt, realm_at, rec_at, refl, runs_on, suc, sym, true, zero, ℕ}
-use Rattle.std.proofs.Common.{◌%◌, ◌⊎◌, unwrap_or}
+use Rattle.rmm_laws.proofs.SoundCommon.{◌*◌, ◌/◌, ◌<◌, ◌∙◌, ◌≡◌, Bool, IsSound, IsTrue, None, Option, Rd, RealmRecord, Rec, RecRecord, Some, State, ap, arith, both_ways, false, granule_from_tag, has_tag, inl, inr, is_some, realm_at, rec_at, refl, runs_on, suc, sym, true, zero, ℕ}
+use Rattle.std.proofs.Common.{◌⊎◌, unwrap_or}
 use Rattle.std.proofs.lemmas.Bool.{or_parts}
-use Rattle.std.proofs.lemmas.Bool.Decides.{nat_tests}
 use Rattle.rmm_spec.specs.Lookup.{is_granule, any_below, greatest_below, is_inside, rec_inside, is_vmid_used, has_vmid, has_rec, is_owned_by}
 use Rattle.spec_lemmas.proofs.Lookups.{granule-number}
 

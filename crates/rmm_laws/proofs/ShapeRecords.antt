@@ -1,6 +1,6 @@
 -- Records of a realm and of a REC are updated, with the place of a CPU that enters the REC or leaves it.
 use Rattle.rmm_laws.proofs.ShapeCommon.{◌∙◌, ◌≡◌, Cell, Config, CpuPlace, IsShaped, IsSound, IsTrue, None, Option, Rd, RealmRecord, Rec, RecRecord, Some, State, Whole, ap, both_ways, by_address, cells_changed, changed, eq-eqb, eqb-true, false, false_from_ne_true, flat_state, none-some, places_changed, put, put-elsewhere, put-here, realm_at, realm_there, realms_of, recs_of, refl, same_Some, side_changed, subst, sym, ℕ}
-use Rattle.std.proofs.Common.{is_some, is_none}
+use Rattle.std.proofs.Common.{is_none}
 use Rattle.rmm_spec.specs.declared.change.Change.TheVariants.{RecordsChanged}
 use Rattle.rmm_spec.specs.declared.change.RealmChange.{RealmChange}
 use Rattle.rmm_spec.specs.declared.change.RecChange.{RecChange}

@@ -1,5 +1,5 @@
 -- Values chosen by a test, and searches.
-use Rattle.rmm_laws.proofs.Common.{◌&&◌, ◌<◌, ◌==◌, ◌∙◌, ◌≡◌, ◌⊎◌, Bool, None, Option, Some, and_parts, arith, both_ways, eqb-true, false, if◌then◌else◌, inl, inr, is_some, refl, suc, sym, true, ℕ}
+use Rattle.rmm_laws.proofs.Common.{◌&&◌, ◌<◌, ◌==◌, ◌∙◌, ◌≡◌, ◌⊎◌, Bool, Option, Some, and_parts, arith, eqb-true, false, if◌then◌else◌, inl, inr, is_some, refl, suc, sym, true, ℕ}
 use Rattle.rmm_spec.specs.Update.{is_same_entry}
 
 -- what is chosen is the one or the other

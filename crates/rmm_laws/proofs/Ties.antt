@@ -1,5 +1,5 @@
 -- What a sound state ties to a realm: a tie tells the granule's tag, and its one realm.
-use Rattle.rmm_laws.proofs.Common.{◌==◌, ◌∙◌, ◌≡◌, ◌⊎◌, Bool, Delegated, IsSound, IsTrue, Rd, Rtt, Some, State, Tag, ap, eq-eqb, false, has_tag, inl, inr, refl, subst, sym, tag-has_tag, true, ℕ}
+use Rattle.rmm_laws.proofs.Common.{◌==◌, ◌∙◌, ◌≡◌, ◌⊎◌, Delegated, IsSound, IsTrue, Rd, Rtt, Some, State, Tag, ap, eq-eqb, has_tag, inl, inr, refl, subst, sym, tag-has_tag, true, ℕ}
 use Rattle.std.proofs.Common.{◌||◌}
 use Rattle.rmm_spec.specs.declared.tag.Tag.TheVariants.{Undelegated, Rec, RecAux, Data}
 use Rattle.rmm_spec.specs.State.{RecRecord}

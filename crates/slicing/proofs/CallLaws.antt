@@ -12,7 +12,7 @@ use Rattle.rmm_spec.specs.declared.reply.Reply.{Reply}
 use Rattle.rmm_spec.specs.HistoryText.{History, IsHistory}
 use Rattle.rmm_spec.specs.Linearization.{IsCalled, IsReturned}
 use Rattle.spec_lemmas.proofs.Calls.{HasOnePlaces, same_given}
-use Rattle.spec_lemmas.proofs.Places.{finished_is_known, one_call_place, one_return_place}
+use Rattle.spec_lemmas.proofs.Places.{one_call_place}
 use Rattle.verdict_laws.specs.Slices as slices
 use Rattle.slicing.specs.declared.call_at.Answer.{Answer}
 use Rattle.slicing.specs.declared.call_at.CallAt.{CallAt}

@@ -1,5 +1,5 @@
 -- What a change that a well-shaped whole can take finds there.
-use Rattle.spec_machine.proofs.Common.{◌%◌, ◌*◌, ◌+◌, ◌-◌, ◌/◌, ◌<◌, ◌==◌, ◌∙◌, ◌≡◌, ◌≤◌, Bool, Entry, Granules, IsShapedIn, IsTrue, None, Option, RealmRecord, Some, State, ap, arith, cells_of, false, flat_state, if◌then◌else◌, inl, inr, is_granule, lt-ltb, nat_lt, refl, same_Some, state_in, subst, suc, sym, true, whole_of, zero, ℕ}
+use Rattle.spec_machine.proofs.Common.{◌%◌, ◌*◌, ◌+◌, ◌-◌, ◌/◌, ◌<◌, ◌==◌, ◌∙◌, ◌≡◌, ◌≤◌, Entry, Granules, IsShapedIn, IsTrue, None, Option, RealmRecord, Some, State, ap, arith, cells_of, flat_state, inl, inr, is_granule, lt-ltb, nat_lt, refl, same_Some, state_in, subst, sym, whole_of, ℕ}
 use Rattle.std.proofs.Common.{IfSome, nat_le, ◌&&◌}
 use Rattle.std.specs.List.{AllByRecursion}
 use Rattle.std.proofs.lemmas.Bool.{and_from, and_parts, ltb-true}
@@ -21,7 +21,6 @@ use Rattle.rmm_spec.specs.Cell as spec
 use Rattle.rmm_spec.specs.Flat as spec_flat
 use Rattle.rmm_spec.specs.HistoryText.{IsConfig, granule_limit}
 use Rattle.rmm_spec.specs.Lookup.{is_hash, is_owned_by, has_tag, realm_at, rec_at}
-use Rattle.rmm_spec.specs.Shape.{count_below}
 use Rattle.rmm_spec.specs.State.{RecRecord}
 use Rattle.rmm_spec.specs.Step.Terms.{is_space}
 use Rattle.rmm_spec.specs.Walk.{is_table}

@@ -1,5 +1,5 @@
 -- What is read of one granule is what the flat state tells of it.
-use Rattle.spec_machine.proofs.Common.{◌*◌, ◌++◌, ◌+◌, ◌/◌, ◌<◌, ◌==◌, ◌∙◌, ◌∷◌, ◌≡◌, Bool, CellList, Config, IsTrue, List, Option, Some, State, TableRecord, [], ap, arith, cells_of, false, flat_state, if◌then◌else◌, is_granule, length, nat_lt, place_in, refl, slice_get, suc, true, zero, ℕ}
+use Rattle.spec_machine.proofs.Common.{◌*◌, ◌++◌, ◌+◌, ◌/◌, ◌<◌, ◌==◌, ◌∙◌, ◌∷◌, ◌≡◌, Bool, CellList, Config, IsTrue, List, Option, State, TableRecord, [], ap, arith, cells_of, false, flat_state, if◌then◌else◌, is_granule, length, nat_lt, place_in, refl, slice_get, suc, true, zero, ℕ}
 use Rattle.std.proofs.lemmas.Bool.{ltb-false, ltb-true}
 use Rattle.std.proofs.lemmas.List.{length-append}
 use denote.Enum.Bare.{sameb}

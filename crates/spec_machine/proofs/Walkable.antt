@@ -1,10 +1,9 @@
 -- A list of the tables of a well-shaped whole stands for the tables and leaves of its flat state, and a walk may start at each root.
-use Rattle.spec_machine.proofs.Common.{◌%◌, ◌*◌, ◌+◌, ◌/◌, ◌<◌, ◌^◌, ◌∙◌, ◌≡◌, ◌≤◌, Config, Entry, IsTrue, List, None, Option, RealmRecord, Some, TableRecord, ap, arith, cases_lt, entry_number, eqb-true, flat_state, inl, inr, none-some, refl, slice_get, suc, sym, table_number, table_size, zero, ℕ}
+use Rattle.spec_machine.proofs.Common.{◌%◌, ◌*◌, ◌+◌, ◌/◌, ◌<◌, ◌∙◌, ◌≡◌, ◌≤◌, Config, Entry, IsTrue, List, None, Option, RealmRecord, Some, TableRecord, ap, arith, cases_lt, entry_number, eqb-true, flat_state, inl, inr, none-some, refl, slice_get, suc, sym, table_number, zero, ℕ}
 use Rattle.std.proofs.Common.{◌⊎◌}
 use Rattle.std.specs.Prelude.{option_map, find}
 use Rattle.std.specs.Option.{option_and_then}
 use Rattle.std.proofs.lemmas.Bool.{eq-eqb}
-use Rattle.rmm_spec.specs.Step.Terms.{is_space}
 use Rattle.rmm_spec.specs.Walk.{full}
 use Rattle.rmm_spec.specs.Table.{entry_index, place_number, covers}
 use Rattle.rmm_spec.specs.TableCells.{TableCell, table_in, is_table_at, flat_table, flat_leaf, leaf_of, with_tables, ArePlaced, LinksTo, IsOnPath, IsWalkable}
@@ -12,7 +11,6 @@ use Rattle.rmm_spec.specs.Cell.{Cell, realms_of, tables_of}
 use Rattle.rmm_spec.specs.Flat.{table_granule, leaf_in_tables}
 use Rattle.rmm_spec.specs.Shape.{Side, CpuPlace, HoldsTable, IsWellShaped}
 use Rattle.spec_lemmas.proofs.WalkLaws.{table_number-suc}
-use Rattle.rmm_laws.proofs.Spaces.{space_cases}
 use Rattle.rmm_laws.proofs.Walked.{table_number-entry, root_number}
 use Rattle.spec_lemmas.proofs.FlatTables.{IsAtSpot, found_at_spot, spot_is_found}
 use Rattle.rmm_laws.proofs.Finds.{table_granule-holds, holds-found}

@@ -1,7 +1,7 @@
 -- How many calls of each CPU stand in an order with one more line, and which they are.
-use Rattle.verdict_laws.proofs.Common.{◌≡◌, ℕ, zero, suc, ◌+◌, ◌≤◌, false, eqb, List, [], ◌∷◌, ◌++◌, ◌⊎◌, inl, inr, length, Some, refl, sym, ◌∙◌, ap, arith, slice_get, cases_Bool, Line, cpu_named, number_named, IsNamed, slice_get-append, count_of}
+use Rattle.verdict_laws.proofs.Common.{◌≡◌, ℕ, zero, suc, ◌+◌, ◌≤◌, false, eqb, List, [], ◌∷◌, ◌++◌, ◌⊎◌, inl, inr, length, Some, refl, arith, slice_get, cases_Bool, Line, cpu_named, number_named, IsNamed, slice_get-append, count_of}
 use Rattle.std.proofs.lemmas.Bool.{eqb-true, eq-eqb}
-use Rattle.lemmas.proofs.Elements.{slice_get_push_cases, slice_get-push}
+use Rattle.lemmas.proofs.Elements.{slice_get-push}
 
 -- one line more counts for its own CPU
 pub count_of-same : (cpu : ℕ) (lines : List Line) (line : Line) → cpu_named line ≡ cpu → count_of cpu (lines ++ line ∷ []) ≡ count_of cpu lines + 1

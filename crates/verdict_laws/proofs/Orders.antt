@@ -1,5 +1,5 @@
 -- Of each history and order some verdict is right.
-use Rattle.verdict_laws.proofs.Common.{◌≡◌, ℕ, zero, suc, ◌+◌, ◌<◌, ◌≤◌, ◌⊎◌, inl, inr, List, [], ◌∷◌, ◌++◌, length, Option, Some, None, refl, sym, ◌∙◌, ap, subst, arith, slice_get, none-some, Command, Event, Called, Returned, Line, History, IsHistory, State, opening, IsCalled, IsFinished, IsNamed, HasOnePlaces-from_history}
+use Rattle.verdict_laws.proofs.Common.{◌≡◌, ℕ, zero, suc, ◌+◌, ◌≤◌, ◌⊎◌, inl, inr, List, [], ◌∷◌, ◌++◌, length, Option, Some, None, refl, sym, ◌∙◌, ap, subst, arith, slice_get, none-some, Command, Event, Called, Returned, Line, History, IsHistory, State, opening, IsCalled, IsFinished, IsNamed, HasOnePlaces-from_history}
 use Rattle.std.proofs.Common.{take}
 use Rattle.std.proofs.lemmas.List.{take_all}
 use Rattle.rmm_spec.specs.declared.verdict.Reason.{Reason}

@@ -1,6 +1,6 @@
 -- RECs: whose one is, whether it can run, and what it asks for while it runs on no CPU. What a call makes so stays so until another may end it, and
 -- isn't denied.
-use Rattle.verdict_laws.proofs.Common.{◌≡◌, ℕ, ◌==◌, ◌&&◌, ◌||◌, true, false, Bool, Option, Some, None, IsTrue, is_some, refl, sym, ◌∙◌, ap, eqb-true, eq-eqb, arith, inl, inr, is_none, unwrap_or, and_from, and_parts, cases_Bool, false_from_ne_true, or_cases, or_parts, or_right, Call, Command, Reply, call_of, class_of, changed, rec_updated, is_inside, no_rec, rec_at, rec_inside, request_of, runs_on, is_accepted, IsSound, RecRecord, State, Step, is_placed, outcome, reached_change, both_ways, behind, inside_runs, step-refuses, Fact, holds}
+use Rattle.verdict_laws.proofs.Common.{◌≡◌, ℕ, ◌==◌, ◌&&◌, ◌||◌, true, false, Bool, Option, Some, None, IsTrue, is_some, refl, sym, ◌∙◌, ap, eqb-true, eq-eqb, arith, inl, inr, is_none, unwrap_or, and_from, and_parts, cases_Bool, or_cases, or_parts, or_right, Call, Command, Reply, call_of, class_of, changed, rec_updated, is_inside, no_rec, rec_at, rec_inside, request_of, runs_on, is_accepted, IsSound, RecRecord, State, Step, is_placed, outcome, reached_change, both_ways, behind, inside_runs, step-refuses, Fact, holds}
 use Rattle.std.specs.Prelude.{nat_le, nat_lt}
 use Rattle.std.proofs.lemmas.Bool.{le-leb, ltb-true}
 use Rattle.rmm_spec.specs.declared.call.Call.TheVariants as call

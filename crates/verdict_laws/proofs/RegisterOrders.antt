@@ -8,8 +8,7 @@ use Rattle.verdict_laws.proofs.RegisterPlaces.{HasReturned, HasReturned-append, 
 use Rattle.verdict_laws.proofs.RegisterReturns.{HasReturned-return, MadeBefore-return, Represents-return}
 use Rattle.verdict_laws.proofs.RegisterRuns.{register-runs}
 use Rattle.verdict_laws.proofs.RegisterStages.{Stage, Stage-along}
-use Rattle.verdict_laws.proofs.Settled.{in_either}
-use Rattle.verdict_laws.proofs.Steps.{kept_line}
+use Rattle.verdict_laws.proofs.Settled.{in_either, kept_line}
 
 module _ (history : History) (is_history : IsHistory history) (register : Register) (mine : ℕ → Bool) (place cpu number : ℕ)
     (given : Reply) (returned : IsReturned history.events place cpu number given) (done : RegisterCall)

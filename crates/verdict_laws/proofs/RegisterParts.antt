@@ -8,7 +8,7 @@ use Rattle.verdict_laws.proofs.Counts.{count_of-nil}
 use Rattle.verdict_laws.proofs.FirstParts.{Reaches-first}
 use Rattle.verdict_laws.proofs.RegisterCalls.{same_done}
 use Rattle.verdict_laws.proofs.RegisterPlaces.{HasReturned-next, IsOpenCall-before, IsOpenCall-next, MadeBefore-next}
-use Rattle.verdict_laws.proofs.Steps.{kept_line}
+use Rattle.verdict_laws.proofs.Settled.{kept_line}
 
 -- ---- before the first event
 

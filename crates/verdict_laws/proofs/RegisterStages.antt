@@ -9,8 +9,7 @@ use Rattle.verdict_laws.proofs.FirstParts.{apart_parts}
 use Rattle.verdict_laws.proofs.RegisterCalls.{IsRegisterRun-append, few_cpus, one_open_call, returning_is_open, same_done}
 use Rattle.verdict_laws.proofs.RegisterPlaces.{HasReturned, HasReturned-append, Stands-append, Stands-last, Stands-push_cases}
 use Rattle.verdict_laws.proofs.RegisterReturns.{early}
-use Rattle.verdict_laws.proofs.Settled.{behind}
-use Rattle.verdict_laws.proofs.Steps.{kept_line}
+use Rattle.verdict_laws.proofs.Settled.{behind, kept_line}
 
 -- a possibility without the CPU's call that the lines come to, from which more lines are a run
 pub record Stage (events : List Event) (register : Register) (mine : ℕ → Bool) (place cpu : ℕ) (begun : List Possibility)

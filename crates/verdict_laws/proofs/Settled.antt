@@ -1,15 +1,13 @@
 -- A call that can be left out of each run, and is given its reply where an order has come to, may come next at once, as one that was refused may.
-use Rattle.verdict_laws.proofs.Common.{◌≡◌, ℕ, zero, suc, ◌+◌, ◌≤◌, ◌⊎◌, inl, inr, List, [], ◌∷◌, ◌++◌, length, Some, refl, sym, ◌∙◌, ap, subst, arith, append_assoc, slice_get, cases_lt, slice_get_within, Accepted, Command, Event, Line, Keep, Unfinished, Refusal, Reply, call_of, History, IsHistory, State, opening, Step, CarriesOut, outcome, JournalEntry, IsRun, IsFinished, IsLinearization, ReturnsBefore, AreEntriesOf, IsEntryOf, NamesCall, IsOfItsKind, cpu_named, number_named, count_of, LeadsNowhere, slice_get-append, HasOnePlaces-from_history}
+use Rattle.verdict_laws.proofs.Common.{◌≡◌, ℕ, zero, suc, ◌+◌, ◌≤◌, ◌⊎◌, inl, inr, List, [], ◌∷◌, ◌++◌, length, Some, refl, sym, ◌∙◌, ap, subst, arith, append_assoc, slice_get, cases_lt, slice_get_within, Accepted, Event, Line, Keep, Unfinished, Refusal, Reply, call_of, History, IsHistory, State, opening, Step, CarriesOut, outcome, JournalEntry, IsRun, IsFinished, IsLinearization, ReturnsBefore, AreEntriesOf, IsEntryOf, NamesCall, IsOfItsKind, cpu_named, number_named, count_of, LeadsNowhere, slice_get-append, HasOnePlaces-from_history}
 use Rattle.std.proofs.Common.{Result, Ok, Err}
 use Rattle.rmm_spec.specs.declared.accepted.Accepted.TheVariants as accepted
 use Rattle.rmm_spec.specs.Linearization.{NamesSame}
 use Rattle.rmm_laws.proofs.RunLaws.{run-append}
-use Rattle.rmm_laws.proofs.StepLaws.{step-decides}
-use Rattle.spec_lemmas.proofs.Calls.{HasOnePlaces, SameEntries, same_entry}
+use Rattle.spec_lemmas.proofs.Calls.{HasOnePlaces, same_entry}
 use Rattle.verdict_laws.specs.Order.{Reaches, Grows, IsRefusal}
 use Rattle.verdict_laws.proofs.Moves.{Each, Pairs, Each-from_places, Each-at, Pairs-from_places, Pairs-at, Each-moved, Pairs-moved, place_moved, around_place}
-use Rattle.rmm_laws.proofs.EntryRuns.{same_step, same_state}
-use Rattle.verdict_laws.proofs.Steps.{kept_line}
+use Rattle.rmm_laws.proofs.EntryRuns.{same_state}
 
 -- ---- runs
 
@@ -125,6 +123,13 @@ first_run events one lines front back line start last state next early claimed r
                   (is_entry, claimed-append events front back more.first es more.claimed later.1);
               run = run-append early (entry ∷ (more.first ++ es)) start state shorter.0 run (next, step, shorter.1);
             }
+
+-- a line of a finished call's kind keeps it
+pub kept_line : (events : List Event) (line : Line) (cpu number : ℕ) → IsOfItsKind events line → cpu_named line ≡ cpu → number_named line ≡ number
+    → IsFinished events cpu number → line ≡ Keep cpu number
+kept_line events (Keep c n) cpu number kind of_cpu numbered finished = ap (λ (x : ℕ). Keep x n) of_cpu ∙ ap (λ (x : ℕ). Keep cpu x) numbered
+kept_line events (Unfinished c n claimed) cpu number kind of_cpu numbered finished =
+    absurd (kind (subst (λ (x : ℕ). IsFinished events x n) (sym of_cpu) (subst (λ (x : ℕ). IsFinished events cpu x) (sym numbered) finished)))
 
 module _ (history : History) (is_history : IsHistory history) (lines : List Line) (state next : State) (reached : Reaches history lines state)
     (cpu number : ℕ) (grows : Grows history lines state (Keep cpu number) next)

@@ -1,5 +1,5 @@
 -- An order that lacks a call at its return is continued by open calls and then the call.
-use Rattle.verdict_laws.proofs.Common.{◌≡◌, ℕ, ◌+◌, ◌<◌, ◌≤◌, eqb, List, [], ◌∷◌, ◌++◌, inl, inr, length, Option, Some, sym, ◌∙◌, ap, subst, arith, append_assoc, slice_get, cases_Bool, cases_lt, cases_order, same_Some, slice_get_within, slice_get-append, Command, Event, Called, Returned, Line, Keep, Unfinished, Reply, History, IsHistory, State, opening, IsCalled, IsReturned, IsFinished, IsLinearization, IsOfItsKind, cpu_named, number_named, count_of, LeadsNowhere, HasOnePlaces-from_history}
+use Rattle.verdict_laws.proofs.Common.{◌≡◌, ℕ, ◌+◌, ◌<◌, ◌≤◌, eqb, List, [], ◌∷◌, ◌++◌, inl, inr, length, Option, Some, sym, ◌∙◌, ap, subst, arith, append_assoc, slice_get, cases_Bool, cases_lt, cases_order, same_Some, slice_get_within, slice_get-append, Command, Event, Called, Returned, Line, Keep, Reply, History, IsHistory, State, opening, IsCalled, IsReturned, IsFinished, IsLinearization, cpu_named, number_named, count_of, LeadsNowhere, HasOnePlaces-from_history}
 use Rattle.std.proofs.lemmas.Bool.{eqb-true}
 use Rattle.std.specs.Option.{option_map}
 use Rattle.lemmas.proofs.Elements.{slice_get-push}
@@ -7,7 +7,7 @@ use Rattle.rmm_spec.specs.Linearization.{NamesSame}
 use Rattle.verdict_laws.proofs.CallOrder.{call_before_return, returns_before_later}
 use Rattle.verdict_laws.proofs.Counts.{count_of-nil}
 use Rattle.verdict_laws.proofs.Moves.{Each, Pairs, Each-append, Each-from_places, Pairs-from_places, around_place}
-use Rattle.verdict_laws.proofs.Settled.{behind, in_either, split_run}
+use Rattle.verdict_laws.proofs.Settled.{behind, in_either, split_run, kept_line}
 use Rattle.verdict_laws.specs.Forward.{IsKept, IsOpen, AreOpen, Gives}
 use Rattle.verdict_laws.proofs.Counted.{count_of-cons_other}
 use Rattle.verdict_laws.proofs.Looks.{Gives-split, nowhere_further}
@@ -27,13 +27,6 @@ apart_places events place cpu number other later command given is_called is_retu
     ap (λ (o : Option Event). option_map is_call o) (sym is_called ∙ is_returned) in
     let same : 1 ≡ 0 = same_Some 1 0 both in
     omega (arith, same)
-
--- a line of a finished call's kind keeps it
-pub kept_line : (events : List Event) (line : Line) (cpu number : ℕ) → IsOfItsKind events line → cpu_named line ≡ cpu → number_named line ≡ number
-    → IsFinished events cpu number → line ≡ Keep cpu number
-kept_line events (Keep c n) cpu number kind of_cpu numbered finished = ap (λ (x : ℕ). Keep x n) of_cpu ∙ ap (λ (x : ℕ). Keep cpu x) numbered
-kept_line events (Unfinished c n claimed) cpu number kind of_cpu numbered finished =
-    absurd (kind (subst (λ (x : ℕ). IsFinished events x n) (sym of_cpu) (subst (λ (x : ℕ). IsFinished events cpu x) (sym numbered) finished)))
 
 -- open calls that are no two the same are of CPUs of their own
 own_cpu : (events : List Event) (place : ℕ) (lines : List Line) (x : Line) (xs : List Line) → IsOpen events place lines x

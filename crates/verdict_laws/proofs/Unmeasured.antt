@@ -1,5 +1,5 @@
 -- A step from a state is one from a state that differs in measurements alone, with an extension of a measurement in place of a reading.
-use Rattle.verdict_laws.proofs.Common.{◌≡◌, ℕ, ◌==◌, ◌&&◌, nat_le, Bool, true, false, if◌then◌else◌, IsTrue, List, [], ◌∷◌, Some, refl, sym, ◌∙◌, ap, subst, Result, Ok, Err, is_none, and_parts, false≢true, Accepted, Done, Reaches, Call, Change, Unchanged, Command, Refusal, Misplaced, Reply, State, RealmRecord, IsSound, call_of, changed, realm_updated, is_inside, rec_inside, realm_at, rec_at, decided, reached_change, with_front, words_of, named, is_placed, misplacement, answer_of, outcome, CarriesOut, Step, by_address, realm_there}
+use Rattle.verdict_laws.proofs.Common.{◌≡◌, ℕ, ◌&&◌, nat_le, Bool, true, false, if◌then◌else◌, IsTrue, List, [], ◌∷◌, Some, refl, sym, ◌∙◌, ap, subst, Result, Ok, Err, is_none, and_parts, false≢true, Accepted, Done, Reaches, Call, Change, Unchanged, Command, Refusal, Misplaced, Reply, State, IsSound, call_of, changed, realm_updated, is_inside, rec_inside, realm_at, rec_at, decided, reached_change, with_front, words_of, named, is_placed, misplacement, answer_of, outcome, CarriesOut, Step, realm_there}
 use Rattle.std.specs.Prelude.{option_map, replicate, slice_index}
 use Rattle.std.proofs.Math.Bool.{and-false}
 use Rattle.rmm_spec.specs.declared.call.Call.TheVariants as call

@@ -1,5 +1,5 @@
 -- Histories in which each reading of a measurement extends one: their runs, their calls and their returns.
-use Rattle.verdict_laws.proofs.Common.{◌≡◌, ℕ, true, false, List, [], ◌∷◌, ◌++◌, map, if◌then◌else◌, Some, refl, ◌∙◌, ap, subst, arith, slice_get, slice_get_within, Command, Event, Called, Returned, Line, Reply, History, ok, IsSound, State, JournalEntry, IsRun, IsCalled, IsReturned, AreEntriesOf}
+use Rattle.verdict_laws.proofs.Common.{◌≡◌, ℕ, true, false, List, [], ◌∷◌, ◌++◌, map, if◌then◌else◌, Some, refl, ◌∙◌, ap, subst, arith, slice_get, slice_get_within, Command, Event, Called, Returned, Line, Reply, History, IsSound, State, JournalEntry, IsRun, IsCalled, IsReturned, AreEntriesOf}
 use Rattle.std.specs.Prelude.{slice_index}
 use Rattle.std.proofs.lemmas.Option.{slice_get-get_or}
 use Rattle.rmm_spec.specs.declared.reply.Reply.TheVariants as reply

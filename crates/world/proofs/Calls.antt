@@ -1,5 +1,5 @@
 -- A CPU's program: what is left of it.
-use Rattle.world.proofs.Common.{◌∷◌, ◌≡◌, List, None, Some, World, [], ap, drop, inr, none-some, refl, same_Some, slice_get, suc, sym, zero, ℕ}
+use Rattle.world.proofs.Common.{◌∷◌, ◌≡◌, List, None, Some, World, [], ap, drop, inr, none-some, refl, same_Some, slice_get, sym, ℕ}
 use Rattle.rmm_spec.specs.World.{Between}
 use Rattle.rmm_spec.specs.declared.turn.Will.TheVariants.{Go}
 use Rattle.rmm_spec.specs.Waits.{IsIdle}

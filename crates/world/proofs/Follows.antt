@@ -7,8 +7,6 @@ use Rattle.std.proofs.Props.{props}
 use Rattle.std.proofs.lemmas.List.{length_push}
 use Rattle.rmm_spec.specs.declared.event.Event.{Event}
 use Rattle.rmm_spec.specs.declared.event.Event.TheVariants.{Called, Returned}
-use Rattle.rmm_spec.specs.declared.reply.Reply.TheVariants.{Ok, Err, Misplaced}
-use Rattle.rmm_spec.specs.CommandText.{IsReply}
 use Rattle.rmm_spec.specs.HistoryText.{IsConfig, IsEvent, IsRecord, CanFollow, cpu_of, subhistory_of}
 use Rattle.rmm_spec.specs.World.{Between}
 use Rattle.world.specs.declared.world.World as own

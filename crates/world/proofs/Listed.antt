@@ -1,7 +1,7 @@
 -- A list with an item for each granule, or for each CPU, is a map, and a write to it is a put.
 use Rattle.world.proofs.Common.{◌<◌, ◌==◌, ◌∙◌, ◌≡◌, Bool, Cpu, IsTrue, List, Some, ap, arith, eqb-true, false, if◌then◌else◌, length, put, refl, slice_get, true, ℕ}
 use Rattle.std.proofs.Common.{◌*◌, ◌/◌, ◌%◌, nat_lt, ◌≢◌, slice_index_or, slice_set}
-use Rattle.std.proofs.lemmas.Bool.{and_parts, ltb-true}
+use Rattle.std.proofs.lemmas.Bool.{and_parts}
 use Rattle.std.proofs.lemmas.List.{get_or_default, get_or-set_same, get_or-set_other}
 use Rattle.rmm_spec.specs.Lookup.{is_granule}
 use Rattle.lemmas.proofs.Tests.{both_ways, keys_apart}

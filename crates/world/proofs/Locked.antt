@@ -1,10 +1,9 @@
 -- Locks that are taken and freed: each still has for holder the CPU that has taken it.
-use Rattle.world.proofs.Common.{◌++◌, ◌+◌, ◌<◌, ◌==◌, ◌∙◌, ◌∷◌, ◌≡◌, Bool, Contains, IsTrue, List, None, Option, Some, [], ap, are_distinct, arith, eq-eqb, eqb-true, false, false≢true, get_or, if◌then◌else◌, length, put, refl, subst, sym, take, true, ℕ}
+use Rattle.world.proofs.Common.{◌++◌, ◌+◌, ◌<◌, ◌==◌, ◌∙◌, ◌∷◌, ◌≡◌, Bool, Contains, IsTrue, List, None, Option, Some, [], ap, are_distinct, eq-eqb, eqb-true, false, false≢true, get_or, if◌then◌else◌, length, put, refl, subst, sym, take, true, ℕ}
 use Rattle.std.proofs.Common.{not, ◌&&◌, ◌||◌}
 use Rattle.std.specs.List.{All, AllByRecursion, list_all}
 use Rattle.std.proofs.lemmas.List.Elements.{All-from_recursion, All-contains}
 use Rattle.std.proofs.lemmas.Bool.{and_parts, and_from, not-true}
-use Rattle.std.proofs.lemmas.Bool.Decides.{nat_tests}
 use Rattle.std.proofs.lemmas.List.{take_more}
 use Rattle.std.proofs.lemmas.List.Folds.{list_any-append, list_any_at}
 use Rattle.rmm_spec.specs.Lookup.{is_granule, is_cpu}

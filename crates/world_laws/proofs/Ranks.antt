@@ -19,7 +19,7 @@ use Rattle.rmm_spec.specs.Table.{TableRecord}
 use Rattle.rmm_spec.specs.Rows.{Needed}
 use Rattle.rmm_spec.specs.Step.Terms.{named}
 use Rattle.rmm_spec.specs.Call.{call_of}
-use Rattle.rmm_spec.specs.Cell.{Cell, Undelegated, Rd, Rec, RecAux, Data, Rtt, tag_of, table_in, is_data, is_aux, realms_of, recs_of, tables_of}
+use Rattle.rmm_spec.specs.Cell.{Cell, Undelegated, Rd, Rec, RecAux, Data, Rtt, tag_of, is_data, is_aux, realms_of, recs_of, tables_of}
 use Rattle.rmm_spec.specs.Sound.{has_aux}
 use Rattle.rmm_spec.specs.Shape.{Side, CpuPlace, Outside, Inside, IsWellShaped}
 use Rattle.rmm_spec.specs.Local.{HeldCell}

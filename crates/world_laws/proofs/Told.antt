@@ -1,5 +1,5 @@
 -- What a reply tells of a state fits into words of 64 bits: what every run keeps of the numbers that a state has.
-use Rattle.std.proofs.Common.{ℕ, zero, suc, ◌/◌, ◌<◌, ◌^◌, Bool, true, false, nat_lt, ◌==◌, if◌then◌else◌, List, [], ◌∷◌, ◌++◌, drop, replicate, Option, Some, None, unwrap_or, option_map, slice_index, slice_index_or, slice_set, arith, w32, w64}
+use Rattle.std.proofs.Common.{ℕ, zero, suc, ◌/◌, ◌<◌, ◌^◌, Bool, true, false, nat_lt, ◌==◌, if◌then◌else◌, List, [], ◌∷◌, drop, replicate, Option, Some, None, unwrap_or, option_map, slice_index, slice_index_or, slice_set, arith, w32, w64}
 use Rattle.std.specs.Prelude.{⊤}
 use Rattle.std.specs.Int.{to_be_bytes, from_le_bytes}
 use Rattle.std.specs.List.{AllByRecursion}

@@ -5,7 +5,7 @@ use Rattle.std.proofs.Math.Numerals.{suc-eq-add-one}
 use Rattle.std.proofs.lemmas.Bool.{eqb-true, eqb-false}
 use Rattle.std.proofs.lemmas.List.{map-append}
 use Rattle.rmm_spec.specs.HistoryText.{Config}
-use Rattle.rmm_spec.specs.World.{World, Move, Moves}
+use Rattle.rmm_spec.specs.World.{World}
 use Rattle.rmm_spec.specs.World as move
 use Rattle.rmm_spec.specs.declared.turn.Due.{Due}
 use Rattle.rmm_spec.specs.declared.turn.Will.{Will}
