@@ -1,5 +1,5 @@
 -- The lines of a call that can come next: its recorded reply, or what the specification answers.
-use Rattle.finding.proofs.Common.{◌++◌, ◌+◌, ◌<◌, ◌∷◌, ◌≡◌, ◌≤◌, Choice, HasOnePlaces-from_history, History, IsFinished, IsHistory, LeadsNowhere, Line, List, None, Option, Reply, Some, State, Unfinished, [], ap, arith, cases_lt, inl, inr, rank_of, refl, subst, sym, ℕ}
+use Rattle.finding.proofs.Common.{◌++◌, ◌+◌, ◌<◌, ◌∷◌, ◌≡◌, ◌≤◌, Choice, HasOnePlaces-from_history, History, IsFinished, IsHistory, LeadsNowhere, Line, List, None, Option, Reply, Some, State, Unfinished, [], arith, cases_lt, inl, inr, rank_of, refl, subst, sym, ℕ}
 use Rattle.std.proofs.Common.{Result, Ok}
 use Rattle.std.specs.Option.{MatchOption}
 use Rattle.std.proofs.lemmas.Option.{none-some, same_Some}
@@ -26,6 +26,7 @@ use Rattle.finding.specs.Attempt.{EndsLeadNowhere, MayTry, IsAnswered, IsAttempt
 use Rattle.finding.specs.declared.attempt.Attempt.{Attempt}
 use Rattle.finding.specs.Ends.{IsBelow, IsEnd}
 use Rattle.finding.specs.Tried.{CallLeadsNowhere}
+use Rattle.spec_lemmas.proofs.Replies.{word_of}
 
 -- the places of a call that hasn't returned
 pub pending_at : (history : History) (choice : Choice) → ArePlacesOf history.events choice.cpu choice.number choice.places
@@ -120,12 +121,6 @@ words_in (reply.Ok words) = words.items
 words_in (reply.Err status index) = []
 words_in reply.Misplaced = []
 
-same_word : (top end : ℕ) → ok (top ∷ []) ≡ ok (end ∷ []) → top ≡ end
-unfolding words_in
-same_word top end same =
-    let both : top ∷ [] ≡ end ∷ [] = ap words_in same in
-    cc
-
 module _ (history : History) (lines : List Line) (state : State) (choice : Choice) (above : Option ℕ) (may : MayTry history lines state choice above)
     (command : Command) (stretch : Stretch) (answered : IsAnswered history choice state command (Ok (Reaches stretch))) where
   -- an end that isn't below the bound leads nowhere, and each other is below it
@@ -153,7 +148,7 @@ module _ (history : History) (lines : List Line) (state : State) (choice : Choic
   ended top greatest nowhere end bound is within =
       let same = same_Some top bound is in
       nowhere_claim history lines state choice above may command (Ok (Reaches stretch)) answered (ok (end ∷ [])) (λ new carried.
-      let at = same_word end carried.0 carried.1.1 in
+      let at = word_of end carried.0 carried.1.1 in
       end_nowhere above may.ended end (λ below.
       let is_end : IsEnd stretch end = subst (IsEnd stretch) (sym at) (IsEnd-reached state stretch carried.0 carried.1.0) in
       let no_greater = greatest end is_end below in

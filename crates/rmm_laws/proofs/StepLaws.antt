@@ -1,6 +1,5 @@
 -- Steps, by what a command leads to: a refusal, one change, or a change for each end that a reply may give.
 use Rattle.rmm_laws.proofs.Common.{◌∙◌, ◌∷◌, ◌≡◌, Accepted, Err, List, Ok, Refusal, Reply, Result, State, Step, [], ap, both_ways, changed, false, is_accepted, ok, outcome, reached_change, refl, sym, ℕ}
-use Rattle.std.proofs.Common.{slice_index}
 use Rattle.rmm_spec.specs.declared.accepted.Accepted.TheVariants.{Done, Reaches}
 use Rattle.rmm_spec.specs.declared.command.Command.{Command}
 use Rattle.rmm_spec.specs.declared.function_id.FunctionId.{FunctionId}
@@ -11,16 +10,7 @@ use Rattle.rmm_spec.specs.Rows.{reply_of}
 use Rattle.rmm_spec.specs.Step.{CarriesOut}
 use Rattle.rmm_laws.proofs.CommandFacts.{OutcomeTells, outcome-tells}
 use Rattle.rmm_laws.proofs.Footprints.{same-keeps, changed-keeps}
-
--- the first word of a reply
-first_word : Reply → ℕ
-first_word (reply.Ok words) = slice_index words.items 0
-first_word _ = 0
-
--- the word of a reply of one word
-pub word_of : (a b : ℕ) → ok (a ∷ []) ≡ ok (b ∷ []) → a ≡ b
-unfolding first_word
-word_of a b same = ap first_word same
+use Rattle.spec_lemmas.proofs.Replies.{word_of}
 
 -- a reply decides the next state
 carried-decides : (found : Result Accepted Refusal) (old : State) (given : Reply) (a b : State)

@@ -18,3 +18,4 @@ pub mod TableSearches
 pub mod FlatTables
 pub mod WalkPaths
 pub mod Lookups
+pub mod Replies

@@ -10,8 +10,9 @@ use Rattle.rmm_spec.specs.HistoryText.{Config}
 use Rattle.rmm_spec.specs.State.{opening}
 use Rattle.rmm_spec.specs.Cell.{Undelegated}
 use Rattle.rmm_spec.specs.Flat.{flat_state, table_granule, leaf_in_tables, found_below}
-use Rattle.rmm_spec.specs.Shape.{Outside, Inside, RunsOn, count_below}
+use Rattle.rmm_spec.specs.Shape.{RunsOn, count_below}
 use Rattle.rmm_spec.specs.World.{opening_world, IsShapedWorld}
+use Rattle.spec_lemmas.proofs.Placed.{outside≢inside}
 
 -- nothing is found where nothing passes
 found_below-none : (n : ℕ) → found_below n (λ k. false) ≡ None
@@ -43,10 +44,6 @@ flat_state-opening config = λ i. record (opening config) {
 -- no REC runs where there is none
 none_runs : (cpu rec rd : ℕ) → RunsOn (λ _. None) cpu rec rd → ⊥
 none_runs cpu rec rd runs = none-some runs.it runs.is_rec
-
--- a CPU that is outside is not inside
-outside-inside : (rec rd : ℕ) → Outside ≡ Inside rec rd → ⊥
-outside-inside rec rd same = cc
 
 pub IsShapedWorld-opening : (config : Config) (programs : ℕ → List Command) → IsShapedWorld (opening_world config programs)
 unfolding opening_world
@@ -80,7 +77,7 @@ IsShapedWorld-opening config programs = record {
     requests = λ g c realm q is of_realm asked. absurd (none-some c is);
     running = λ g c p is pending. absurd (none-some c is);
     asked = λ g c is pending. absurd (none-some c is);
-    inside = λ cpu rec rd. (λ is. absurd (outside-inside rec rd is), λ runs. absurd (none_runs cpu rec rd runs));
+    inside = λ cpu rec rd. (λ is. absurd (outside≢inside rec rd is), λ runs. absurd (none_runs cpu rec rd runs));
   };
   outside = record { undelegated = λ address is. refl };
 }

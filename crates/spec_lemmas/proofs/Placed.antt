@@ -46,7 +46,7 @@ running cpu (Some it) runs = (it, refl, by it.cpu runs)
 pub runs_on-running : (cpu : ℕ) (o : Option RecRecord) (it : RecRecord) → o ≡ Some it → it.cpu ≡ Some cpu → runs_on cpu o ≡ true
 runs_on-running cpu o it is on = ap (runs_on cpu) is ∙ (ap (is_cpu cpu) on ∙ eq-eqb cpu cpu refl)
 
-outside≢inside : (rec rd : ℕ) → Outside ≡ Inside rec rd → ⊥
+pub outside≢inside : (rec rd : ℕ) → Outside ≡ Inside rec rd → ⊥
 outside≢inside rec rd same = cc
 
 -- a CPU that is outside is inside of no REC

@@ -4,8 +4,8 @@ use Rattle.std.specs.Prelude.{Result}
 use Rattle.rmm_spec.specs.declared.accepted.Accepted.{Accepted}
 use Rattle.rmm_spec.specs.declared.refusal.Refusal.{Refusal}
 use Rattle.rmm_spec.specs.declared.reply.Reply.{Reply}
-use Rattle.rmm_laws.proofs.StepLaws.{word_of}
 use Rattle.spec_machine.specs.Offers.{TakesReply}
+use Rattle.spec_lemmas.proofs.Replies.{word_of}
 
 -- no reply reaches it
 pub no_reach : (s : State) (stretch : Stretch) (top : ℕ) (given : Reply) → given ≡ ok (top ∷ []) → is_reached s stretch top ≡ false
