@@ -7,7 +7,7 @@ use Rattle.spec_lemmas.proofs.Calls.{HasOnePlaces-from_history}
 use Rattle.lemmas.proofs.Elements.{slice_get-front, slice_get-take, take-next_at}
 use Rattle.checker.proofs.Faults.{IsRefused-from_step}
 use Rattle.checker.proofs.Progress.{Passes-push}
-use Rattle.rmm_laws.proofs.EntryRuns.{not-IsRefused, same_state}
+use Rattle.rmm_laws.proofs.EntryRuns.{not-IsRefused, same_state as same_last}
 use Rattle.explain.specs.Told.{IsPassing}
 
 -- ---- one state
@@ -17,7 +17,7 @@ pub same_state : (history : History) → IsHistory history → (lines : List Lin
     → Passes history lines last → Passes history lines other
     → last ≡ other
 same_state history is_history lines last other passes also =
-    same_state history.events (HasOnePlaces-from_history history is_history) lines passes.entries also.entries (opening history.config) last other
+    same_last history.events (HasOnePlaces-from_history history is_history) lines passes.entries also.entries (opening history.config) last other
     passes.run.claimed passes.run.run also.run.claimed also.run.run
 
 -- ---- one line more

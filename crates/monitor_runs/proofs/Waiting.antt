@@ -81,7 +81,7 @@ waiting-last monitor scenario tokens passes given token pass program limits wait
         paired = pairs.0;
         fresh = fresh.1 ∙ ap before_commits (sym same_cpu);
         before = before ∙ ap (λ k. before_calls monitor.queue monitor.config.cpus k) (sym same_cpu);
-        commands_at = subst (AllByRecursion IsCommand) (sym same_program) (commands_at scenario.programs count limits.commands);
+        have_texts = subst (AllByRecursion IsCommand) (sym same_program) (commands_at scenario.programs count limits.commands);
         few = omega (arith, ap length same_program, fewer scenario.programs count, limits.few);
       };
       same_cpu = same_cpu;
