@@ -9,7 +9,7 @@ ghost use Rattle.verdict_laws.specs.Order.{LeadsNowhere};
 ghost use Rattle.verdict_laws.specs.Parts.{first_part};
 
 use crate::denying::{deny, deny_inside};
-use crate::either_way::is_denied_either_way;
+use crate::either_way::{is_denied_beside, is_denied_past_one};
 use crate::held::are_held;
 use crate::last_return::{LastReturn, last_return, return_at};
 use crate::standing::standing_before;
@@ -37,10 +37,27 @@ fn is_denied_return(history: &History, count: u32, last: &LastReturn<'_>) -> boo
     requires { IsReturn (events_to count history.now.recorded.events) last.now }
     ensures { IsTrue result → LeadsNowhere (first_part count history.now.recorded) [] }
 {
+    for set in 0..SETS {
+        let facts = supposed_set(history, count, last, set);
+        if is_denied_by(history, count, last, facts.as_slice()) {
+            return true;
+        }
+    }
+    let _fact = history.well_formed();
+    let _law = nowhere_either_way();
+    is_denied_beside(history, count, last)
+}
+
+/// Whether the facts deny the reply, and all hold, or do whichever of two calls comes first.
+fn is_denied_by(history: &History, count: u32, last: &LastReturn<'_>, facts: &[Fact]) -> bool
+    requires { IsReturn (events_to count history.now.recorded.events) last.now }
+    ensures { IsTrue result → LeadsNowhere (first_part count history.now.recorded) [] }
+{
     let _fact = history.well_formed();
     let _law = nowhere_denied();
     let _other_law = nowhere_either_way();
-    is_denied_where(history, count, last, None) || is_denied_either_way(history, count, last)
+    are_denying(history, count, last, facts, None)
+        || is_denied_past_one(history, count, last, facts)
 }
 
 /// Whether facts deny the reply, which hold where calls come in that turn.

@@ -13,50 +13,40 @@ use crate::last_return::{LastReturn, return_at};
 use crate::latest::function_at;
 use crate::left::{is_left_or_early, looked_from};
 use crate::supposing::maker_before;
-use crate::together::{SETS, supposed_set};
 use history::History;
 use rmi_view::ReplyRef;
 use rmm_spec::{Call, FunctionId};
 use verdict_laws::{Fact, InTurn};
 
-/// Whether the reply is denied where the one of two calls comes first, and that of one of these where the other does.
-pub(crate) fn is_denied_either_way(history: &History, count: u32, last: &LastReturn<'_>) -> bool
+/// Whether the facts deny the reply where a call that may have ended one comes before the one that made it, and a reply is denied where it doesn't.
+pub(crate) fn is_denied_past_one(
+    history: &History,
+    count: u32,
+    last: &LastReturn<'_>,
+    facts: &[Fact],
+) -> bool
     requires { IsReturn (events_to count history.now.recorded.events) last.now }
     ensures { IsTrue result
         → laws.IsDeniedEitherWay history.now.recorded.config.granules (events_to count history.now.recorded.events) }
 {
-    is_denied_past_one(history, count, last) || is_denied_beside(history, count, last)
-}
-
-/// Whether it is so of a call that may have ended a fact and the one that made it.
-fn is_denied_past_one(history: &History, count: u32, last: &LastReturn<'_>) -> bool
-    requires { IsReturn (events_to count history.now.recorded.events) last.now }
-    ensures { IsTrue result
-        → laws.IsDeniedEitherWay history.now.recorded.config.granules (events_to count history.now.recorded.events) }
-{
-    for set in 0..SETS {
-        if let Some(turn) = turn_in_the_way(history, count, last, set) {
-            if are_denied(history, count, last, turn) {
-                return true;
-            }
-        }
+    match turn_in_the_way(history, count, last, facts) {
+        Some(turn) => are_denied(history, count, last, facts, turn),
+        None => false,
     }
-    false
 }
 
-/// Of the first fact in a set that isn't held, though all together would deny the reply, the call that may have ended it before the one that made it.
-/// What is found isn't promised: it is checked.
+/// Of the first fact that isn't held, though all together would deny the reply, the call that may have ended it before the one that made it. What is
+/// found isn't promised: it is checked.
 fn turn_in_the_way(
     history: &History,
     count: u32,
     last: &LastReturn<'_>,
-    set: u32,
+    facts: &[Fact],
 ) -> Option<InTurn> {
-    let facts = supposed_set(history, count, last, set);
-    if !deny_last(history, count, last, facts.as_slice()) {
+    if !deny_last(history, count, last, facts) {
         return None;
     }
-    for fact in facts.as_slice() {
+    for fact in facts {
         if !is_held(history, count, last.called, *fact, None) {
             return turn_of(history, count, last.called, *fact);
         }
@@ -81,8 +71,14 @@ fn turn_of(history: &History, count: u32, place: u32, fact: Fact) -> Option<InTu
     None
 }
 
-/// Whether the reply is denied where the calls come so, and that of the other one where they don't.
-fn are_denied(history: &History, count: u32, last: &LastReturn<'_>, turn: InTurn) -> bool
+/// Whether the facts deny the reply where the calls come so, and that of the other one is denied where they don't.
+fn are_denied(
+    history: &History,
+    count: u32,
+    last: &LastReturn<'_>,
+    facts: &[Fact],
+    turn: InTurn,
+) -> bool
     requires { IsReturn (events_to count history.now.recorded.events) last.now }
     ensures { IsTrue result
         → laws.IsDeniedEitherWay history.now.recorded.config.granules (events_to count history.now.recorded.events) }
@@ -96,7 +92,7 @@ fn are_denied(history: &History, count: u32, last: &LastReturn<'_>, turn: InTurn
     let Some(other) = return_at(history, count, turn.second) else {
         return false;
     };
-    is_denied_where(history, count, last, Some(turn))
+    are_denying(history, count, last, facts, Some(turn))
         && is_denied_otherwise(history, count, &other, call.cpu, turn)
 }
 
@@ -134,8 +130,8 @@ fn runs_on(call: &Call, cpu: u8) -> Option<Fact> {
     }
 }
 
-/// Whether it is so of the return and one of a call of the same REC that isn't over when its call is made.
-fn is_denied_beside(history: &History, count: u32, last: &LastReturn<'_>) -> bool
+/// Whether replies are denied whichever comes first, the return's call or one of the same REC that isn't over when that is made.
+pub(crate) fn is_denied_beside(history: &History, count: u32, last: &LastReturn<'_>) -> bool
     requires { IsReturn (events_to count history.now.recorded.events) last.now }
     ensures { IsTrue result
         → laws.IsDeniedEitherWay history.now.recorded.config.granules (events_to count history.now.recorded.events) }

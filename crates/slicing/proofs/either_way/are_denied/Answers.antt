@@ -6,8 +6,8 @@ use Rattle.slicing.specs.Calls.{events_to}
 use Rattle.slicing.proofs.CallLaws.{made_at}
 use Rattle.slicing.proofs.either_way.are_denied.Goals as goal
 
-pub returns-then-is_denied_where : goal.returns-then-is_denied_where
-returns-then-is_denied_where c otherwise =
+pub returns-then-are_denying : goal.returns-then-are_denying
+returns-then-are_denying c otherwise =
     let events = events_to c.args.count c.args.history.now.recorded.events in
     let call = c.in-Some.call in
     let other = c.in-Some-return_at.other in
@@ -22,6 +22,6 @@ returns-then-is_denied_where c otherwise =
       );
       is_finished = (is.returned, reply_seen other.reply, is.is_returned);
       apart = λ same. c.if-turn.false same;
-      so = c.if-is_denied_where.ensures refl;
+      so = c.if-are_denying.ensures refl;
       otherwise = c.is_denied_otherwise.ensures otherwise;
     }
