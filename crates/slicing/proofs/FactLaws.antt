@@ -20,8 +20,8 @@ use Rattle.slicing.specs.declared.call_at.Answer.{Answer}
 use Rattle.slicing.specs.declared.call_at.CallAt.{CallAt}
 use Rattle.slicing.specs.Calls.{ChangesNothing, HasAnswer, IsCallAt}
 use Rattle.slicing.specs.declared.done.Done.{Done}
-use Rattle.slicing.specs.Facts.{ComesApart, ComesNoLater, IsLeftOrBeside, IsLeftOrEarly, IsMadeBy, IsPassedBy, LeavesAt, LeavesElsewhere, MakesWith}
-use Rattle.slicing.specs.Unused.{IsDone, IsNoLater}
+use Rattle.slicing.specs.Facts.{IsLeftOrBeside, IsLeftOrEarly, IsMadeBy, IsPassedBy, LeavesAt, LeavesElsewhere, MakesWith}
+use Rattle.slicing.specs.Unused.{IsDone}
 use Rattle.slicing.proofs.CallLaws.{made_at}
 
 -- what a reply has to be, whatever it was, is what the call was answered
@@ -123,20 +123,6 @@ pub IsFirst-done : (events : List Event) (turn : Option InTurn) (end called plac
 IsFirst-done events turn end called place done is_done (inl before) = inl (subst (λ r. r < place) (sym is_done.2) before)
 IsFirst-done events turn end called place done is_done (inr supposed) =
     inr (subst (λ c. laws.IsInTurn turn c place) (sym is_done.1) supposed)
-
--- what is supposed to come before or after doesn't end it
-pub IsLeftOrEarly-apart : (turn : Option InTurn) (fact : Fact) (events : List Event) (place : ℕ) (maker : Option ℕ) (at : ℕ)
-    → ComesApart turn maker place at → IsLeftOrEarly turn fact events place maker at
-IsLeftOrEarly-apart turn fact events place None at after cpu number command is_called = inr (inr (inr (inr (inl after))))
-IsLeftOrEarly-apart turn fact events place (Some maker) at (inl after) cpu number command is_called = inr (inr (inr (inr (inl after))))
-IsLeftOrEarly-apart turn fact events place (Some maker) at (inr before) cpu number command is_called = inl (inr (inr before))
-
--- nor does what is no later than the call that makes it
-pub ComesNoLater-call : (turn : Option InTurn) (events : List Event) (maker : Option ℕ) (at cpu number : ℕ)
-    → IsNoLater events maker at cpu number → ComesNoLater turn events maker at cpu number
-ComesNoLater-call turn events None at cpu number no_later = no_later
-ComesNoLater-call turn events (Some maker) at cpu number (inl own) = inl own
-ComesNoLater-call turn events (Some maker) at cpu number (inr back) = inr (inl back)
 
 -- what makes a fact by itself or beside another does so by the law
 pub IsMadeWith-done : (turn : Option InTurn) (events : List Event) (place called : ℕ) (done : Done) (fact : Fact)
